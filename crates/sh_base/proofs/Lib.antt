@@ -1,1 +1,4 @@
-
+pub mod LayoutLemmas
+pub mod PlacesLemmas
+pub mod FaultLemmas
+pub mod PlanLemmas

@@ -57,13 +57,7 @@ pub record IsSetting (p : ConfigParts) : Type 0 where
   pub ranged : IsRanged p
   pub size : pool_words p ≤ 4194304
 
--- what a setting numbers: a server, a lock, a node, a seat, a chunk of a server, an entry of a leaf
-abbrev pub IsServer : ConfigParts → ℕ → Type 0
-IsServer p server = server + 1 ≤ p.servers
-
-abbrev pub IsLock : ConfigParts → ℕ → Type 0
-IsLock p lock = lock + 1 ≤ all_locks p
-
+-- a node of the setting
 pub record IsNode (p : ConfigParts) (n : ℕ) : Type 0 where
   pub first : 1 ≤ n
   pub last : n ≤ nodes p

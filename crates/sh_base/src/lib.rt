@@ -3,9 +3,11 @@
 
 mod config;
 mod event;
+mod layout;
 mod plan;
 mod setting;
 mod value;
+mod verb;
 
 pub use config::{Config, ConfigFault, ConfigParts};
 pub use event::Event;

@@ -1,5 +1,5 @@
 // The verbs on one node, word by word.
-ghost use Rattle.std.specs.Prelude.{◌≡◌, ◌+◌, ◌<◌, ◌≤◌};
+ghost use Rattle.std.specs.Prelude.{◌+◌, ◌≤◌};
 
 /// The loads of a READ of one node: one word a step, from the node's last word down to its first.
 #[derive(Clone, Copy, Debug)]

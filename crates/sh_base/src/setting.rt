@@ -1,17 +1,58 @@
 // The numbers of a setting: which are lawful, and what follows from them.
-ghost use Rattle.std.specs.Prelude.{◌≡◌, ◌<◌, ◌≤◌, ◌↔◌, IsTrue, MatchResult, None, Some};
+ghost use Rattle.std.specs.Prelude.{◌≡◌, ◌<◌, ◌≤◌, MatchResult, None, Some};
 ghost use Rattle.sh_base.specs.Parts.{parts_of};
-ghost use Rattle.sh_base.specs.Setting.{nodes, all_locks, all_seats, entry_size, node_size, pool_words, last_version, last_entry_version, IsRanged, IsNode};
-ghost use Rattle.sh_base.specs.Layout.{counter_word, lock_word, node_word, server_of, lock_of, first_node, compute_of, entry_at, rear_at};
-ghost use Rattle.sh_base.specs.Faults.{fault_of};
+ghost use Rattle.sh_base.specs.Setting.{nodes, all_locks, all_seats, entry_size, node_size, pool_words, last_version, last_entry_version, IsRanged};
+ghost use Rattle.sh_base.specs.Faults.{outside, first_outside, fault_of};
 
 use crate::{Config, ConfigFault, ConfigParts};
 
-// Whether a number is in a range.
-fn is_in(n: u32, low: u32, high: u32) -> bool
-    ensures { IsTrue result ↔ ((low ≤ n) × (n ≤ high)) }
+// The fault where a number is outside its range, else the one that was found behind it.
+#[tactic(auto, unfolding(crate::specs::Faults::outside))]
+fn outside(
+    n: u32,
+    low: u32,
+    high: u32,
+    fault: ConfigFault,
+    next: Option<ConfigFault>,
+) -> Option<ConfigFault>
+    ensures { result ≡ outside n low high fault next }
 {
-    low <= n && n <= high
+    if low <= n && n <= high {
+        next
+    } else {
+        Some(fault)
+    }
+}
+
+// The first number that is out of its range. The last is tested first, so that the first fault stands.
+#[tactic(auto, unfolding(crate::specs::Faults::first_outside))]
+fn first_outside(p: &ConfigParts) -> Option<ConfigFault>
+    ensures { result ≡ first_outside p.now None }
+{
+    let fault = outside(
+        p.value_words,
+        1,
+        8,
+        ConfigFault::ValueWords(p.value_words),
+        None,
+    );
+    let fault = outside(p.cached, 0, 256, ConfigFault::Cached(p.cached), fault);
+    let fault = outside(p.rows, 1, 4096, ConfigFault::Rows(p.rows), fault);
+    let fault = outside(p.bits, 4, 48, ConfigFault::Bits(p.bits), fault);
+    let fault = outside(p.bound, 0, 64, ConfigFault::Bound(p.bound), fault);
+    let fault = outside(p.seats, 1, 8, ConfigFault::Seats(p.seats), fault);
+    let fault = outside(p.computes, 1, 8, ConfigFault::Computes(p.computes), fault);
+    let fault = outside(p.leaf, 4, 64, ConfigFault::Leaf(p.leaf), fault);
+    let fault = outside(p.locks, 1, 1024, ConfigFault::Locks(p.locks), fault);
+    let fault = outside(
+        p.chunk_nodes,
+        1,
+        256,
+        ConfigFault::ChunkNodes(p.chunk_nodes),
+        fault,
+    );
+    let fault = outside(p.chunks, 1, 4096, ConfigFault::Chunks(p.chunks), fault);
+    outside(p.servers, 1, 8, ConfigFault::Servers(p.servers), fault)
 }
 
 // The words of the pool, of numbers in their ranges.
@@ -32,6 +73,13 @@ impl Config {
     pub fn new(parts: ConfigParts) -> Result<Config, ConfigFault>
         ensures { MatchResult result (λ c. (parts_of c ≡ parts) × (fault_of parts ≡ None)) (λ f. fault_of parts ≡ Some f) }
     {
+        if let Some(fault) = first_outside(&parts) {
+            return Err(fault);
+        }
+        let words = pool_words(&parts);
+        if words > 4_194_304 {
+            return Err(ConfigFault::TooLarge(words));
+        }
         Ok(Config { parts })
     }
 
@@ -106,30 +154,5 @@ impl Config {
         ensures { result ≡ all_locks (parts_of self.now) }
     {
         self.parts.servers * self.parts.locks
-    }
-
-    /// The first word of a node.
-    pub fn node_word(&self, node: u32) -> u32
-        requires { IsNode (parts_of self.now) node }
-        ensures { result ≡ node_word (parts_of self.now) node }
-    {
-        2 + self.parts.servers + self.all_locks() + (node - 1) * self.node_size()
-    }
-
-    /// The offset of an entry in its leaf.
-    #[tactic(auto, unfolding(crate::specs::Layout::entry_at))]
-    pub fn entry_at(&self, index: u32) -> u32
-        requires { index < self.now.parts.leaf }
-        ensures { result ≡ entry_at (parts_of self.now) index }
-    {
-        6 + self.entry_size() * index
-    }
-
-    /// The offset of a node's rear version.
-    #[tactic(auto, unfolding(crate::specs::Layout::rear_at))]
-    pub fn rear_at(&self) -> u32
-        ensures { result ≡ rear_at (parts_of self.now) }
-    {
-        6 + self.entry_size() * self.parts.leaf
     }
 }

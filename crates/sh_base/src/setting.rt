@@ -123,9 +123,16 @@ impl Config {
 
     /// The entries of a leaf.
     pub fn leaf(&self) -> u32
-        ensures { result ≡ self.now.parts.leaf }
+        ensures { result ≡ (parts_of self.now).leaf }
     {
         self.parts.leaf
+    }
+
+    /// The words of a value.
+    pub fn value_words(&self) -> u32
+        ensures { result ≡ (parts_of self.now).value_words }
+    {
+        self.parts.value_words
     }
 
     /// The last version of a node.

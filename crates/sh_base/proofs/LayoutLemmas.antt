@@ -1,11 +1,11 @@
 -- Linear facts about the layout: proofs above cite these and never multiply.
-use Rattle.std.proofs.Common.{◌≡◌, ℕ, zero, suc, ◌+◌, ◌-◌, ◌*◌, ◌<◌, ◌≤◌, ◌≢◌, List, [], ◌∷◌, length, get_or, set, take, drop, refl, ap, ◌∙◌, inl, inr, ◌⊎◌, arith}
+use Rattle.std.proofs.Common.{◌≡◌, ℕ, zero, suc, ◌+◌, ◌-◌, ◌*◌, ◌<◌, ◌≤◌, ◌≢◌, List, [], ◌∷◌, length, get_or, set, take, drop, refl, ap, ◌∙◌, inl, inr, ◌⊎◌, rules, arith}
 use Rattle.std.proofs.Math.Nat.{mul-le-mul_left, mul-le-mul_right}
 use Rattle.std.proofs.lemmas.Nat.{mul-le}
 use Rattle.std.proofs.lemmas.Bool.{cases_lt}
 use Rattle.std.proofs.lemmas.List.{take-set-le, drop-set-lt, drop-set-add, length-drop, length-take-le, get_or-take, get_or-drop}
 use Rattle.sh_base.specs.declared.config.ConfigParts.{ConfigParts}
-use Rattle.sh_base.specs.Setting.{nodes, entry_size, node_size, first_node_word, pool_words, IsNode, IsRanged, IsSetting}
+use Rattle.sh_base.specs.Setting.{nodes, entry_size, node_size, first_node_word, pool_words, IsNode, IsRanged, IsSetting, default_parts}
 use Rattle.sh_base.specs.Layout.{node_word, entry_at, rear_at, node_part}
 
 -- a store among the first n words
@@ -158,3 +158,8 @@ words_small p r =
     let all : nodes p ≤ 8388608 = mul-le (p.servers * p.chunks) p.chunk_nodes 32768 256 chunks r.chunk_nodes.1 in
     let entries : (3 + p.value_words) * p.leaf ≤ 704 = mul-le (3 + p.value_words) p.leaf 11 64 (omega (arith, r.value_words.1)) r.leaf.1 in
     (entries, mul-le (nodes p) (7 + (3 + p.value_words) * p.leaf) 8388608 711 all (omega (arith, entries)), mul-le p.servers p.locks 8 1024 r.servers.1 r.locks.1)
+
+-- the defaults are lawful
+pub default_is_setting : IsSetting default_parts
+unfolding pool_words node_size entry_size
+default_is_setting = search rules

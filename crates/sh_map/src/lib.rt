@@ -4,7 +4,9 @@
 mod book;
 mod call;
 mod log;
+mod plain_map;
 
 pub use book::{Book, Done, Dones, Row, Rows};
 pub use call::{Call, Reply};
 pub use log::{Change, Entry, Log};
+pub use plain_map::PlainMap;

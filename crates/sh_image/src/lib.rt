@@ -2,5 +2,7 @@
 #![tactic(auto)]
 
 mod leaf;
+mod read;
 
+pub use read::{Seen, read_image};
 pub use leaf::{LeafEntry, LeafImage};

@@ -1,1 +1,5 @@
-pub mod ColumnLemmas
+mod ColumnLemmas
+pub mod EntriesLemmas
+pub mod LeafLemmas
+mod ReadLemmas
+mod EmptyLemmas

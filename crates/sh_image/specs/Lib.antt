@@ -1,3 +1,4 @@
 pub mod Entries
 pub mod Leaf
 pub mod Columns
+pub mod Seen

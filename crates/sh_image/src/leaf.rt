@@ -1,5 +1,6 @@
 // A leaf as columns of its entries.
 ghost use Rattle.std.specs.Prelude.{◌≡◌, ◌<◌, ◌≤◌, length, replicate, slice_get, slice_set, Some};
+ghost use Rattle.sh_image.specs.Columns.{entries_of};
 ghost use Rattle.sh_image.specs.Entries.{keys_of};
 
 use sh_base::Value;
@@ -57,6 +58,23 @@ impl LeafImage {
             versions: [0; 64],
             keys: [0; 64],
             values: [zero; 64],
+        }
+    }
+
+    // A leaf of the first entries of these columns. Condition: there are 64 at most.
+    pub(crate) fn of_columns(version: u64, low: u64, high: u64, next: u32, count: u32, versions: [u64; 64], keys: [u64; 64], values: [Value; 64]) -> LeafImage
+        requires { count ≤ 64 }
+        ensures { result ≡ record { version = version; low = low; high = high; next = next; entries = entries_of count versions keys values } }
+    {
+        LeafImage {
+            version,
+            low,
+            high,
+            next,
+            count,
+            versions,
+            keys,
+            values,
         }
     }
 

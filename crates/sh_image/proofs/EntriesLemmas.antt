@@ -1,6 +1,7 @@
 -- Entries are read back from their words, and words from the entries that they spell.
-use Rattle.std.proofs.Common.{◌≡◌, ℕ, zero, suc, ◌+◌, ◌*◌, ◌<◌, ◌≤◌, List, [], ◌∷◌, ◌++◌, length, get_or, take, drop, refl, sym, ap, ◌∙◌, append_assoc, length-append, arith}
-use Rattle.std.specs.Prelude.{slice_index}
+use Rattle.std.proofs.Common.{◌≡◌, ℕ, zero, suc, ◌+◌, ◌*◌, ◌<◌, ◌≤◌, List, [], ◌∷◌, ◌++◌, length, get_or, take, drop, refl, sym, ap, subst, ◌∙◌, append_assoc, length-append, arith}
+use Rattle.std.specs.Prelude.{Some, slice_get, slice_index}
+use Rattle.std.proofs.lemmas.Option.{same_Some}
 use Rattle.std.proofs.Math.Seq.{drop-cons}
 use Rattle.std.specs.List.{flat_map, AllByRecursion}
 use Rattle.std.proofs.lemmas.List.{take_at, drop_at, drop-drop, get_or-drop, length-drop, length-take-le, take-append-drop}
@@ -92,3 +93,9 @@ module _ (count : ℕ) where
   values_in (suc k) ws long =
       let step : (3 + count) * suc k ≡ 3 + count + (3 + count) * k = omega arith in
       (length-take-le count (drop 2 ws) (simp length-drop (omega arith)), values_in k (drop (3 + count) ws) (simp length-drop (omega arith)))
+
+  -- the value of an entry by its index
+  pub value_at : (es : List LeafEntry) (i : ℕ) (e : LeafEntry) → AllByRecursion (λ x. length x.value ≡ count) es → slice_get es i ≡ Some e → length e.value ≡ count
+  value_at [] i e h is = absurd (cc)
+  value_at (x ∷ es) zero e h is = subst (λ (y : LeafEntry). length y.value ≡ count) (same_Some x e is) h.0
+  value_at (x ∷ es) (suc i) e h is = value_at es i e h.1 is

@@ -3,3 +3,4 @@ pub mod EntriesLemmas
 pub mod LeafLemmas
 mod ReadLemmas
 mod EmptyLemmas
+mod WriteLemmas

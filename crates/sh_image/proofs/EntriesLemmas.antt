@@ -15,7 +15,7 @@ module _ (count : ℕ) where
   none : (3 + count) * 0 ≡ 0
   none = omega arith
 
-  length-entry_words : (e : LeafEntry) → length e.value ≡ count → length (entry_words e) ≡ 3 + count
+  pub length-entry_words : (e : LeafEntry) → length e.value ≡ count → length (entry_words e) ≡ 3 + count
   length-entry_words e h = omega (arith, h, length-append e.value (e.version ∷ []))
 
   -- an entry is read from its words, whatever follows

@@ -4,3 +4,4 @@ pub mod LeafLemmas
 mod ReadLemmas
 mod EmptyLemmas
 mod WriteLemmas
+pub mod UntornLemmas

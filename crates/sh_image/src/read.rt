@@ -30,7 +30,12 @@ fn entry_column(cfg: &Config, words: &[u64], offset: u32) -> [u64; 64]
     ensures { IsEntryColumn (parts_of cfg.now) words.now offset result }
 {
     let mut out = [0; 64];
-    column(words, 6 + offset as usize, cfg.entry_size() as usize, &mut out[..cfg.leaf() as usize]);
+    column(
+        words,
+        6 + offset as usize,
+        cfg.entry_size() as usize,
+        &mut out[..cfg.leaf() as usize],
+    );
     out
 }
 
@@ -58,7 +63,16 @@ fn decoded(cfg: &Config, words: &[u64], next: u32, fronts: [u64; 64]) -> LeafIma
 {
     let keys = entry_column(cfg, words, 1);
     let values = entry_values(cfg, words);
-    LeafImage::of_columns(words[0], words[2], words[3], next, cfg.leaf(), fronts, keys, values)
+    LeafImage::of_columns(
+        words[0],
+        words[2],
+        words[3],
+        next,
+        cfg.leaf(),
+        fronts,
+        keys,
+        values,
+    )
 }
 
 // Whether the entries may all stand there.
@@ -80,7 +94,10 @@ fn is_leaf(cfg: &Config, image: &LeafImage) -> bool
     requires values { HaveWords (parts_of cfg.now) image.now.entries }
     ensures { IsTrue result ↔ IsLeaf (parts_of cfg.now) image.now }
 {
-    if image.version() > cfg.last_version() || image.low() >= image.high() || image.next() > cfg.nodes() {
+    if image.version() > cfg.last_version()
+        || image.low() >= image.high()
+        || image.next() > cfg.nodes()
+    {
         return false;
     }
     if (image.next() == 0) != (image.high() == u64::MAX) {

@@ -24,13 +24,15 @@ returns-in-Some c =
 pub returns-then-words-ne0-2 : goal.returns-then-words-ne0-2
 returns-then-words-ne0-2 c =
     let p = c.args.cfg.now.parts in
-    let whole : HasWholeEntries p c.args.words.now = whole_read p c.args.words.now _ _ _ c.entry_column-fronts.ensures c.entry_column-rears.ensures (omega (arith, c.entry_size.ensures, entry_size_is p)) _ c.leaf-count.ensures c.in_default.ensures in
-    (record { node = sym c.if-rear-front.false ∙ ap (λ n. get_or c.args.words.now n 0) c.rear_at.ensures; entries = λ leaf. whole }, λ a s.
-        let head = header_spelled p c.args.words.now a s in
-        elim c.then-words-ne0-2.branch [
-          | then-words-ne0-2-via-then-words-ne0-2 w ↦ w.if-words-ne0-2.true head.1
-          | then-words-ne0-2-via-else-words-ne0-2+then-words-from w ↦ absurd (omega (arith, w.if-words-from.true, w.from.ensures, w.nodes.ensures, head.2))
-        ])
+    let whole : HasWholeEntries p c.args.words.now = whole_read p c.args.words.now _ _ _ c.entry_column-fronts.ensures c.entry_column-rears.ensures (omega (arith, c.entry_size.ensures, entry_size_is p)) _ c.leaf-count.ensures c.in_default.ensures in (
+      record { node = sym c.if-rear-front.false ∙ ap (λ n. get_or c.args.words.now n 0) c.rear_at.ensures; entries = λ leaf. whole },
+      λ a s.
+          let head = header_spelled p c.args.words.now a s in
+          elim c.then-words-ne0-2.branch [
+            | then-words-ne0-2-via-then-words-ne0-2 w ↦ w.if-words-ne0-2.true head.1
+            | then-words-ne0-2-via-else-words-ne0-2+then-words-from w ↦ absurd (omega (arith, w.if-words-from.true, w.from.ensures, w.nodes.ensures, head.2))
+          ],
+    )
 
 pub is_leaf-requires-clause-count : goal.is_leaf-requires-clause-count
 is_leaf-requires-clause-count c = rw c.decoded-image.ensures (length-entries_in _ _ _)

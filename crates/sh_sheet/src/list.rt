@@ -41,7 +41,7 @@ fn is_failing(fails: &[u64], call: u64) -> bool
 }
 
 // Copies a front of `from` to the front of `to`: as much as fits, and at most `most` bytes.
-fn copy_piece(from: &[u8], to: &mut [u8], most: usize) -> usize
+pub(crate) fn copy_piece(from: &[u8], to: &mut [u8], most: usize) -> usize
     ensures count { result ≡ min (min (length to.old) most) (length from.now) }
     ensures room { length to.new ≡ length to.old }
     ensures within { result ≤ length from.now }

@@ -3,12 +3,18 @@
 
 mod list;
 mod loops;
+mod number;
 mod port;
+mod records;
+mod status;
 mod std_port;
 mod sure;
 
 pub use list::{ListSink, ListSource};
 pub use loops::{Bytes, Intake, MOST_BYTES, read_all, write_all};
+pub use number::parse_number;
 pub use port::{Failed, Sink, Source};
+pub use records::{known_sheets, records_of};
+pub use status::{RowCause, Status};
 pub use std_port::{StdSink, StdSource};
 pub use sure::{SureSink, SureSource};

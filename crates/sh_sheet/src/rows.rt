@@ -1,5 +1,5 @@
 // One row of a sheet.
-ghost use Rattle.std.specs.Prelude.{◌≡◌, ◌≤◌, ◌∷◌, ◌==◌, [], length, Option, None, Some, option_map, map};
+ghost use Rattle.std.specs.Prelude.{get_or, ◌≡◌, ◌≤◌, ◌∷◌, ◌==◌, [], length, ◌≢◌, Option, None, Some, MatchOption, option_map};
 ghost use Rattle.std.specs.List.{position};
 ghost use Rattle.std.specs.Option.{option_and_then};
 ghost use Rattle.csv.specs.Records.{fields_of};
@@ -92,4 +92,63 @@ fn ask(cfg: &Config, op: &[u8], seat: &[u8], a: &[u8], b: &[u8]) -> Option<Item>
     let key = parse_key(a)?;
     let call = call_in(cfg, op, key, b)?;
     Some(Item::Ask { seat: 0, call })
+}
+
+// The fields of a row of four.
+#[derive(Clone, Copy)]
+struct Fields<'a> {
+    op: &'a [u8],
+    seat: &'a [u8],
+    a: &'a [u8],
+    b: &'a [u8],
+}
+
+// The field at a place, and past the last field an empty text.
+#[tactic(auto, using(crate::proofs::RowFields::field_none, crate::proofs::RowFields::field_some))]
+fn field(row: &ByteRecord, place: usize) -> &[u8]
+    ensures { result.now ≡ get_or (fields_of row.now) place [] }
+{
+    match row.get(place) {
+        Some(field) => field,
+        None => b"".as_slice(),
+    }
+}
+
+// The four fields of a row, if it has four.
+#[tactic(auto, using(crate::proofs::RowFields::four))]
+fn four_fields(row: &ByteRecord) -> Option<Fields<'_>>
+    ensures { MatchOption result (length (fields_of row.now) ≢ 4) (λ f. fields_of row.now ≡ f.op.now ∷ f.seat.now ∷ f.a.now ∷ f.b.now ∷ []) }
+{
+    if row.len() != 4 {
+        return None;
+    }
+    Some(Fields {
+        op: field(row, 0),
+        seat: field(row, 1),
+        a: field(row, 2),
+        b: field(row, 3),
+    })
+}
+
+/// The item of a row, if it has one.
+#[tactic(auto, using(crate::proofs::RowFields::not_four))]
+pub(crate) fn item_in(cfg: &Config, row: &ByteRecord) -> Option<Item>
+    ensures { result ≡ item_in (parts_of cfg.now) (fields_of row.now) }
+{
+    let fields = four_fields(row)?;
+    ask(cfg, fields.op, fields.seat, fields.a, fields.b)
+}
+
+/// Whether a row is the head of a sheet.
+#[tactic(auto, using(crate::proofs::RowFields::not_four_head))]
+pub(crate) fn is_head(row: &ByteRecord) -> bool
+    ensures { result ≡ is_head (fields_of row.now) }
+{
+    match four_fields(row) {
+        Some(fields) => fields.op == b"op".as_slice()
+            && fields.seat == b"seat".as_slice()
+            && fields.a == b"a".as_slice()
+            && fields.b == b"b".as_slice(),
+        None => false,
+    }
 }

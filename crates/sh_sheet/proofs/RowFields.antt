@@ -1,8 +1,10 @@
 -- The fields of a row, one by one.
-use Rattle.std.proofs.Common.{ℕ, zero, suc, ◌≡◌, ◌≢◌, List, [], ◌∷◌, length, get_or, Option, Some, None, refl, arith, false}
+use Rattle.std.proofs.Common.{ℕ, zero, suc, ◌≡◌, ◌≢◌, ◌<◌, ◌≤◌, ◌+◌, List, [], ◌∷◌, ◌++◌, length, map, drop, get_or, Option, Some, None, refl, sym, ap, ◌∙◌, append_assoc, arith, false}
 use Rattle.csv.specs.Records.{field_at}
 use Rattle.sh_base.specs.declared.config.ConfigParts.{ConfigParts}
-use Rattle.sh_sheet.specs.Sheet.{item_in, is_head}
+use Rattle.sh_sheet.specs.Sheet.{Reading, Items, Refused, item_in, is_head, read_on, rows_from}
+use Rattle.sh_sheet.specs.declared.item.Item.{Item}
+use Rattle.sh_sheet.specs.declared.status.RowCause.TheVariants as cause
 
 -- no field at the place
 pub field_none : (fields : List (List ℕ)) (i : ℕ) → None ≡ field_at fields i → [] ≡ get_or fields i []
@@ -43,3 +45,8 @@ not_four_head (op ∷ seat ∷ []) h = refl
 not_four_head (op ∷ seat ∷ a ∷ []) h = refl
 not_four_head (op ∷ seat ∷ a ∷ b ∷ []) h = absurd (h refl)
 not_four_head (op ∷ seat ∷ a ∷ b ∷ c ∷ more) h = refl
+
+-- these items, and then what is read behind them
+abbrev pub with_items : List Item → Reading → Reading
+with_items items (Items more) = Items (items ++ more)
+with_items items (Refused row why) = Refused row why

@@ -11,10 +11,10 @@ use Rattle.sh_sheet.specs.Number.{number_of}
 use Rattle.sh_sheet.specs.Records.{records_in}
 use Rattle.sh_sheet.specs.declared.status.RowCause.{RowCause}
 use Rattle.sh_sheet.specs.declared.status.RowCause.TheVariants as cause
-use Rattle.sh_sheet.specs.declared.sheet.Item.{Item}
-use Rattle.sh_sheet.specs.declared.sheet.Item.TheVariants.{Ask, Mark, After, Turn}
-use Rattle.sh_sheet.specs.declared.sheet.SheetFault.{SheetFault}
-use Rattle.sh_sheet.specs.declared.sheet.SheetFault.TheVariants as fault
+use Rattle.sh_sheet.specs.declared.item.Item.{Item}
+use Rattle.sh_sheet.specs.declared.item.Item.TheVariants.{Ask, Mark, After, Turn}
+use Rattle.sh_sheet.specs.declared.item.SheetFault.{SheetFault}
+use Rattle.sh_sheet.specs.declared.item.SheetFault.TheVariants as fault
 
 -- the parts of a text between its colons
 abbrev pub colon_parts : List ℕ → List (List ℕ)

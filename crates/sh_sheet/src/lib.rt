@@ -1,6 +1,7 @@
 //! The way in and out: sources and sinks of bytes, the rows of a sheet, and the lines of an answer.
 #![tactic(auto)]
 
+mod item;
 mod list;
 mod loops;
 mod number;
@@ -12,12 +13,13 @@ mod status;
 mod std_port;
 mod sure;
 
+pub use item::{Item, Mode, SheetFault};
 pub use list::{ListSink, ListSource};
 pub use loops::{Bytes, Intake, MOST_BYTES, read_all, write_all};
 pub use number::parse_number;
 pub use port::{Failed, Sink, Source};
 pub use records::{known_sheets, records_of};
-pub use sheet::{Item, Mode, SheetFault};
+pub use sheet::{Sheet, read_sheet};
 pub use status::{RowCause, Status};
 pub use std_port::{StdSink, StdSource};
 pub use sure::{SureSink, SureSource};

@@ -6,9 +6,10 @@ ghost use Rattle.csv.specs.Records.{fields_of};
 ghost use Rattle.sh_base.specs.Parts.{parts_of};
 ghost use Rattle.sh_sheet.specs.Number.{number_of};
 ghost use Rattle.sh_sheet.specs.Sheet.{call_in, colon_parts, is_head, item_in, key_of, value_in};
+ghost use Rattle.sh_sheet.specs.declared.item.Item.TheVariants.{Ask};
 ghost use Rattle.sh_sheet.specs.Parts.{parts_behind};
 
-use crate::{Item, parse_number};
+use crate::parse_number;
 use csv::ByteRecord;
 use sh_base::{Config, Value};
 use sh_map::Call;
@@ -82,16 +83,15 @@ fn call_in(cfg: &Config, op: &[u8], key: u64, b: &[u8]) -> Option<Call>
     }
 }
 
-// The item of four fields.
-fn ask(cfg: &Config, op: &[u8], seat: &[u8], a: &[u8], b: &[u8]) -> Option<Item>
-    ensures { result ≡ item_in (parts_of cfg.now) (op.now ∷ seat.now ∷ a.now ∷ b.now ∷ []) }
+// The call that four fields ask for, by seat 0.
+fn call_of_fields(cfg: &Config, op: &[u8], seat: &[u8], a: &[u8], b: &[u8]) -> Option<Call>
+    ensures { option_map (λ call. Ask 0 call) result ≡ item_in (parts_of cfg.now) (op.now ∷ seat.now ∷ a.now ∷ b.now ∷ []) }
 {
     if parse_number(seat)? != 0 {
         return None;
     }
     let key = parse_key(a)?;
-    let call = call_in(cfg, op, key, b)?;
-    Some(Item::Ask { seat: 0, call })
+    call_in(cfg, op, key, b)
 }
 
 // The fields of a row of four.
@@ -130,13 +130,13 @@ fn four_fields(row: &ByteRecord) -> Option<Fields<'_>>
     })
 }
 
-/// The item of a row, if it has one.
+/// The call that a row asks for by seat 0, if it is a lawful put, get or del.
 #[tactic(auto, using(crate::proofs::RowFields::not_four))]
-pub(crate) fn item_in(cfg: &Config, row: &ByteRecord) -> Option<Item>
-    ensures { result ≡ item_in (parts_of cfg.now) (fields_of row.now) }
+pub(crate) fn call_of_row(cfg: &Config, row: &ByteRecord) -> Option<Call>
+    ensures { option_map (λ call. Ask 0 call) result ≡ item_in (parts_of cfg.now) (fields_of row.now) }
 {
     let fields = four_fields(row)?;
-    ask(cfg, fields.op, fields.seat, fields.a, fields.b)
+    call_of_fields(cfg, fields.op, fields.seat, fields.a, fields.b)
 }
 
 /// Whether a row is the head of a sheet.

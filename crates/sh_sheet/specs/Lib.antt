@@ -6,3 +6,4 @@ pub mod Port
 pub mod Records
 pub mod Sheet
 pub mod Status
+pub mod Text

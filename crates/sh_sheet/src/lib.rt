@@ -2,6 +2,7 @@
 #![tactic(auto)]
 
 mod item;
+mod line;
 mod list;
 mod loops;
 mod number;
@@ -14,6 +15,7 @@ mod std_port;
 mod sure;
 
 pub use item::{Item, Mode, SheetFault};
+pub use line::{call_line, end_line, map_line};
 pub use list::{ListSink, ListSource};
 pub use loops::{Bytes, Intake, MOST_BYTES, read_all, write_all};
 pub use number::parse_number;

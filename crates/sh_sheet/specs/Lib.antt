@@ -7,3 +7,4 @@ pub mod Records
 pub mod Sheet
 pub mod Status
 pub mod Text
+pub mod Write

@@ -13,6 +13,7 @@ mod sheet;
 mod status;
 mod std_port;
 mod sure;
+mod write;
 
 pub use item::{Item, Mode, SheetFault};
 pub use line::{call_line, end_line, map_line};
@@ -25,3 +26,4 @@ pub use sheet::{Sheet, read_sheet};
 pub use status::{RowCause, Status};
 pub use std_port::{StdSink, StdSource};
 pub use sure::{SureSink, SureSource};
+pub use write::{WriteError, write_calls, write_end, write_map};

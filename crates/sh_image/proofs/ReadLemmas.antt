@@ -1,6 +1,6 @@
 -- An entry by the words that the code reads.
 use Rattle.std.proofs.Common.{◌≡◌, ℕ, ◌+◌, ◌*◌, ◌<◌, ◌≤◌, ◌++◌, Bool, List, length, get_or, take, drop, refl, sym, ap, ◌∙◌, inl, inr, arith}
-use Rattle.std.proofs.lemmas.List.{get_or-drop, get_or_append_left, get_or-take, drop-drop, length-drop, length-take, same_lists, take-replicate}
+use Rattle.std.proofs.lemmas.List.{get_or-drop, get_or_append_left, get_or-take, drop-drop, length-drop, length-take, same_lists}
 use Rattle.std.specs.Prelude.{◌↔◌, IsTrue, replicate, slice_index}
 use Rattle.sh_base.specs.declared.config.ConfigParts.{ConfigParts}
 use Rattle.sh_base.specs.Setting.{nodes, node_size, entry_size, last_entry_version}
@@ -103,10 +103,10 @@ none n = omega arith
 pub columns_read : (p : ConfigParts) (ws versions keys : List ℕ) (values : List (List ℕ)) (count : ℕ) → count ≡ p.leaf → IsEntryColumn p ws 0 versions → IsEntryColumn p ws 1 keys → IsValueColumn p ws values → entries_of count versions keys values ≡ entries_in p.value_words p.leaf (drop 6 ws)
 columns_read p ws versions keys values count all front key value =
     same_lists _ _ (length_entries_of versions keys values count ∙ all ∙ sym (length-entries_in p.value_words p.leaf (drop 6 ws))) (λ i d h.
-        let below : i < p.leaf = omega (arith, h, length_entries_of versions keys values count) in
-        get_or_entries_of versions keys values count i d (omega arith)
-        ∙ (λ t. record { version = (front i below ∙ ap (λ n. get_or ws n 0) (none (entry_at p i))) t; key = key i below t; value = value i below t })
-        ∙ sym (entry_read p ws i d below))
+    let below : i < p.leaf = omega (arith, h, length_entries_of versions keys values count) in
+    get_or_entries_of versions keys values count i d (omega arith)
+    ∙ (λ t. record { version = (front i below ∙ ap (λ n. get_or ws n 0) (none (entry_at p i))) t; key = key i below t; value = value i below t })
+    ∙ sym (entry_read p ws i d below))
 
 pub entries_in_have_words : (p : ConfigParts) (ws : List ℕ) → length ws ≡ node_size p → HaveWords p (entries_in p.value_words p.leaf (drop 6 ws))
 entries_in_have_words p ws long = values_in p.value_words p.leaf (drop 6 ws) (simp length-drop (omega (arith, node_size_by_words p)))

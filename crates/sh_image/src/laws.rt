@@ -13,5 +13,4 @@ pub fn leaves_spelled_once(cfg: &Config)
     ensures spelled_once { (words : List ℕ) (a : Leaf) → Spells (parts_of cfg.now) words a → leaf_in (parts_of cfg.now) words ≡ a }
     ensures written_back { (words : List ℕ) (a : Leaf) → Spells (parts_of cfg.now) words a → leaf_words (leaf_in (parts_of cfg.now) words) ≡ words }
     ensures as_long { (a : Leaf) → IsLeaf (parts_of cfg.now) a → length (leaf_words a) ≡ node_size (parts_of cfg.now) }
-{
-}
+{}

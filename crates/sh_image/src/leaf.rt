@@ -62,7 +62,16 @@ impl LeafImage {
     }
 
     // A leaf of the first entries of these columns. Condition: there are 64 at most.
-    pub(crate) fn of_columns(version: u64, low: u64, high: u64, next: u32, count: u32, versions: [u64; 64], keys: [u64; 64], values: [Value; 64]) -> LeafImage
+    pub(crate) fn of_columns(
+        version: u64,
+        low: u64,
+        high: u64,
+        next: u32,
+        count: u32,
+        versions: [u64; 64],
+        keys: [u64; 64],
+        values: [Value; 64],
+    ) -> LeafImage
         requires { count ≤ 64 }
         ensures { result ≡ record { version = version; low = low; high = high; next = next; entries = entries_of count versions keys values } }
     {

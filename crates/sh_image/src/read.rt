@@ -1,7 +1,7 @@
 // What the words of a node are.
-ghost use Rattle.std.specs.Prelude.{◌≡◌, ◌↔◌, ◌<◌, length, replicate, IsTrue, All, slice_index};
+ghost use Rattle.std.specs.Prelude.{◌≡◌, ◌↔◌, ◌<◌, ◌≤◌, length, replicate, IsTrue, All, slice_index};
 ghost use Rattle.sh_base.specs.Parts.{parts_of};
-ghost use Rattle.sh_base.specs.Setting.{node_size, entry_size};
+ghost use Rattle.sh_base.specs.Setting.{nodes, node_size, entry_size};
 ghost use Rattle.sh_image.specs.Columns.{IsEntryColumn, IsValueColumn};
 ghost use Rattle.sh_image.specs.Leaf.{leaf_in, HaveWords, IsEntry, IsLeaf};
 ghost use Rattle.sh_image.specs.Seen.{SeenBy};
@@ -30,7 +30,12 @@ fn entry_column(cfg: &Config, words: &[u64], offset: u32) -> [u64; 64]
     ensures { IsEntryColumn (parts_of cfg.now) words.now offset result }
 {
     let mut out = [0; 64];
-    column(words, 6 + offset as usize, cfg.entry_size() as usize, &mut out[..cfg.leaf() as usize]);
+    column(
+        words,
+        6 + offset as usize,
+        cfg.entry_size() as usize,
+        &mut out[..cfg.leaf() as usize],
+    );
     out
 }
 
@@ -58,7 +63,16 @@ fn decoded(cfg: &Config, words: &[u64], next: u32, fronts: [u64; 64]) -> LeafIma
 {
     let keys = entry_column(cfg, words, 1);
     let values = entry_values(cfg, words);
-    LeafImage::of_columns(words[0], words[2], words[3], next, cfg.leaf(), fronts, keys, values)
+    LeafImage::of_columns(
+        words[0],
+        words[2],
+        words[3],
+        next,
+        cfg.leaf(),
+        fronts,
+        keys,
+        values,
+    )
 }
 
 // Whether the entries may all stand there.
@@ -74,13 +88,14 @@ fn are_entries(cfg: &Config, image: &LeafImage) -> bool
     true
 }
 
-// Whether the image meets the rules of a leaf.
+// Whether the image meets the rules of a leaf, where its next leaf, its number of entries and their values do.
 fn is_leaf(cfg: &Config, image: &LeafImage) -> bool
+    requires next { image.now.next ≤ nodes (parts_of cfg.now) }
     requires count { length image.now.entries ≡ cfg.now.parts.leaf }
     requires values { HaveWords (parts_of cfg.now) image.now.entries }
     ensures { IsTrue result ↔ IsLeaf (parts_of cfg.now) image.now }
 {
-    if image.version() > cfg.last_version() || image.low() >= image.high() || image.next() > cfg.nodes() {
+    if image.version() > cfg.last_version() || image.low() >= image.high() {
         return false;
     }
     if (image.next() == 0) != (image.high() == u64::MAX) {

@@ -34,7 +34,12 @@ pub fn write_leaf(cfg: &Config, image: &LeafImage, out: &mut [u64])
     for index in 0..cfg.leaf() {
         let at = cfg.entry_at(index) as usize;
         let entry = image.entry(index);
-        write_entry(entry.version, entry.key, entry.value, &mut out[at..at + size]);
+        write_entry(
+            entry.version,
+            entry.key,
+            entry.value,
+            &mut out[at..at + size],
+        );
     }
     out[cfg.rear_at() as usize] = image.version();
 }

@@ -1,6 +1,6 @@
 mod ColumnLemmas
 pub mod EntriesLemmas
 pub mod LeafLemmas
-mod ReadLemmas
+pub mod ReadLemmas
 mod EmptyLemmas
 mod WriteLemmas

@@ -122,9 +122,10 @@ impl LeafImage {
         self.count
     }
 
-    /// The keys of its entries, in their order; an empty entry's is 0.
+    /// The keys of its entries, in their order; an empty entry's is 0. There are 64 at most.
     pub fn keys(&self) -> &[u64]
-        ensures { result.now ≡ keys_of self.now.entries }
+        ensures keys { result.now ≡ keys_of self.now.entries }
+        ensures most { length result.now ≤ 64 }
     {
         &self.keys[..self.count as usize]
     }

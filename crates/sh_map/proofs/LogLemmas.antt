@@ -1,0 +1,61 @@
+-- A log that gains an entry.
+use Rattle.std.proofs.Common.{◌≡◌, ◌≢◌, ◌<◌, ◌+◌, ◌∙◌, ℕ, zero, suc, ◌≤◌, List, [], ◌∷◌, ◌++◌, length, get_or, take, Some, refl, ap, subst, arith}
+use Rattle.std.specs.Prelude.{slice_get}
+use Rattle.std.proofs.lemmas.List.{take_more, take-append-le, take_all}
+use Rattle.std.specs.FinMap.{empty}
+use Rattle.sh_map.specs.declared.log.Change.{Change}
+use Rattle.sh_map.specs.declared.log.Change.TheVariants.{Put, Del}
+use Rattle.sh_map.specs.declared.log.Entry.{Entry}
+use Rattle.sh_map.specs.Map.{Map, get}
+use Rattle.sh_map.specs.Log.{key_of, changed, map_from, map_of, map_at, IsNext, IsLegalFrom, IsLegal}
+use Rattle.sh_map.proofs.MapLemmas.{get-put_other, get-del_other}
+
+pub map_from-append : (m : Map) (log more : List Entry) → map_from m (log ++ more) ≡ map_from (map_from m log) more
+map_from-append m [] more = refl
+map_from-append m (e ∷ log) more = map_from-append (changed m e.change) log more
+
+pub map_of-push : (log : List Entry) (e : Entry) → map_of (log ++ e ∷ []) ≡ changed (map_of log) e.change
+map_of-push log e = map_from-append empty log (e ∷ [])
+
+-- earlier maps stay as they were
+pub map_at-push : (log : List Entry) (e : Entry) (p : ℕ) → p ≤ length log → map_at (log ++ e ∷ []) p ≡ map_at log p
+map_at-push log e p h = ap map_of (take-append-le p log (e ∷ []) h)
+
+pub map_at-length : (log : List Entry) → map_at log (length log) ≡ map_of log
+map_at-length log = ap map_of (take_all (length log) log (omega arith))
+
+-- a change of another key leaves a key
+pub changed_other : (m : Map) (change : Change) (q : ℕ) → q ≢ key_of change → get (changed m change) q ≡ get m q
+changed_other m (Put key value) q differ = get-put_other m key q value differ
+changed_other m (Del key) q differ = get-del_other m key q differ
+
+legal_from-append : (m : Map) (log : List Entry) (e : Entry) → IsLegalFrom m log → IsNext (map_from m log) e → IsLegalFrom m (log ++ e ∷ [])
+legal_from-append m [] e h next = (next, tt)
+legal_from-append m (x ∷ log) e h next = (h.0, legal_from-append (changed m x.change) log e h.1 next)
+
+pub IsLegal-push : (log : List Entry) (e : Entry) → IsLegal log → IsNext (map_of log) e → IsLegal (log ++ e ∷ [])
+IsLegal-push log e h next = legal_from-append empty log e h next
+
+legal_from-at : (m : Map) (log : List Entry) (i : ℕ) (e : Entry) → IsLegalFrom m log → slice_get log i ≡ Some e → IsNext (map_from m (take i log)) e
+legal_from-at m [] i e h is = absurd (cc)
+legal_from-at m (x ∷ log) zero e h is = let same : x ≡ e = cc in subst (IsNext m) same h.0
+legal_from-at m (x ∷ log) (suc i) e h is = legal_from-at (changed m x.change) log i e h.1 is
+
+-- each entry of a legal log fits the map before it
+pub IsLegal-at : (log : List Entry) (i : ℕ) (e : Entry) → IsLegal log → slice_get log i ≡ Some e → IsNext (map_at log i) e
+IsLegal-at log i e h is = legal_from-at empty log i e h is
+
+legal_from-take : (m : Map) (log : List Entry) (i : ℕ) → IsLegalFrom m log → IsLegalFrom m (take i log)
+legal_from-take m log zero h = tt
+legal_from-take m [] (suc i) h = tt
+legal_from-take m (x ∷ log) (suc i) h = (h.0, legal_from-take (changed m x.change) log i h.1)
+
+pub IsLegal-take : (log : List Entry) (i : ℕ) → IsLegal log → IsLegal (take i log)
+IsLegal-take log i h = legal_from-take empty log i h
+
+-- a walk over a log, one entry on
+pub legal_more : (log : List Entry) (at : ℕ) (d : Entry) → at < length log → IsLegal (take at log) → IsNext (map_at log at) (get_or log at d) → IsLegal (take (at + 1) log)
+legal_more log at d in_range h next = rw (take_more log at d in_range) (IsLegal-push (take at log) (get_or log at d) h next)
+
+pub map_more : (log : List Entry) (at : ℕ) (d : Entry) → at < length log → map_at log (at + 1) ≡ changed (map_at log at) (get_or log at d).change
+map_more log at d in_range = ap map_of (take_more log at d in_range) ∙ map_of-push (take at log) (get_or log at d)

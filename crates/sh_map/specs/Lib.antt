@@ -1,0 +1,6 @@
+pub mod Map
+pub mod Calls
+pub mod Log
+pub mod Book
+pub mod Points
+pub mod Rows

@@ -1,0 +1,12 @@
+//! Calls and their replies, the log of changes, and the book that says what a lawful answer is.
+#![tactic(auto)]
+
+mod book;
+mod call;
+mod log;
+mod plain_map;
+
+pub use book::{Book, Done, Dones, Row, Rows};
+pub use call::{Call, Reply};
+pub use log::{Change, Entry, Log};
+pub use plain_map::PlainMap;

@@ -1,0 +1,35 @@
+// The log of puts and deletes.
+ghost use Rattle.std.specs.Prelude.{◌≡◌};
+ghost use Rattle.sh_map.specs.Log.{key_of};
+
+use sh_base::Value;
+
+/// A change of one key.
+#[derive(Clone, Copy, Debug)]
+pub enum Change {
+    Put { key: u64, value: Value },
+    Del { key: u64 },
+}
+
+/// A change that a seat made, and what the key had before.
+#[derive(Clone, Copy, Debug)]
+pub struct Entry {
+    pub seat: u32,
+    pub change: Change,
+    pub old: Option<Value>,
+}
+
+/// The changes in their order.
+pub type Log = Vec<Entry>;
+
+impl Change {
+    /// The key that is changed.
+    pub fn key(&self) -> u64
+        ensures { result ≡ key_of self.now }
+    {
+        match *self {
+            Change::Put { key, .. } => key,
+            Change::Del { key } => key,
+        }
+    }
+}

@@ -9,7 +9,7 @@ use Rattle.sh_base.specs.Setting.{node_size}
 use Rattle.sh_base.proofs.LayoutLemmas.{node_size_by_words}
 use Rattle.sh_image.specs.declared.leaf.LeafEntry.{LeafEntry}
 use Rattle.sh_image.specs.Entries.{entry_words, entries_in, AreWhole}
-use Rattle.sh_image.specs.Leaf.{Leaf, leaf_words, leaf_in, HaveWords, IsEntry, IsLeaf, Spells}
+use Rattle.sh_image.specs.Leaf.{Leaf, leaf_words, leaf_in, HaveWords, IsEntry, Spells}
 use Rattle.sh_image.proofs.EntriesLemmas.{entries_in-words, words-entries_in, length-words}
 
 -- a list with one element more than n

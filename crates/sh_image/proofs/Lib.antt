@@ -1,7 +1,7 @@
 mod ColumnLemmas
 pub mod EntriesLemmas
 pub mod LeafLemmas
-mod ReadLemmas
+pub mod ReadLemmas
 mod EmptyLemmas
 mod WriteLemmas
 pub mod UntornLemmas

@@ -1,6 +1,6 @@
 -- An entry by the words that the code reads.
 use Rattle.std.proofs.Common.{◌≡◌, ℕ, ◌+◌, ◌*◌, ◌<◌, ◌≤◌, ◌++◌, Bool, List, length, get_or, take, drop, refl, sym, ap, ◌∙◌, inl, inr, arith}
-use Rattle.std.proofs.lemmas.List.{get_or-drop, get_or_append_left, get_or-take, drop-drop, length-drop, length-take, same_lists, take-replicate}
+use Rattle.std.proofs.lemmas.List.{get_or-drop, get_or_append_left, get_or-take, drop-drop, length-drop, length-take, same_lists}
 use Rattle.std.specs.Prelude.{◌↔◌, IsTrue, replicate, slice_index}
 use Rattle.sh_base.specs.declared.config.ConfigParts.{ConfigParts}
 use Rattle.sh_base.specs.Setting.{nodes, node_size, entry_size, last_entry_version}

@@ -1,7 +1,7 @@
 // What the words of a node are.
-ghost use Rattle.std.specs.Prelude.{◌≡◌, ◌↔◌, ◌<◌, length, replicate, IsTrue, All, slice_index};
+ghost use Rattle.std.specs.Prelude.{◌≡◌, ◌↔◌, ◌<◌, ◌≤◌, length, replicate, IsTrue, All, slice_index};
 ghost use Rattle.sh_base.specs.Parts.{parts_of};
-ghost use Rattle.sh_base.specs.Setting.{node_size, entry_size};
+ghost use Rattle.sh_base.specs.Setting.{nodes, node_size, entry_size};
 ghost use Rattle.sh_image.specs.Columns.{IsEntryColumn, IsValueColumn};
 ghost use Rattle.sh_image.specs.Leaf.{leaf_in, HaveWords, IsEntry, IsLeaf};
 ghost use Rattle.sh_image.specs.Seen.{SeenBy};
@@ -88,16 +88,14 @@ fn are_entries(cfg: &Config, image: &LeafImage) -> bool
     true
 }
 
-// Whether the image meets the rules of a leaf.
+// Whether the image meets the rules of a leaf, where its next leaf, its number of entries and their values do.
 fn is_leaf(cfg: &Config, image: &LeafImage) -> bool
+    requires next { image.now.next ≤ nodes (parts_of cfg.now) }
     requires count { length image.now.entries ≡ cfg.now.parts.leaf }
     requires values { HaveWords (parts_of cfg.now) image.now.entries }
     ensures { IsTrue result ↔ IsLeaf (parts_of cfg.now) image.now }
 {
-    if image.version() > cfg.last_version()
-        || image.low() >= image.high()
-        || image.next() > cfg.nodes()
-    {
+    if image.version() > cfg.last_version() || image.low() >= image.high() {
         return false;
     }
     if (image.next() == 0) != (image.high() == u64::MAX) {

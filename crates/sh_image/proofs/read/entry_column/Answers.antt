@@ -1,6 +1,6 @@
 use Rattle.std.proofs.Common.{◌≡◌, ◌∙◌, length, take, arith}
 use Rattle.std.specs.Prelude.{replicate}
-use Rattle.std.proofs.lemmas.List.{length-take-le, length-replicate}
+use Rattle.std.proofs.lemmas.List.{length-take-le}
 use Rattle.sh_image.proofs.ReadLemmas.{column_word, column_read, below_taken}
 use Rattle.sh_image.proofs.read.entry_column.Goals as goal
 

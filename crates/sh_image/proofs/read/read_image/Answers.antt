@@ -1,8 +1,8 @@
-use Rattle.std.proofs.Common.{◌≡◌, ◌+◌, ◌≢◌, refl, get_or, ap, sym, ◌∙◌, subst, arith}
+use Rattle.std.proofs.Common.{refl, get_or, ap, sym, ◌∙◌, subst, arith}
 use mathlib.Core.Bool.{false≢true}
 use Rattle.sh_base.proofs.LayoutLemmas.{entry_size_is}
-use Rattle.sh_image.specs.Leaf.{IsLeaf, HaveWords}
-use Rattle.sh_image.specs.Seen.{HasWholeEntries, IsUntorn}
+use Rattle.sh_image.specs.Leaf.{IsLeaf}
+use Rattle.sh_image.specs.Seen.{HasWholeEntries}
 use Rattle.sh_image.proofs.EntriesLemmas.{length-entries_in}
 use Rattle.sh_image.proofs.LeafLemmas.{spelled_one}
 use Rattle.sh_image.proofs.ReadLemmas.{torn_read, whole_read, words_from_untorn, entries_in_have_words, header_spelled}
@@ -33,6 +33,9 @@ returns-then-words-ne0-2 c =
             | then-words-ne0-2-via-else-words-ne0-2+then-words-from w ↦ absurd (omega (arith, w.if-words-from.true, w.from.ensures, w.nodes.ensures, head.2))
           ],
     )
+
+pub is_leaf-requires-clause-next : goal.is_leaf-requires-clause-next
+is_leaf-requires-clause-next c = rw c.decoded-image.ensures (omega (arith, c.if-words-from.false, c.from.ensures, c.nodes.ensures))
 
 pub is_leaf-requires-clause-count : goal.is_leaf-requires-clause-count
 is_leaf-requires-clause-count c = rw c.decoded-image.ensures (length-entries_in _ _ _)

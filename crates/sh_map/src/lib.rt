@@ -9,9 +9,7 @@ mod plain_map;
 pub use book::{Book, Done, Dones, Row, Rows};
 pub use call::{Call, Reply};
 pub use log::{Change, Entry, Log};
-<<<<<<< HEAD
 pub use plain_map::PlainMap;
-=======
 
 #[cfg(test)]
 mod tests {
@@ -74,4 +72,3 @@ mod tests {
         Ok(())
     }
 }
->>>>>>> b4e17317c0102af7d98acbb28a77b363d2b801e8

@@ -8,7 +8,7 @@ use Rattle.std.specs.Cmp.{nat_cmp_is, nat_cmp_total}
 use Rattle.std.proofs.lemmas.Cmp.{ranked}
 use Rattle.std.proofs.lemmas.List.Sorted.{IsNonDecreasingBy-from_default}
 use Rattle.std.proofs.lemmas.Bool.Decides.{nat_tests}
-use Rattle.std.specs.FinMap.{find, is_sorted, entries, entries-from_sorted, entries-insert, get-from_sorted, same_entries_map, empty, empty_of_len, len-entries}
+use Rattle.std.specs.FinMap.{find, is_sorted, entries, from_entries, get-from_entries, entries-from_sorted, entries-insert, get-from_sorted, same_entries_map, empty, empty_of_len, len-entries}
 use Rattle.std.proofs.lemmas.List.{get_or_default}
 use Rattle.std.specs.FinMap.Entries.{put, below_all, is_sorted-put}
 use Rattle.sh_map.specs.Map.{get, del, pair_of, put as map_put}
@@ -173,3 +173,10 @@ view_removed rows key i rising at = is_del _ _ key
 -- the rows are the map's entries
 pub entries_are : (rows : List Row) → IsRising rows → map pair_of rows ≡ entries (map_of_rows rows)
 entries_are rows rising = sym (entries-from_sorted nat_cmp (map pair_of rows) rising)
+
+-- what rising rows give a key, by a search
+pub found_in : (rows : List Row) (key i : ℕ) (d : Row) → IsRising rows → IsAt rows key i → Some (get_or rows i d).value ≡ get (from_entries (map pair_of rows)) key
+found_in rows key i d rising at = sym (get-from_entries nat_cmp_total (map pair_of rows) key ∙ find_at rows key i rising at ∙ ap (λ (r : Row). Some r.value) (get_or_default rows i nothing d at.in_range))
+
+pub missed_in : (rows : List Row) (key i : ℕ) → IsGapFor rows key i → None ≡ get (from_entries (map pair_of rows)) key
+missed_in rows key i gap = sym (get-from_entries nat_cmp_total (map pair_of rows) key ∙ find_in_gap rows key i gap)

@@ -4,3 +4,4 @@ pub mod Log
 pub mod Book
 pub mod Points
 pub mod Rows
+pub mod Judge

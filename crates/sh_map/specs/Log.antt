@@ -1,5 +1,5 @@
 -- A log of changes, and the map that it makes.
-use Rattle.std.specs.Prelude.{◌≡◌, ℕ, List, [], ◌∷◌, take, Option, IsSome}
+use Rattle.std.specs.Prelude.{◌≡◌, ℕ, List, [], ◌∷◌, take, Option, Some, None, IsSome}
 use Rattle.std.specs.FinMap.{empty}
 use Rattle.sh_map.specs.declared.log.Change.{Change}
 use Rattle.sh_map.specs.declared.log.Change.TheVariants.{Put, Del}
@@ -9,6 +9,11 @@ use Rattle.sh_map.specs.Map.{Map, get, put, del}
 abbrev pub key_of : Change → ℕ
 key_of (Put key value) = key
 key_of (Del key) = key
+
+-- what a change leaves at its key
+abbrev pub left_by : Change → Option (List ℕ)
+left_by (Put key value) = Some value
+left_by (Del key) = None
 
 -- the map after a change
 abbrev pub changed : Map → Change → Map

@@ -3,11 +3,16 @@
 
 mod book;
 mod call;
+mod entries;
+mod judge;
 mod log;
 mod plain_map;
+mod ranges;
+mod replies;
 
 pub use book::{Book, Done, Dones, Row, Rows};
 pub use call::{Call, Reply};
+pub use judge::Misfit;
 pub use log::{Change, Entry, Log};
 pub use plain_map::PlainMap;
 

@@ -1,6 +1,6 @@
 // The log of puts and deletes.
 ghost use Rattle.std.specs.Prelude.{◌≡◌};
-ghost use Rattle.sh_map.specs.Log.{key_of};
+ghost use Rattle.sh_map.specs.Log.{key_of, left_by};
 
 use sh_base::Value;
 
@@ -30,6 +30,16 @@ impl Change {
         match *self {
             Change::Put { key, .. } => key,
             Change::Del { key } => key,
+        }
+    }
+
+    /// What the key has after it.
+    pub fn left(&self) -> Option<Value>
+        ensures { result ≡ left_by self.now }
+    {
+        match *self {
+            Change::Put { value, .. } => Some(value),
+            Change::Del { .. } => None,
         }
     }
 }

@@ -1,0 +1,93 @@
+// Whether an entry of a log fits what stands before it, and whose it is.
+ghost use Rattle.std.specs.Prelude.{IsTrue, ◌↔◌, ◌≡◌, ◌<◌, ◌⊎◌, IfOk, MatchOption, ◌≢◌, length, All, Any, ℕ};
+ghost use Rattle.sh_map.specs.Log.{IsNext};
+ghost use Rattle.sh_map.specs.Judge.{AllEntriesFit, FitsEntry};
+ghost use Rattle.sh_map.specs.Book.{IsOwn, IsLastOfSeat, made};
+
+use crate::{Call, Change, Done, Entry, PlainMap, Reply};
+use sh_base::Value;
+use std::alloc::{AllocError, Global};
+
+/// Whether two values, or two wants of a value, are the same.
+pub(crate) fn same(a: Option<Value>, b: Option<Value>) -> bool
+    ensures { IsTrue result ↔ (a ≡ b) }
+{
+    match (a, b) {
+        (Some(a), Some(b)) => a.words() == b.words(),
+        (None, None) => true,
+        _ => false,
+    }
+}
+
+// Whether an entry may come next: its old value is what the map has, and a delete has one.
+fn is_next(map: &PlainMap, entry: &Entry) -> bool
+    ensures { IsTrue result ↔ IsNext map.now entry.now }
+{
+    let removes = match entry.change {
+        Change::Put { .. } => true,
+        Change::Del { .. } => entry.old.is_some(),
+    };
+    removes && same(entry.old, map.get(entry.change.key()))
+}
+
+// How many entries a call with this reply has made.
+fn made(call: Call, reply: Reply) -> u64
+    ensures { result ≡ made call reply }
+{
+    match (call, reply) {
+        (Call::Put { .. }, Reply::Some(_) | Reply::None) => 1,
+        (Call::Del { .. }, Reply::Some(_)) => 1,
+        _ => 0,
+    }
+}
+
+// Whether the entry at a place is this call's own.
+fn is_own(at: u64, done: &Done) -> bool
+    ensures { IsTrue result ↔ IsOwn at done.now }
+{
+    made(done.call, done.reply) == 1 && done.point == at
+}
+
+// Whether none of these entries is of the seat.
+fn has_none_of(seat: u32, log: &[Entry]) -> bool
+    ensures { IsTrue result ↔ All (λ e. e.seat ≢ seat) log.now }
+{
+    log.iter().all(|entry| entry.seat != seat)
+}
+
+// Whether no later entry is of the seat of the one at a place.
+fn is_last_of_seat(log: &[Entry], at: usize) -> bool
+    requires { at < length log.now }
+    ensures { IsTrue result ↔ IsLastOfSeat log.now at }
+{
+    has_none_of(log[at].seat, &log[at + 1..])
+}
+
+// Whether an entry is a finished call's own or its seat's last.
+fn has_owner(log: &[Entry], dones: &[Done], at: usize) -> bool
+    requires { at < length log.now }
+    ensures { IsTrue result ↔ (Any (IsOwn at) dones.now ⊎ IsLastOfSeat log.now at) }
+{
+    dones.iter().any(|done| is_own(at as u64, done)) || is_last_of_seat(log, at)
+}
+
+/// The first entry that doesn't fit the map of the entries before it, or is nobody's own and not its seat's last.
+pub(crate) fn first_unfit_entry(
+    alloc: Global,
+    log: &[Entry],
+    dones: &[Done],
+) -> Result<Option<u64>, AllocError>
+    ensures { IfOk result (λ found. MatchOption found
+        (AllEntriesFit log.now dones.now)
+        (λ at. (at < length log.now) × (FitsEntry log.now dones.now at → ⊥)
+        × ((i : ℕ) → i < at → FitsEntry log.now dones.now i))) }
+{
+    let mut map = PlainMap::new(alloc);
+    for (at, entry) in log.iter().enumerate() {
+        if !is_next(&map, entry) || !has_owner(log, dones, at) {
+            return Ok(Some(at as u64));
+        }
+        map.apply(entry.change)?;
+    }
+    Ok(None)
+}

@@ -1,0 +1,116 @@
+// Whether a reply is the one of its point.
+ghost use Rattle.std.specs.Prelude.{IsTrue, ◌↔◌, ◌≡◌, ◌<◌, ◌≤◌, length, slice_get};
+ghost use Rattle.sh_map.specs.Map.{get};
+ghost use Rattle.sh_map.specs.Log.{map_of, map_at};
+ghost use Rattle.sh_map.specs.Book.{entry_of};
+ghost use Rattle.sh_map.specs.Judge.{AnswersAside, FitsReply};
+
+use crate::entries::same;
+use crate::{Call, Change, Done, Entry, Reply};
+use sh_base::Value;
+
+// What a key has after these entries.
+fn left_at(log: &[Entry], key: u64) -> Option<Value>
+    ensures { result ≡ get (map_of log.now) key }
+{
+    let mut had = None;
+    for entry in log {
+        if entry.change.key() == key {
+            had = entry.change.left();
+        }
+    }
+    had
+}
+
+// Whether two changes are the same.
+#[tactic(auto, using(crate::proofs::ReplyLemmas::same_change))]
+fn is_change(a: Change, b: Change) -> bool
+    ensures { IsTrue result ↔ (a ≡ b) }
+{
+    a.key() == b.key() && same(a.left(), b.left())
+}
+
+// Whether this is the entry at a place.
+fn has_entry(log: &[Entry], at: u64, seat: u32, change: Change, old: Option<Value>) -> bool
+    ensures { IsTrue result ↔ (slice_get log.now at ≡ Some (entry_of seat change old)) }
+{
+    match log.get(at as usize) {
+        Some(entry) => {
+            entry.seat == seat && is_change(entry.change, change) && same(entry.old, old)
+        }
+        None => false,
+    }
+}
+
+// Whether a key has this at a point within the log.
+fn has_at(log: &[Entry], point: u64, key: u64, had: Option<Value>) -> bool
+    requires { point ≤ length log.now }
+    ensures { IsTrue result ↔ (get (map_at log.now point) key ≡ had) }
+{
+    same(left_at(&log[..point as usize], key), had)
+}
+
+// Whether a get of this key is answered so at its point.
+fn answers_get(log: &[Entry], done: &Done, key: u64) -> bool
+    requires { done.now.point ≤ length log.now }
+    ensures { IsTrue result ↔ AnswersAside log.now done.now (Call.Get key) done.now.reply }
+{
+    match done.reply {
+        Reply::Some(value) => has_at(log, done.point, key, Some(value)),
+        Reply::None => has_at(log, done.point, key, None),
+        _ => false,
+    }
+}
+
+// Whether a put of this value is answered so by its entry.
+fn answers_put(log: &[Entry], done: &Done, key: u64, value: Value) -> bool
+    ensures { IsTrue result ↔ AnswersAside log.now done.now (Call.Put key value) done.now.reply }
+{
+    let change = Change::Put { key, value };
+    match done.reply {
+        Reply::Some(old) => has_entry(log, done.point, done.seat, change, Some(old)),
+        Reply::None => has_entry(log, done.point, done.seat, change, None),
+        Reply::Full | Reply::NoSplitYet | Reply::Worn { .. } => true,
+        Reply::Rows { .. } => false,
+    }
+}
+
+// Whether a delete of this key is answered so at its point.
+fn answers_del(log: &[Entry], done: &Done, key: u64) -> bool
+    requires { done.now.point ≤ length log.now }
+    ensures { IsTrue result ↔ AnswersAside log.now done.now (Call.Del key) done.now.reply }
+{
+    match done.reply {
+        Reply::Some(old) => {
+            has_entry(log, done.point, done.seat, Change::Del { key }, Some(old))
+        }
+        Reply::None => has_at(log, done.point, key, None),
+        Reply::Worn { .. } => true,
+        _ => false,
+    }
+}
+
+// Whether a range up to here ends where a reply may.
+fn answers_range(log: &[Entry], done: &Done, low: u64, high: u64) -> bool
+    ensures { IsTrue result ↔ AnswersAside log.now done.now (Call.Range low high) done.now.reply }
+{
+    match done.reply {
+        Reply::Rows { upto } => low <= upto && upto <= high,
+        _ => false,
+    }
+}
+
+/// Whether a finished call is answered at its point, the rows of a range aside.
+pub(crate) fn is_answered(log: &[Entry], done: &Done) -> bool
+    ensures { IsTrue result ↔ ((done.now.point ≤ length log.now) × AnswersAside log.now done.now done.now.call done.now.reply) }
+{
+    if done.point > log.len() as u64 {
+        return false;
+    }
+    match done.call {
+        Call::Get { key } => answers_get(log, done, key),
+        Call::Put { key, value } => answers_put(log, done, key, value),
+        Call::Del { key } => answers_del(log, done, key),
+        Call::Range { low, high } => answers_range(log, done, low, high),
+    }
+}

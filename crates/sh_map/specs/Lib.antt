@@ -3,3 +3,4 @@ pub mod Calls
 pub mod Log
 pub mod Book
 pub mod Points
+pub mod Rows

@@ -38,6 +38,13 @@ impl Rows {
         }
     }
 
+    /// These rows.
+    pub(crate) fn of(rows: Vec<Row>) -> Rows
+        ensures { result ≡ rows.items }
+    {
+        Rows { rows }
+    }
+
     /// The rows.
     pub fn as_slice(&self) -> &[Row]
         ensures { result.now ≡ self.now }

@@ -4,10 +4,12 @@
 mod book;
 mod call;
 mod log;
+mod plain_map;
 
 pub use book::{Book, Done, Dones, Row, Rows};
 pub use call::{Call, Reply};
 pub use log::{Change, Entry, Log};
+pub use plain_map::PlainMap;
 
 #[cfg(test)]
 mod tests {

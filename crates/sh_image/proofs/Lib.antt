@@ -1,0 +1,6 @@
+mod ColumnLemmas
+pub mod EntriesLemmas
+pub mod LeafLemmas
+mod ReadLemmas
+mod EmptyLemmas
+mod WriteLemmas

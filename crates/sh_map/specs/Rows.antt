@@ -1,0 +1,31 @@
+-- A map as a list of rows with rising keys.
+use Rattle.std.specs.Prelude.{◌≡◌, ℕ, ◌<◌, ◌≤◌, List, [], length, map, slice_index_or, T}
+use Rattle.std.specs.Ordering.{nat_cmp}
+use Rattle.std.specs.FinMap.{from_sorted, is_sorted}
+use Rattle.sh_map.specs.declared.book.Row.{Row}
+use Rattle.sh_map.specs.Map.{Map, pair_of}
+
+-- each row's key is below the next one's
+abbrev pub IsRising : List Row → Type 0
+IsRising rows = T (is_sorted nat_cmp (map pair_of rows))
+
+abbrev pub map_of_rows : List Row → Map
+map_of_rows rows = from_sorted (map pair_of rows)
+
+-- stands for a row behind the last
+abbrev pub nothing : Row
+nothing = record { key = 0; value = [] }
+
+abbrev pub key_at : List Row → ℕ → ℕ
+key_at rows i = let row = slice_index_or rows i nothing in row.key
+
+-- the row at place i has the key
+pub record IsAt (rows : List Row) (key i : ℕ) : Type 0 where
+  pub in_range : i < length rows
+  pub has_key : key_at rows i ≡ key
+
+-- the key would go at place i
+pub record IsGapFor (rows : List Row) (key i : ℕ) : Type 0 where
+  pub in_range : i ≤ length rows
+  pub smaller_before : (j : ℕ) → j < i → key_at rows j < key
+  pub greater_after : (j : ℕ) → i ≤ j → j < length rows → key < key_at rows j

@@ -1,9 +1,8 @@
 -- A front of a text that is written part by part.
-use Rattle.std.proofs.Common.{ℕ, ◌≡◌, ◌<◌, ◌+◌, length, List, ◌++◌, Option, Result, Ok, Err, true, take, drop, get_or, sym, ap, ◌∙◌, append_assoc}
+use Rattle.std.proofs.Common.{ℕ, ◌≡◌, ◌<◌, ◌+◌, length, List, ◌++◌, Option, take, drop, get_or, sym, ap, ◌∙◌, append_assoc}
 use Rattle.std.proofs.lemmas.List.{drop_more, take-append-drop}
 use Rattle.std.proofs.lemmas.List.Concat.{flat_map-append}
 use Rattle.std.specs.List.{flat_map}
-use Rattle.std.specs.Result.{is_err, OnErr}
 use Rattle.std.specs.Io.KnownBytes.{Appends}
 use Rattle.sh_sheet.specs.Port.{AppendsFront}
 use Rattle.sh_sheet.proofs.Bytes.{appends_more}

@@ -22,7 +22,7 @@ pub use loops::{Bytes, Intake, MOST_BYTES, read_all, write_all};
 pub use number::parse_number;
 pub use port::{Failed, Sink, Source};
 pub use records::{known_sheets, records_of};
-pub use sheet::{Sheet, read_sheet};
+pub use sheet::{MOST_CALLS, Sheet, read_sheet};
 pub use status::{RowCause, Status};
 pub use std_port::{StdSink, StdSource};
 pub use sure::{SureSink, SureSource};

@@ -64,7 +64,7 @@ fn get(leaf: &LeafImage, key: u64) -> Reply
 }
 
 // The value that an empty entry has.
-fn zero_value(cfg: &Config) -> Value
+pub fn zero_value(cfg: &Config) -> Value
     ensures { result ≡ replicate (parts_of cfg.now).value_words 0 }
 {
     let zeros = [0; 8];

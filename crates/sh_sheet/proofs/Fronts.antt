@@ -27,4 +27,3 @@ parts_at f xs i = ap (flat_map f) (sym (take-append-drop i xs)) ∙ flat_map-app
 -- the texts before the one at i, that one, and those after it
 pub part_at : {X : Type 0} (f : X → List ℕ) (xs : List X) (i : ℕ) (d : X) → i < length xs → flat_map f xs ≡ flat_map f (take i xs) ++ (f (get_or xs i d) ++ flat_map f (drop (i + 1) xs))
 part_at f xs i d h = parts_at f xs i ∙ ap (λ t. flat_map f (take i xs) ++ flat_map f t) (drop_more xs i d h)
-

@@ -1,5 +1,5 @@
 -- A world: its words, its log and its finished calls.
-use Rattle.std.specs.Prelude.{◌≡◌, ◌≢◌, ℕ, ◌+◌, ◌-◌, ◌^◌, ◌<◌, ◌≤◌, ◌⊎◌, List, [], length, replicate, slice_index, Option, Some, None}
+use Rattle.std.specs.Prelude.{◌≡◌, ◌≢◌, ℕ, ◌+◌, ◌-◌, ◌^◌, ◌<◌, ◌≤◌, ◌⊎◌, List, [], length, replicate, slice_index, slice_set, Option, Some, None}
 use Rattle.sh_base.specs.declared.config.ConfigParts.{ConfigParts}
 use Rattle.sh_base.specs.Setting.{node_size, pool_words}
 use Rattle.sh_base.specs.Layout.{node_word, node_part, root_word, counter_word}
@@ -39,6 +39,10 @@ pub record AreLaid (p : ConfigParts) (words : List ℕ) : Type 0 where
   pub root : slice_index words root_word ≡ first_leaf
   pub counter : slice_index words (counter_word p 0) ≡ 1
   pub zeros : (i : ℕ) → i ≢ root_word → i ≢ counter_word p 0 → (i < node_word p first_leaf) ⊎ (node_word p first_leaf + node_size p ≤ i) → slice_index words i ≡ 0
+
+-- the words of a laid pool, but for the leaf's
+abbrev pub bare_words : ConfigParts → List ℕ
+bare_words p = slice_set (slice_set (replicate (pool_words p) 0) root_word first_leaf) (counter_word p 0) 1
 
 -- a world that holds a run, with room for a node's words
 pub record IsServing (p : ConfigParts) (w : World) : Type 0 where

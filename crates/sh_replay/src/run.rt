@@ -1,48 +1,25 @@
 // Calls, one after another, on a world's one leaf.
-ghost use Rattle.std.specs.Prelude.{◌≡◌, ◌∷◌, ◌++◌, ◌<◌, ◌≤◌, [], length, map, All, IfOk, OnOk, MatchOption};
+ghost use Rattle.std.specs.Prelude.{◌≡◌, ◌∷◌, ◌++◌, ◌<◌, ◌≤◌, [], length, map, All, IfOk, OnOk};
 ghost use Rattle.sh_base.specs.Parts.{parts_of};
-ghost use Rattle.sh_map.specs.declared.call.Call.TheVariants as call;
 ghost use Rattle.sh_map.specs.Calls.{IsInRange};
 ghost use Rattle.sh_sheet.specs.declared.item.Item.TheVariants.{Ask};
 ghost use Rattle.sh_sheet.specs.Sheet.{IsLawfulItem};
-ghost use Rattle.sh_replay.specs.Replies.{IsOneKey, entries_by};
+ghost use Rattle.sh_replay.specs.Replies.{IsOneKey};
 ghost use Rattle.sh_replay.specs.Runs.{item_of};
-ghost use Rattle.sh_replay.specs.Worlds.{words_of, log_of, dones_of, IsBlank, AreLaid, IsServing};
+ghost use Rattle.sh_replay.specs.Worlds.{words_of, log_of, dones_of, bare_words, IsBlank, AreLaid, IsServing};
 
 use crate::World;
 use crate::node::write_node;
 use crate::serve::{FIRST_LEAF, serve, zero_value};
 use sh_base::Config;
 use sh_image::{LeafImage, write_leaf};
-use sh_map::{Call, Change, Done, Entry, Reply, Rows};
+use sh_map::{Call, Done, Entry, Rows, log_call};
 use std::alloc::{AllocError, Global};
 
-// The entry that a call with this reply makes.
-fn entry_by(seat: u32, call: Call, reply: Reply) -> Option<Entry>
-    ensures { MatchOption result (entries_by seat call reply ≡ []) (λ e. entries_by seat call reply ≡ e ∷ []) }
-{
-    match (call, reply) {
-        (Call::Put { key, value }, Reply::Some(old)) => Some(Entry {
-            seat,
-            change: Change::Put { key, value },
-            old: Some(old),
-        }),
-        (Call::Put { key, value }, Reply::None) => Some(Entry {
-            seat,
-            change: Change::Put { key, value },
-            old: None,
-        }),
-        (Call::Del { key }, Reply::Some(old)) => Some(Entry {
-            seat,
-            change: Change::Del { key },
-            old: Some(old),
-        }),
-        _ => None,
-    }
-}
-
 // The words of a laid pool, but for the first leaf's.
-fn bare_words(alloc: Global, cfg: &Config) -> Result<Vec<u64>, AllocError> {
+fn bare_words(alloc: Global, cfg: &Config) -> Result<Vec<u64>, AllocError>
+    ensures { IfOk result (λ v. v.items ≡ bare_words (parts_of cfg.now)) }
+{
     let mut words = vec![in alloc; 0; cfg.words() as usize]?;
     words[1] = u64::from(FIRST_LEAF);
     words[cfg.counter_word(0) as usize] = 1;
@@ -84,26 +61,30 @@ impl World {
     }
 
     // Serves one call of a seat. After want of memory the world holds the run that it held.
-    fn serve(&mut self, alloc: Global, cfg: &Config, seat: u32, call: Call) -> Result<(), AllocError>
+    fn serve(
+        &mut self,
+        alloc: Global,
+        cfg: &Config,
+        seat: u32,
+        call: &Call,
+    ) -> Result<(), AllocError>
         requires run { IsServing (parts_of cfg.now) self.old }
-        requires one_key { IsOneKey call }
-        requires in_range { IsInRange (parts_of cfg.now) call }
+        requires one_key { IsOneKey call.now }
+        requires in_range { IsInRange (parts_of cfg.now) call.now }
         requires few { length (dones_of self.old) < 4294967295 }
         ensures run { IsServing (parts_of cfg.now) self.new }
-        ensures ok { OnOk result (map item_of (dones_of self.new) ≡ map item_of (dones_of self.old) ++ Ask seat call ∷ []) }
+        ensures ok { OnOk result (map item_of (dones_of self.new) ≡ map item_of (dones_of self.old) ++ Ask seat call.now ∷ []) }
     {
         self.log.reserve(1)?;
         self.dones.reserve(1)?;
         let first = self.log.len() as u64;
         let n = self.dones.len() as u32 + 1;
         let reply = serve(cfg, &mut self.words, &mut self.node, call);
-        if let Some(entry) = entry_by(seat, call, reply) {
-            self.log.push_reserved(entry);
-        }
+        log_call(&mut self.log, seat, call, &reply);
         self.dones.push_reserved(Done {
             n,
             seat,
-            call,
+            call: *call,
             reply,
             first,
             point: first,

@@ -41,6 +41,15 @@ impl Value {
         }
     }
 
+    /// How many words it has: 1 to 8.
+    pub fn len(&self) -> usize
+        ensures len { result ≡ length self.now }
+        ensures low { 1 ≤ result }
+        ensures high { result ≤ 8 }
+    {
+        self.count as usize
+    }
+
     /// Its words.
     pub fn words(&self) -> &[u64]
         ensures { result.now ≡ self.now }

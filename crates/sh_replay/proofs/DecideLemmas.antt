@@ -1,15 +1,15 @@
 -- What a leaf makes of each call.
-use Rattle.std.proofs.Common.{◌≡◌, ◌≢◌, ◌⊎◌, ℕ, zero, suc, ◌+◌, ◌<◌, ◌≤◌, Bool, true, false, eqb, List, length, replicate, Option, Some, None, refl, sym, ap, ◌∙◌, subst, inl, inr, arith}
+use Rattle.std.proofs.Common.{◌≡◌, ◌≢◌, ℕ, ◌<◌, List, length, replicate, Option, Some, None, refl, sym, ap, ◌∙◌, inl, inr, arith}
 use Rattle.std.proofs.lemmas.Bool.{cases_eq, cases_lt, eq-eqb}
 use Rattle.std.proofs.lemmas.List.{length-replicate}
 use Rattle.sh_base.specs.declared.config.ConfigParts.{ConfigParts}
 use Rattle.sh_base.specs.Setting.{last_version}
 use Rattle.sh_map.specs.declared.call.Call.{Call}
-use Rattle.sh_map.specs.declared.call.Call.TheVariants.{Get, Put, Del}
+use Rattle.sh_map.specs.declared.call.Call.TheVariants.{Put, Del}
 use Rattle.sh_map.specs.declared.call.Reply.TheVariants as reply
 use Rattle.sh_map.specs.Book.{made}
 use Rattle.sh_image.specs.Leaf.{Leaf, IsLeaf}
-use Rattle.sh_edit.specs.Held.{held, has_room, value_at, key_at, HasKeysOnce}
+use Rattle.sh_edit.specs.Held.{has_room, value_at, key_at, HasKeysOnce}
 use Rattle.sh_edit.specs.Placing.{IsFirstWith, HasNone}
 use Rattle.sh_edit.specs.Rewriting.{rewritten}
 use Rattle.sh_edit.proofs.HeldLemmas.{differ_test, held_at, held_none}
@@ -17,8 +17,7 @@ use Rattle.sh_edit.proofs.RewriteLemmas.{rewritten_over, rewritten_new, rewritte
 use Rattle.sh_edit.proofs.RoomLemmas.{room_at, room_none}
 use Rattle.sh_replay.specs.Replies.{answer, unless_worn, put_reply, del_reply}
 use Rattle.sh_replay.specs.Leaves.{leaf_reply, IsFor, IsNextLeaf}
-use Rattle.sh_replay.specs.Decisions.{Effect, IsDecided, unless_last}
-use Rattle.sh_replay.specs.declared.decision.Decision.{Decision}
+use Rattle.sh_replay.specs.Decisions.{IsDecided, unless_last}
 
 module _ (p : ConfigParts) (a : Leaf) where
   -- an update that writes: the reply unless the leaf is worn, and the next leaf

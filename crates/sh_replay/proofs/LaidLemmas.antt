@@ -1,24 +1,19 @@
 -- A laid pool, and the run of no calls on it.
-use Rattle.std.proofs.Common.{◌≡◌, ◌≢◌, ◌⊎◌, ℕ, zero, suc, ◌+◌, ◌-◌, ◌*◌, ◌^◌, ◌<◌, ◌≤◌, List, [], ◌∷◌, length, get_or, set, replicate, refl, sym, ap, ◌∙◌, subst, inl, inr, arith}
+use Rattle.std.proofs.Common.{◌≡◌, ◌≢◌, ◌⊎◌, ℕ, zero, suc, ◌+◌, ◌-◌, ◌^◌, ◌<◌, ◌≤◌, List, [], length, set, replicate, refl, sym, ap, ◌∙◌, subst, inl, arith}
 use Rattle.std.specs.Prelude.{slice_index}
 use Rattle.std.specs.List.{AllByRecursion}
 use Rattle.std.specs.FinMap.{from_entries}
 use Rattle.std.proofs.lemmas.List.{length-replicate, length-set, get_or-set_same, get_or-set_other}
 use Rattle.sh_base.specs.declared.config.ConfigParts.{ConfigParts}
-use Rattle.sh_base.specs.Setting.{nodes, last_version, node_size, pool_words, IsSetting}
+use Rattle.sh_base.specs.Setting.{node_size, pool_words, IsSetting}
 use Rattle.sh_base.specs.Layout.{root_word, counter_word, node_word, node_part}
 use Rattle.sh_base.specs.Places.{Counter}
 use Rattle.sh_base.proofs.LayoutLemmas.{node_word_low}
 use Rattle.sh_base.proofs.PlacesLemmas.{are_places_apart}
-use Rattle.sh_map.specs.declared.log.Entry.{Entry}
-use Rattle.sh_map.specs.declared.book.Done.{Done}
-use Rattle.sh_map.specs.Log.{map_of}
-use Rattle.sh_map.specs.Book.{IsLawful}
-use Rattle.sh_image.specs.declared.leaf.LeafEntry.{LeafEntry}
 use Rattle.sh_image.specs.Leaf.{Leaf, leaf_in, leaf_words, empty_entry, IsEntry, IsLeaf, Spells}
 use Rattle.sh_image.proofs.LeafLemmas.{leaf_in-leaf_words, values_of}
 use Rattle.sh_edit.specs.Held.{pairs_of, map_of_entries, key_at, HasKeysOnce}
-use Rattle.sh_replay.specs.Leaves.{first_leaf, leaf_of, HasLeaf}
+use Rattle.sh_replay.specs.Leaves.{first_leaf, leaf_of}
 use Rattle.sh_replay.specs.Runs.{IsRun}
 use Rattle.sh_replay.specs.Worlds.{empty_leaf, bare_words, AreLaid}
 

@@ -5,3 +5,5 @@ pub mod ReplyLemmas
 pub mod RunLemmas
 pub mod LaidLemmas
 pub mod WorldLemmas
+pub mod PairLemmas
+pub mod TextLemmas

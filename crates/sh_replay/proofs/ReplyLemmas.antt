@@ -1,9 +1,9 @@
 -- What a reply tells of what the key had.
-use Rattle.std.proofs.Common.{◌≡◌, ℕ, Bool, true, false, List, Option, Some, None, refl, subst, sym, eqb}
+use Rattle.std.proofs.Common.{◌≡◌, ℕ, Bool, true, false, List, Option, Some, None, refl, eqb}
 use Rattle.std.specs.Prelude.{if◌then◌else◌}
 use Rattle.sh_map.specs.declared.call.Reply.{Reply}
 use Rattle.sh_map.specs.declared.call.Reply.TheVariants as reply
-use Rattle.sh_replay.specs.Replies.{answer, unless_worn, put_reply, del_reply}
+use Rattle.sh_replay.specs.Replies.{answer, put_reply, del_reply}
 
 -- the replies of an update
 abbrev pub IsUpdateReply : Reply → Type 0

@@ -1,11 +1,11 @@
 -- A run that goes on by one call.
-use Rattle.std.proofs.Common.{◌≡◌, ◌≢◌, ◌⊎◌, ℕ, zero, suc, ◌+◌, ◌-◌, ◌^◌, ◌<◌, ◌≤◌, Bool, true, false, List, [], ◌∷◌, ◌++◌, length, length-append, get_or, map, Option, Some, None, refl, sym, ap, ◌∙◌, subst, inl, inr, arith}
-use Rattle.std.specs.Prelude.{slice_get, nat_lt, All, Any, IsSome}
+use Rattle.std.proofs.Common.{◌≡◌, ◌≢◌, ◌⊎◌, ℕ, ◌+◌, ◌<◌, ◌≤◌, Bool, List, [], ◌∷◌, ◌++◌, length, length-append, get_or, Option, Some, None, refl, sym, ap, ◌∙◌, subst, inl, inr, arith}
+use Rattle.std.specs.Prelude.{slice_get, nat_lt, All, Any}
 use Rattle.std.proofs.lemmas.Bool.{cases_lt}
 use Rattle.std.proofs.lemmas.List.{append-nil, get_or_append_left, take-append-le, take_all}
 use Rattle.std.proofs.lemmas.List.Quantifiers.{Any-push}
 use Rattle.std.proofs.lemmas.Option.{get_or_from_slice_get, slice_get_within}
-use Rattle.std.proofs.lemmas.List.Elements.{All-push, All-weaker}
+use Rattle.std.proofs.lemmas.List.Elements.{All-push}
 use Rattle.sh_base.specs.declared.config.ConfigParts.{ConfigParts}
 use Rattle.sh_base.specs.Setting.{last_version}
 use Rattle.sh_map.specs.declared.call.Call.{Call}
@@ -15,11 +15,11 @@ use Rattle.sh_map.specs.declared.call.Reply.TheVariants as reply
 use Rattle.sh_map.specs.declared.log.Change.TheVariants as change
 use Rattle.sh_map.specs.declared.log.Entry.{Entry}
 use Rattle.sh_map.specs.declared.book.Done.{Done}
-use Rattle.sh_map.specs.Map.{Map, get, put, del, size}
-use Rattle.sh_map.specs.Log.{key_of, changed, map_of, map_at, IsNext}
+use Rattle.sh_map.specs.Map.{Map, get, size}
+use Rattle.sh_map.specs.Log.{changed, map_of, map_at, IsNext}
 use Rattle.sh_map.specs.Book.{entry_of, made, AnswersAt, Answers, IsOwn, IsLater}
 use Rattle.sh_map.proofs.BookLemmas.{IsLawful-push_entry, IsLawful-push_done}
-use Rattle.sh_map.proofs.LogLemmas.{map_at-push, map_at-length, map_of-push}
+use Rattle.sh_map.proofs.LogLemmas.{map_at-push, map_of-push}
 use Rattle.sh_replay.specs.Replies.{IsOneKey, key_in, reply_of, changed_by}
 use Rattle.sh_map.specs.Made.{entries_by}
 use Rattle.sh_edit.specs.Held.{held, has_room, map_of_entries}

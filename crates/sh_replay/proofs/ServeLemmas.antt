@@ -1,18 +1,15 @@
 -- A call served, from what was decided and written.
-use Rattle.std.proofs.Common.{◌≡◌, ◌⊎◌, ℕ, ◌+◌, ◌<◌, ◌≤◌, List, length, Option, Some, None, refl, sym, ap, ◌∙◌, subst, arith}
-use Rattle.std.specs.Prelude.{slice_index}
+use Rattle.std.proofs.Common.{◌≡◌, ℕ, List, length, Some, None, refl, sym, ap, ◌∙◌, subst, arith}
 use Rattle.sh_base.specs.declared.config.ConfigParts.{ConfigParts}
-use Rattle.sh_base.specs.Setting.{node_size, pool_words}
-use Rattle.sh_base.specs.Layout.{node_part, node_word}
+use Rattle.sh_base.specs.Setting.{pool_words}
+use Rattle.sh_base.specs.Layout.{node_part}
 use Rattle.sh_map.specs.declared.call.Call.{Call}
 use Rattle.sh_map.specs.declared.call.Reply.{Reply}
-use Rattle.sh_map.specs.Book.{made}
 use Rattle.sh_image.specs.Leaf.{Leaf, leaf_in, leaf_words, Spells}
 use Rattle.sh_image.proofs.LeafLemmas.{leaf_in-leaf_words, values_of}
 use Rattle.sh_edit.specs.Held.{HasKeysOnce}
-use Rattle.sh_replay.specs.declared.decision.Decision.{Decision}
 use Rattle.sh_replay.specs.Leaves.{first_leaf, leaf_of, leaf_reply, HasLeaf, IsNextLeaf, IsServed, SameElsewhere}
-use Rattle.sh_replay.specs.Decisions.{Effect, IsDecided}
+use Rattle.sh_replay.specs.Decisions.{Effect}
 
 module _ (p : ConfigParts) (old : List ℕ) (call : Call) where
   -- a leaf that was written is the leaf that the words spell

@@ -1,15 +1,17 @@
 -- A world: its words, its log and its finished calls.
-use Rattle.std.specs.Prelude.{◌≡◌, ◌≢◌, ℕ, ◌+◌, ◌-◌, ◌^◌, ◌<◌, ◌≤◌, ◌⊎◌, List, [], length, replicate, slice_index, slice_set, Option, Some, None}
+use Rattle.std.specs.Prelude.{◌≡◌, ◌≢◌, ℕ, ◌+◌, ◌-◌, ◌^◌, ◌<◌, ◌≤◌, ◌⊎◌, List, [], length, map, replicate, slice_index, slice_set}
 use Rattle.sh_base.specs.declared.config.ConfigParts.{ConfigParts}
 use Rattle.sh_base.specs.Setting.{node_size, pool_words}
 use Rattle.sh_base.specs.Layout.{node_word, node_part, root_word, counter_word}
 use Rattle.sh_map.specs.declared.log.Entry.{Entry}
 use Rattle.sh_map.specs.declared.book.Done.{Done}
-use Rattle.sh_map.specs.declared.call.Call.{Call}
-use Rattle.sh_map.specs.declared.call.Reply.{Reply}
+use Rattle.sh_map.specs.declared.book.Row.{Row}
+use Rattle.sh_map.specs.Map.{pair_of}
+use Rattle.sh_sheet.specs.declared.item.Item.{Item}
+use Rattle.sh_replay.specs.Pairs.{pairs_in}
 use Rattle.sh_image.specs.Leaf.{Leaf, leaf_words, empty_entry}
 use Rattle.sh_replay.specs.Leaves.{first_leaf}
-use Rattle.sh_replay.specs.Runs.{IsRun}
+use Rattle.sh_replay.specs.Runs.{item_of, IsRun}
 use Rattle.sh_replay.specs.declared.world.World.{World}
 
 abbrev pub words_of : World → List ℕ
@@ -48,3 +50,10 @@ bare_words p = slice_set (slice_set (replicate (pool_words p) 0) root_word first
 pub record IsServing (p : ConfigParts) (w : World) : Type 0 where
   pub run : IsRun p (words_of w) (log_of w) (dones_of w)
   pub room : length w.node.items ≡ node_size p
+
+-- a world that has served these items, and the pairs of its words
+pub record HasServed (p : ConfigParts) (items : List Item) (w : World) (rows : List Row) : Type 0 where
+  pub calls : map item_of (dones_of w) ≡ items
+  pub run : IsRun p (words_of w) (log_of w) (dones_of w)
+  pub pairs : map pair_of rows ≡ pairs_in p (words_of w)
+  pub few : length rows ≤ 64

@@ -3,8 +3,12 @@
 
 mod decision;
 mod node;
+mod pairs;
+mod replay;
 mod run;
 mod serve;
 mod world;
 
+pub use pairs::{pairs_in, sum_of};
+pub use replay::replay_top;
 pub use world::World;

@@ -74,8 +74,8 @@ impl World {
         &self.dones
     }
 
-    // A world whose pool is laid: its log is empty, and no call has ended.
-    fn laid(alloc: Global, cfg: &Config) -> Result<World, AllocError>
+    /// A world whose pool is laid: its log is empty, and no call has ended.
+    pub fn laid(alloc: Global, cfg: &Config) -> Result<World, AllocError>
         ensures laid { IfOk result (λ w. AreLaid (parts_of cfg.now) (words_of w)) }
         ensures run { IfOk result (λ w. IsServing (parts_of cfg.now) w) }
         ensures log { IfOk result (λ w. log_of w ≡ []) }
@@ -92,9 +92,15 @@ impl World {
         })
     }
 
-    // Serves the calls of these items, one after another. After want of memory the world holds the run of those that
-    // were served.
-    fn serve_all(&mut self, alloc: Global, cfg: &Config, items: &[Item]) -> Result<(), AllocError>
+    /// Serves the calls of these items, one after another. After want of memory the world holds the run of those that
+    /// were served. Conditions: the pool is laid, no call was served, the items are gets, puts and deletes in range,
+    /// and there are at most 1,000,000.
+    pub fn serve_all(
+        &mut self,
+        alloc: Global,
+        cfg: &Config,
+        items: &[Item],
+    ) -> Result<(), AllocError>
         requires run { IsServing (parts_of cfg.now) self.old }
         requires fresh { dones_of self.old ≡ [] }
         requires lawful { All (IsLawfulItem (parts_of cfg.now)) items.now }

@@ -114,7 +114,7 @@ fn decide(cfg: &Config, leaf: &LeafImage, call: &Call) -> Decision
 }
 
 // The leaf of node 1, whose words are loaded into `node`.
-fn load(cfg: &Config, words: &[u64], node: &mut [u64]) -> LeafImage
+pub fn load(cfg: &Config, words: &[u64], node: &mut [u64]) -> LeafImage
     requires leaf { HasLeaf (parts_of cfg.now) words.now }
     requires room { length node.old ≡ node_size (parts_of cfg.now) }
     ensures leaf { result ≡ leaf_of (parts_of cfg.now) words.now }

@@ -1,5 +1,4 @@
-use Rattle.std.proofs.Common.{◌≡◌, ℕ, ◌+◌, ◌-◌, ◌<◌, ◌≤◌, ◌⊎◌, length, get_or}
-use Rattle.sh_base.specs.Setting.{node_size}
+use Rattle.std.proofs.Common.{◌≡◌, ℕ, ◌+◌, ◌<◌, ◌≤◌, ◌⊎◌, length, get_or}
 use Rattle.sh_base.specs.Layout.{node_word}
 use Rattle.sh_replay.proofs.node.write_node.Given as goal
 

@@ -1,6 +1,4 @@
-use Rattle.std.proofs.Common.{ℕ, List, ap, ◌∙◌, replicate}
-use Rattle.sh_image.specs.declared.leaf.LeafEntry.{LeafEntry}
-use Rattle.sh_image.specs.Leaf.{Leaf}
+use Rattle.std.proofs.Common.{◌∙◌, replicate}
 use Rattle.sh_replay.proofs.LaidLemmas.{are_laid}
 use Rattle.sh_replay.proofs.run.write_empty_leaf.Goals as goal
 

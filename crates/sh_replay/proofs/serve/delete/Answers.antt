@@ -1,4 +1,4 @@
-use Rattle.std.proofs.Common.{◌≡◌, ℕ, List, sym, ap, ◌∙◌, subst}
+use Rattle.std.proofs.Common.{ℕ, List, sym, ap, ◌∙◌, subst}
 use Rattle.sh_map.specs.declared.call.Call.TheVariants.{Del}
 use Rattle.sh_map.specs.declared.call.Reply.TheVariants as reply
 use Rattle.sh_edit.specs.Rewriting.{rewritten}

@@ -1,5 +1,5 @@
 use Rattle.std.proofs.Common.{sym, ◌∙◌, ap, subst}
-use Rattle.sh_image.specs.Leaf.{Spells, leaf_in}
+use Rattle.sh_image.specs.Leaf.{leaf_in}
 use Rattle.sh_image.specs.Seen.{SeenBy}
 use Rattle.sh_image.proofs.LeafLemmas.{spelled_one}
 use Rattle.sh_image.proofs.UntornLemmas.{seen_spelled}

@@ -1,4 +1,4 @@
-use Rattle.std.proofs.Common.{◌≡◌, ◌∙◌, subst}
+use Rattle.std.proofs.Common.{◌∙◌, subst}
 use Rattle.sh_image.specs.Leaf.{Leaf}
 use Rattle.sh_replay.specs.Decisions.{Effect, IsDecided}
 use Rattle.sh_replay.specs.Leaves.{leaf_of}

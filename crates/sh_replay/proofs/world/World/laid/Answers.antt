@@ -1,4 +1,4 @@
-use Rattle.std.proofs.Common.{◌≡◌, ℕ, [], ap, ◌∙◌, sym, length, subst, arith}
+use Rattle.std.proofs.Common.{◌≡◌, [], ap, ◌∙◌, sym, length, subst}
 use Rattle.std.proofs.lemmas.List.{take_at}
 use Rattle.sh_replay.specs.Runs.{IsRun}
 use Rattle.sh_replay.proofs.LaidLemmas.{laid_run, length_bare}

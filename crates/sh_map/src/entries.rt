@@ -9,8 +9,8 @@ use sh_base::Value;
 use std::alloc::{AllocError, Global};
 
 /// Whether two values, or two wants of a value, are the same.
-pub(crate) fn same(a: Option<Value>, b: Option<Value>) -> bool
-    ensures { IsTrue result ↔ (a ≡ b) }
+pub(crate) fn same(a: &Option<Value>, b: &Option<Value>) -> bool
+    ensures { IsTrue result ↔ (a.now ≡ b.now) }
 {
     match (a, b) {
         (Some(a), Some(b)) => a.words() == b.words(),
@@ -27,7 +27,7 @@ fn is_next(map: &PlainMap, entry: &Entry) -> bool
         Change::Put { .. } => true,
         Change::Del { .. } => entry.old.is_some(),
     };
-    removes && same(entry.old, map.get(entry.change.key()))
+    removes && same(&entry.old, &map.get(entry.change.key()))
 }
 
 // How many entries a call with this reply has made.

@@ -27,7 +27,7 @@ fn left_at(log: &[Entry], key: u64) -> Option<Value>
 fn is_change(a: Change, b: Change) -> bool
     ensures { IsTrue result ↔ (a ≡ b) }
 {
-    a.key() == b.key() && same(a.left(), b.left())
+    a.key() == b.key() && same(&a.left(), &b.left())
 }
 
 // Whether this is the entry at a place.
@@ -36,7 +36,7 @@ fn has_entry(log: &[Entry], at: u64, seat: u32, change: Change, old: Option<Valu
 {
     match log.get(at as usize) {
         Some(entry) => {
-            entry.seat == seat && is_change(entry.change, change) && same(entry.old, old)
+            entry.seat == seat && is_change(entry.change, change) && same(&entry.old, &old)
         }
         None => false,
     }
@@ -47,7 +47,7 @@ fn has_at(log: &[Entry], point: u64, key: u64, had: Option<Value>) -> bool
     requires { point ≤ length log.now }
     ensures { IsTrue result ↔ (get (map_at log.now point) key ≡ had) }
 {
-    same(left_at(&log[..point as usize], key), had)
+    same(&left_at(&log[..point as usize], key), &had)
 }
 
 // Whether a get of this key is answered so at its point.

@@ -30,8 +30,8 @@ fn is_next(map: &PlainMap, entry: &Entry) -> bool
     removes && same(&entry.old, &map.get(entry.change.key()))
 }
 
-// How many entries a call with this reply has made.
-fn made(call: Call, reply: Reply) -> u64
+/// How many entries a call with this reply has made.
+pub(crate) fn made(call: Call, reply: Reply) -> u64
     ensures { result ≡ made call reply }
 {
     match (call, reply) {

@@ -4,14 +4,14 @@
 mod book;
 mod call;
 mod entries;
-mod judge;
 mod log;
+mod misfit;
 mod plain_map;
 mod ranges;
 mod replies;
 
 pub use book::{Book, Done, Dones, Row, Rows};
 pub use call::{Call, Reply};
-pub use judge::Misfit;
 pub use log::{Change, Entry, Log};
+pub use misfit::{Misfit, judge};
 pub use plain_map::PlainMap;

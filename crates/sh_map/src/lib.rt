@@ -4,6 +4,7 @@
 mod book;
 mod call;
 mod entries;
+mod laws;
 mod log;
 mod misfit;
 mod plain_map;
@@ -12,6 +13,7 @@ mod replies;
 
 pub use book::{Book, Done, Dones, Row, Rows};
 pub use call::{Call, Reply};
+pub use laws::{book_laws, get_laws, log_laws};
 pub use log::{Change, Entry, Log};
 pub use misfit::{Misfit, judge};
 pub use plain_map::PlainMap;

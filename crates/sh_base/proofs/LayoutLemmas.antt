@@ -1,12 +1,13 @@
 -- Linear facts about the layout: proofs above cite these and never multiply.
-use Rattle.std.proofs.Common.{◌≡◌, ℕ, zero, suc, ◌+◌, ◌-◌, ◌*◌, ◌<◌, ◌≤◌, ◌≢◌, List, [], ◌∷◌, length, get_or, set, take, drop, refl, ap, ◌∙◌, inl, inr, ◌⊎◌, arith}
+use Rattle.std.proofs.Common.{◌≡◌, ℕ, zero, suc, ◌+◌, ◌-◌, ◌*◌, ◌<◌, ◌≤◌, ◌≢◌, List, [], ◌∷◌, length, get_or, set, take, drop, refl, ap, subst, ◌∙◌, inl, inr, ◌⊎◌, rules, arith}
 use Rattle.std.proofs.Math.Nat.{mul-le-mul_left, mul-le-mul_right}
 use Rattle.std.proofs.lemmas.Nat.{mul-le}
 use Rattle.std.proofs.lemmas.Bool.{cases_lt}
 use Rattle.std.proofs.lemmas.List.{take-set-le, drop-set-lt, drop-set-add, length-drop, length-take-le, get_or-take, get_or-drop}
 use Rattle.sh_base.specs.declared.config.ConfigParts.{ConfigParts}
-use Rattle.sh_base.specs.Setting.{nodes, entry_size, node_size, first_node_word, pool_words, IsNode, IsRanged, IsSetting}
-use Rattle.sh_base.specs.Layout.{node_word, entry_at, rear_at, node_part}
+use Rattle.sh_base.specs.Setting.{nodes, entry_size, node_size, first_node_word, pool_words, IsNode, IsRanged, IsSetting, default_parts}
+use Rattle.sh_base.specs.Layout.{node_word, entry_at, rear_at, node_part, entry_part}
+use Rattle.sh_base.specs.Places.{IsInEntry}
 
 -- a store among the first n words
 pub take_set_in : {X : Type 0} → (n : ℕ) (xs : List X) (i : ℕ) (y : X) → i < n → take n (set xs i y) ≡ set (take n xs) i y
@@ -14,6 +15,17 @@ take_set_in zero xs i y h = absurd (omega arith)
 take_set_in (suc n) [] i y h = refl
 take_set_in (suc n) (x ∷ xs) zero y h = refl
 take_set_in (suc n) (x ∷ xs) (suc i) y h = ap (λ l. x ∷ l) (take_set_in n xs i y (omega arith))
+
+-- a store outside a range of words leaves the range
+pub range_outside : (words : List ℕ) (start size at word : ℕ) → (at < start) ⊎ (start + size ≤ at) → take size (drop start (set words at word)) ≡ take size (drop start words)
+range_outside words start size at word (inl before) = ap (take size) (drop-set-lt start words at word before)
+range_outside words start size at word (inr behind) =
+    let e : at ≡ start + (at - start) = omega arith in
+    rw e (ap (take size) (drop-set-add start words (at - start) word) ∙ take-set-le size (drop start words) (at - start) word (omega arith))
+
+-- a store into a range is the same store in the range
+pub range_inside : (words : List ℕ) (start size offset word : ℕ) → offset < size → take size (drop start (set words (start + offset) word)) ≡ set (take size (drop start words)) offset word
+range_inside words start size offset word below = ap (take size) (drop-set-add start words offset word) ∙ take_set_in size (drop start words) offset word below
 
 module _ (p : ConfigParts) where
   -- nodes begin behind the locks
@@ -92,10 +104,7 @@ module _ (p : ConfigParts) where
 
   -- a store outside a node leaves the node's words
   pub part_outside : (words : List ℕ) (n at word : ℕ) → (at < node_word p n) ⊎ (node_word p n + node_size p ≤ at) → node_part p (set words at word) n ≡ node_part p words n
-  part_outside words n at word (inl before) = ap (take (node_size p)) (drop-set-lt (node_word p n) words at word before)
-  part_outside words n at word (inr behind) =
-      let e : at ≡ node_word p n + (at - node_word p n) = omega arith in
-      rw e (ap (take (node_size p)) (drop-set-add (node_word p n) words (at - node_word p n) word) ∙ take-set-le (node_size p) (drop (node_word p n) words) (at - node_word p n) word (omega arith))
+  part_outside words n at word h = range_outside words (node_word p n) (node_size p) at word h
 
   -- a store into another node
   pub part_other_node : (words : List ℕ) (n m offset word : ℕ) → 1 ≤ n → 1 ≤ m → n ≢ m → offset < node_size p → node_part p (set words (node_word p m + offset) word) n ≡ node_part p words n
@@ -111,7 +120,7 @@ module _ (p : ConfigParts) where
 
   -- a store into the node itself is the same store into its words
   pub part_same_node : (words : List ℕ) (n offset word : ℕ) → offset < node_size p → node_part p (set words (node_word p n + offset) word) n ≡ set (node_part p words n) offset word
-  part_same_node words n offset word below = ap (take (node_size p)) (drop-set-add (node_word p n) words offset word) ∙ take_set_in (node_size p) (drop (node_word p n) words) offset word below
+  part_same_node words n offset word below = range_inside words (node_word p n) (node_size p) offset word below
 
   -- a word of a node, by its offset
   pub part_word : (words : List ℕ) (n offset : ℕ) → offset < node_size p → get_or (node_part p words n) offset 0 ≡ get_or words (node_word p n + offset) 0
@@ -119,6 +128,26 @@ module _ (p : ConfigParts) where
 
   pub length_part : (words : List ℕ) (n : ℕ) → IsNode p n → pool_words p ≤ length words → length (node_part p words n) ≡ node_size p
   length_part words n h long = length-take-le (node_size p) (drop (node_word p n) words) (simp length-drop (omega (arith, node_word_high n h)))
+
+  -- a store into another entry, and into the entry itself
+  pub entry_other : (part : List ℕ) (i j offset word : ℕ) → IsInEntry p i offset → j ≢ i → entry_part p (set part offset word) j ≡ entry_part p part j
+  entry_other part i j offset word h differ =
+      range_outside part (entry_at p j) (entry_size p) offset word (elim (cases_lt i j) [
+        | inl lt ↦ inl (omega (arith, h.below, entry_apart i j lt))
+        | inr le ↦ inr (omega (arith, h.from, entry_apart j i (omega arith)))
+      ])
+
+  pub entry_own : (part : List ℕ) (i offset word : ℕ) → IsInEntry p i offset → entry_part p (set part offset word) i ≡ set (entry_part p part i) (offset - entry_at p i) word
+  entry_own part i offset word h =
+      let e : entry_at p i + (offset - entry_at p i) ≡ offset = omega (arith, h.from) in
+      subst (λ (o : ℕ). entry_part p (set part o word) i ≡ set (entry_part p part i) (offset - entry_at p i) word) e (range_inside part (entry_at p i) (entry_size p) (offset - entry_at p i) word (omega (arith, h.from, h.below)))
+
+  -- a store into the header, and at the rear version
+  pub entry_header : (part : List ℕ) (i offset word : ℕ) → offset < 6 → entry_part p (set part offset word) i ≡ entry_part p part i
+  entry_header part i offset word h = range_outside part (entry_at p i) (entry_size p) offset word (inl (omega (arith, entry_low i)))
+
+  pub entry_rear : (part : List ℕ) (i word : ℕ) → i < p.leaf → entry_part p (set part (rear_at p) word) i ≡ entry_part p part i
+  entry_rear part i word h = range_outside part (entry_at p i) (entry_size p) (rear_at p) word (inr (entry_high i h))
 
 module _ (p : ConfigParts) (lawful : IsSetting p) where
   -- what the code's products come to
@@ -158,3 +187,8 @@ words_small p r =
     let all : nodes p ≤ 8388608 = mul-le (p.servers * p.chunks) p.chunk_nodes 32768 256 chunks r.chunk_nodes.1 in
     let entries : (3 + p.value_words) * p.leaf ≤ 704 = mul-le (3 + p.value_words) p.leaf 11 64 (omega (arith, r.value_words.1)) r.leaf.1 in
     (entries, mul-le (nodes p) (7 + (3 + p.value_words) * p.leaf) 8388608 711 all (omega (arith, entries)), mul-le p.servers p.locks 8 1024 r.servers.1 r.locks.1)
+
+-- the defaults are lawful
+pub default_is_setting : IsSetting default_parts
+unfolding pool_words node_size entry_size
+default_is_setting = search rules

@@ -1,13 +1,14 @@
 -- Places and addresses are the same, one to one.
-use Rattle.std.proofs.Common.{◌≡◌, ℕ, ◌+◌, ◌-◌, ◌*◌, ◌/◌, ◌%◌, ◌<◌, ◌≤◌, eqb, ltb, if◌then◌else◌, refl, sym, ap, ◌∙◌, inl, inr, arith}
+use Rattle.std.proofs.Common.{◌≡◌, ℕ, ◌+◌, ◌-◌, ◌*◌, ◌/◌, ◌%◌, ◌<◌, ◌≤◌, List, set, eqb, ltb, if◌then◌else◌, refl, sym, ap, ◌∙◌, inl, inr, arith}
 use Rattle.std.proofs.lemmas.Nat.{div_below, mod_below, div-add-mod', div-mul-add, mod-mul-add}
+use Rattle.std.proofs.lemmas.List.{get_or-set_other}
 use Rattle.std.proofs.lemmas.Bool.{cases_lt, cases_eq}
 use Rattle.std.proofs.lemmas.Bool.Decides.{nat_tests}
 use Rattle.sh_base.specs.declared.config.ConfigParts.{ConfigParts}
 use Rattle.sh_base.specs.Setting.{nodes, node_size, first_node_word, pool_words}
-use Rattle.sh_base.specs.Layout.{node_word}
-use Rattle.sh_base.specs.Places.{Site, Own, Root, Counter, Lock, Node, address, IsSite, ArePlacesApart}
-use Rattle.sh_base.proofs.LayoutLemmas.{node_word_high, node_size_is}
+use Rattle.sh_base.specs.Layout.{node_word, node_part}
+use Rattle.sh_base.specs.Places.{Site, Own, Root, Counter, Lock, Node, address, IsSite, ArePlacesApart, IsBelowNodes, StoresKeepApart}
+use Rattle.sh_base.proofs.LayoutLemmas.{node_word_high, node_size_is, part_other_node, part_below, part_same_node, entry_other, entry_own, entry_header, entry_rear}
 
 -- the place of an address
 place_at : ConfigParts → ℕ → Site
@@ -66,4 +67,23 @@ module _ (p : ConfigParts) where
     within = within;
     apart = λ a b h k e. sym (place_at_address a h) ∙ ap (place_at p) e ∙ place_at_address b k;
     whole = whole;
+  }
+
+  part_below_nodes : (words : List ℕ) (a : Site) (n word : ℕ) → IsSite p a → IsBelowNodes a → node_part p (set words (address p a) word) n ≡ node_part p words n
+  part_below_nodes words Own n word h below = part_below p words n _ word (omega arith)
+  part_below_nodes words Root n word h below = part_below p words n _ word (omega arith)
+  part_below_nodes words (Counter server) n word h below = part_below p words n _ word (omega arith)
+  part_below_nodes words (Lock lock) n word h below = part_below p words n _ word (omega arith)
+  part_below_nodes words (Node m offset) n word h below = absurd below
+
+  pub stores_keep_apart : StoresKeepApart p
+  stores_keep_apart = record {
+    place = λ words a b word h k differ. get_or-set_other words (address p a) (address p b) word 0 (λ e. differ (sym (are_places_apart.apart b a k h e)));
+    node = λ words n m offset word h k. part_other_node p words n m offset word h.first k.first;
+    below = part_below_nodes;
+    own = part_same_node p;
+    entry = entry_other p;
+    own_entry = entry_own p;
+    header = entry_header p;
+    rear = entry_rear p;
   }

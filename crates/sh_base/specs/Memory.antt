@@ -1,5 +1,5 @@
 -- The word memory and its events.
-use Rattle.std.specs.Prelude.{ℕ, ◌+◌, ◌%◌, ◌^◌, ◌==◌, ◌<◌, if◌then◌else◌, List, slice_index, slice_set, length}
+use Rattle.std.specs.Prelude.{ℕ, ◌+◌, ◌%◌, ◌^◌, ◌==◌, if◌then◌else◌, List, slice_index, slice_set}
 use Rattle.sh_base.specs.declared.event.Event.{Event}
 use Rattle.sh_base.specs.declared.event.Event.TheVariants.{Load, Store, Exchange, Add}
 

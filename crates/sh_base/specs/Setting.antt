@@ -61,3 +61,7 @@ pub record IsSetting (p : ConfigParts) : Type 0 where
 pub record IsNode (p : ConfigParts) (n : ℕ) : Type 0 where
   pub first : 1 ≤ n
   pub last : n ≤ nodes p
+
+-- the setting where none is given: 4096 nodes of 71 words on two servers
+abbrev pub default_parts : ConfigParts
+default_parts = record { servers = 2; chunks = 64; chunk_nodes = 32; locks = 64; leaf = 16; computes = 2; seats = 4; bound = 4; bits = 32; rows = 256; cached = 16; value_words = 1 }

@@ -3,7 +3,7 @@ ghost use Rattle.std.specs.Prelude.{◌≡◌, ◌<◌};
 ghost use Rattle.sh_base.specs.Parts.{parts_of};
 ghost use Rattle.sh_base.specs.Setting.{all_locks, all_seats, IsNode};
 ghost use Rattle.sh_base.specs.Layout.{counter_word, lock_word, node_word, server_of, lock_of, first_node, compute_of, entry_at, rear_at};
-ghost use Rattle.sh_base.specs.Places.{ArePlacesApart};
+ghost use Rattle.sh_base.specs.Places.{ArePlacesApart, StoresKeepApart};
 
 use crate::Config;
 
@@ -93,5 +93,11 @@ impl Config {
     /// address of its own, and there is no other word.
     pub fn places_apart(&self)
         ensures { ArePlacesApart (parts_of self.now) }
+    {}
+
+    /// A store of one word leaves each other place of the pool, each other node, and in a leaf each other entry; of the
+    /// node and the entry that it is in it changes the word at its offset alone.
+    pub fn stores_apart(&self)
+        ensures { StoresKeepApart (parts_of self.now) }
     {}
 }

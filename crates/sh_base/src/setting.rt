@@ -1,7 +1,7 @@
 // The numbers of a setting: which are lawful, and what follows from them.
 ghost use Rattle.std.specs.Prelude.{◌≡◌, ◌<◌, ◌≤◌, MatchResult, None, Some};
 ghost use Rattle.sh_base.specs.Parts.{parts_of};
-ghost use Rattle.sh_base.specs.Setting.{nodes, all_locks, all_seats, entry_size, node_size, pool_words, last_version, last_entry_version, IsRanged};
+ghost use Rattle.sh_base.specs.Setting.{nodes, all_locks, all_seats, entry_size, node_size, pool_words, last_version, last_entry_version, IsRanged, default_parts};
 ghost use Rattle.sh_base.specs.Faults.{outside, first_outside, fault_of};
 
 use crate::{Config, ConfigFault, ConfigParts};
@@ -65,6 +65,39 @@ fn pool_words(parts: &ConfigParts) -> u64
     let nodes = servers * u64::from(parts.chunks) * u64::from(parts.chunk_nodes);
     let node_size = 7 + (3 + u64::from(parts.value_words)) * u64::from(parts.leaf);
     2 + servers + servers * u64::from(parts.locks) + nodes * node_size
+}
+
+impl Default for ConfigParts {
+    ghost is_default = { λ p. p ≡ default_parts };
+
+    /// The numbers that stand where none is given, as each field says.
+    fn default() -> ConfigParts {
+        ConfigParts {
+            servers: 2,
+            chunks: 64,
+            chunk_nodes: 32,
+            locks: 64,
+            leaf: 16,
+            computes: 2,
+            seats: 4,
+            bound: 4,
+            bits: 32,
+            rows: 256,
+            cached: 16,
+            value_words: 1,
+        }
+    }
+}
+
+impl Default for Config {
+    ghost is_default = { λ c. parts_of c ≡ default_parts };
+
+    /// The setting of the default numbers: 4096 nodes of 71 words on two servers.
+    fn default() -> Config {
+        Config {
+            parts: ConfigParts::default(),
+        }
+    }
 }
 
 impl Config {

@@ -17,3 +17,65 @@ pub use laws::{book_laws, get_laws, log_laws};
 pub use log::{Change, Entry, Log};
 pub use misfit::{Misfit, judge};
 pub use plain_map::PlainMap;
+
+#[cfg(test)]
+mod tests {
+    use super::*;
+    use sh_base::{Config, Value};
+    use std::test::Fail;
+
+    #[test]
+    fn calls_in_range(rt: HostRuntime) {
+        let cfg = Config::default();
+        let word = Value::of(&[50]);
+        let words = Value::of(&[50, 51]);
+        for (call, want) in [
+            (Call::Get { key: 0 }, false),
+            (Call::Get { key: 1 }, true),
+            (Call::Del { key: u64::MAX - 1 }, true),
+            (Call::Del { key: u64::MAX }, false),
+            (
+                Call::Put {
+                    key: 5,
+                    value: word,
+                },
+                true,
+            ),
+            (
+                Call::Put {
+                    key: 5,
+                    value: words,
+                },
+                false,
+            ),
+            (Call::Range { low: 5, high: 5 }, true),
+            (
+                Call::Range {
+                    low: 5,
+                    high: u64::MAX,
+                },
+                true,
+            ),
+            (Call::Range { low: 5, high: 4 }, false),
+            (Call::Range { low: 0, high: 4 }, false),
+        ] {
+            assert_eq!(rt; call.in_range(&cfg), want, "{call:?}");
+        }
+    }
+
+    #[test]
+    fn rows_are_kept_in_order(rt: HostRuntime) -> Result<(), Fail> {
+        let mut rows = Rows::new(rt.alloc());
+        for key in [5, 7] {
+            rows.push(Row {
+                key,
+                value: Value::of(&[10 * key]),
+            })?;
+        }
+        let rows = rows.as_slice();
+        assert_eq!(rt; rows.len(), 2);
+        assert_eq!(rt; [rows[0].key, rows[1].key], [5, 7]);
+        assert_eq!(rt; rows[1].value.words(), [70].as_slice());
+        Ok(())
+    }
+}

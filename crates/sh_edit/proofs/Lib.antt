@@ -1,0 +1,4 @@
+pub mod HeldLemmas
+pub mod FindLemmas
+pub mod RewriteLemmas
+pub mod RoomLemmas

@@ -1,0 +1,62 @@
+-- A leaf without a key twice has room exactly where its map has fewer keys than it has entries.
+use Rattle.std.proofs.Common.{◌≡◌, ◌≢◌, ℕ, zero, suc, ◌+◌, ◌<◌, ◌≤◌, Bool, true, false, cond, List, [], ◌∷◌, length, refl, sym, ap, ◌∙◌, inl, inr, None, arith}
+use Rattle.std.specs.Prelude.{nat_lt, is_some}
+use Rattle.std.proofs.lemmas.Bool.{cases_eq, eq-eqb}
+use Rattle.std.proofs.lemmas.Bool.Decides.{nat_tests}
+use Rattle.std.specs.Ordering.{nat_cmp}
+use Rattle.std.specs.Cmp.{nat_cmp_total}
+use Rattle.std.specs.FinMap.{len-insert, len-empty}
+use Rattle.sh_map.specs.Map.{get, size}
+use Rattle.sh_image.specs.declared.leaf.LeafEntry.{LeafEntry}
+use Rattle.sh_edit.specs.Held.{pairs_of, has_room, map_of_entries, key_at, HasKeysOnce}
+use Rattle.sh_edit.specs.Placing.{HasNone}
+use Rattle.sh_edit.proofs.HeldLemmas.{differ_test, get-map_of_entries, held_none}
+
+once_tail : (e : LeafEntry) (es : List LeafEntry) → HasKeysOnce (e ∷ es) → HasKeysOnce es
+once_tail e es once i j less below same = once (suc i) (suc j) (omega arith) (omega arith) same
+
+once_head : (e : LeafEntry) (es : List LeafEntry) → e.key ≢ 0 → HasKeysOnce (e ∷ es) → HasNone es e.key
+once_head e es nz once j below is = nz (once 0 (suc j) (omega arith) (omega arith) (sym is))
+
+-- the map has as many keys as there are pairs
+pub size_is_pairs : (es : List LeafEntry) → HasKeysOnce es → size (map_of_entries es) ≡ length (pairs_of es)
+size_is_pairs [] once = len-empty nat_cmp (List ℕ)
+size_is_pairs (e ∷ es) once = elim (cases_eq e.key 0) [
+  | inl z ↦ rw (eq-eqb e.key 0 z) (size_is_pairs es (once_tail e es once))
+  | inr nz ↦
+      let absent : get (map_of_entries es) e.key ≡ None = get-map_of_entries es e.key nz ∙ held_none es e.key (once_head e es nz once) in
+      rw (differ_test e.key 0 nz) (
+      len-insert nat_cmp_total (map_of_entries es) e.key e.value
+      ∙ ap (λ had. cond (is_some had) (size (map_of_entries es)) (size (map_of_entries es) + 1)) absent
+      ∙ ap (λ n. n + 1) (size_is_pairs es (once_tail e es once)) ∙ omega arith)
+]
+
+-- as many pairs as entries where no entry is empty, else fewer
+pairs_count : (es : List LeafEntry) → (length (pairs_of es) ≤ length es) × (has_room es ≡ true → length (pairs_of es) < length es) × (has_room es ≡ false → length (pairs_of es) ≡ length es)
+pairs_count [] = (omega arith, λ e. absurd (cc), λ e. refl)
+pairs_count (e ∷ es) =
+    let h = pairs_count es in
+    elim (cases_eq e.key 0) [
+      | inl z ↦ rw (eq-eqb e.key 0 z) (omega (arith, h.0), λ is. omega (arith, h.0), λ is. absurd (cc))
+      | inr nz ↦ rw (differ_test e.key 0 nz) (omega (arith, h.0), λ is. omega (arith, h.1 is), λ is. omega (arith, h.2 is))
+    ]
+
+room_test : (b : Bool) (n k : ℕ) → (b ≡ true → n < k) → (b ≡ false → n ≡ k) → nat_lt n k ≡ b
+room_test true n k less same = grind (arith, nat_tests, less refl)
+room_test false n k less same = grind (arith, nat_tests, same refl)
+
+pub room_is_size : (es : List LeafEntry) → HasKeysOnce es → nat_lt (size (map_of_entries es)) (length es) ≡ has_room es
+room_is_size es once = ap (λ n. nat_lt n (length es)) (size_is_pairs es once) ∙ room_test (has_room es) _ _ (pairs_count es).1 (pairs_count es).2
+
+-- an empty entry is room, and without one there is none
+pub room_at : (es : List LeafEntry) (i : ℕ) → i < length es → key_at es i ≡ 0 → has_room es ≡ true
+room_at [] i below here = absurd (omega arith)
+room_at (e ∷ es) zero below here = rw (eq-eqb e.key 0 here) refl
+room_at (e ∷ es) (suc i) below here = elim (cases_eq e.key 0) [
+  | inl z ↦ rw (eq-eqb e.key 0 z) refl
+  | inr nz ↦ rw (differ_test e.key 0 nz) (room_at es i (omega arith) here)
+]
+
+pub room_none : (es : List LeafEntry) → HasNone es 0 → has_room es ≡ false
+room_none [] none = refl
+room_none (e ∷ es) none = rw (differ_test e.key 0 (none 0 (omega arith))) (room_none es (λ j below. none (suc j) (omega arith)))

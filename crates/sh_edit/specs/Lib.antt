@@ -1,0 +1,3 @@
+pub mod Held
+pub mod Placing
+pub mod Rewriting

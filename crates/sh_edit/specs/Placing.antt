@@ -1,0 +1,22 @@
+-- Where a key stands in a leaf, or may be put.
+use Rattle.std.specs.Prelude.{◌≡◌, ◌≢◌, ℕ, ◌<◌, List, length}
+use Rattle.sh_image.specs.declared.leaf.LeafEntry.{LeafEntry}
+use Rattle.sh_edit.specs.Held.{key_at, value_at}
+use Rattle.sh_edit.specs.declared.Placed.{Placed}
+use Rattle.sh_edit.specs.declared.Placed.TheVariants.{Over, New, NoRoom}
+
+-- the first entry with the key
+pub record IsFirstWith (es : List LeafEntry) (key i : ℕ) : Type 0 where
+  pub in_range : i < length es
+  pub here : key_at es i ≡ key
+  pub before : (j : ℕ) → j < i → key_at es j ≢ key
+
+-- no entry has the key
+abbrev pub HasNone : List LeafEntry → ℕ → Type 0
+HasNone es key = (j : ℕ) → j < length es → key_at es j ≢ key
+
+-- where a put of the key goes; an empty entry has the key 0
+abbrev pub PlacedBy : List LeafEntry → ℕ → Placed → Type 0
+PlacedBy es key (Over index old) = IsFirstWith es key index × (old ≡ value_at es index)
+PlacedBy es key (New index) = HasNone es key × IsFirstWith es 0 index
+PlacedBy es key NoRoom = HasNone es key × HasNone es 0

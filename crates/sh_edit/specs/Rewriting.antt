@@ -1,0 +1,13 @@
+-- A leaf with one entry changed, as a whole.
+use Rattle.std.specs.Prelude.{ℕ, ◌+◌, List, map, slice_set}
+use Rattle.sh_image.specs.declared.leaf.LeafEntry.{LeafEntry}
+use Rattle.sh_image.specs.Leaf.{Leaf}
+
+-- an entry with its version back at 0
+abbrev pub cleared : LeafEntry → LeafEntry
+cleared e = record { version = 0; key = e.key; value = e.value }
+
+-- The leaf with another key and value at an index: every other entry keeps its own, all entry versions are 0, and the
+-- node's version is one more.
+abbrev pub rewritten : Leaf → ℕ → ℕ → List ℕ → Leaf
+rewritten a index key value = record { version = a.version + 1; low = a.low; high = a.high; next = a.next; entries = slice_set (map cleared a.entries) index (record { version = 0; key = key; value = value }) }

@@ -1,0 +1,25 @@
+// What the changes of a leaf mean for the map that its entries hold.
+ghost use Rattle.std.specs.Prelude.{◌≡◌, ◌≢◌, ◌<◌, ◌≤◌, ◌⊎◌, ℕ, List, length, replicate, nat_lt, Some, None};
+ghost use Rattle.sh_base.specs.declared.config.ConfigParts.{ConfigParts};
+ghost use Rattle.sh_base.specs.Setting.{last_version};
+ghost use Rattle.sh_map.specs.Map.{get, put, del, size};
+ghost use Rattle.sh_image.specs.declared.leaf.LeafEntry.{LeafEntry};
+ghost use Rattle.sh_image.specs.Leaf.{Leaf, IsLeaf};
+ghost use Rattle.sh_edit.specs.Held.{map_of_entries, value_at, key_at, has_room, HasKeysOnce};
+ghost use Rattle.sh_edit.specs.Placing.{IsFirstWith, HasNone};
+ghost use Rattle.sh_edit.specs.Rewriting.{rewritten};
+
+/// The changes of a leaf are the map's. What `find` finds is the map's value of the key. A rewrite at the index that
+/// `place` answered is the put, and one that empties the index that `remove` answered is the delete, of a leaf without
+/// a key twice. A leaf keeps its keys apart, and meets the rules so long as its version isn't the last one and the key
+/// lies between its fences. It has room for a new key exactly where its map has fewer keys than it has entries.
+pub fn edits_are_the_maps()
+    ensures found { (es : List LeafEntry) (key i : ℕ) → key ≢ 0 → IsFirstWith es key i → get (map_of_entries es) key ≡ Some (value_at es i) }
+    ensures absent { (es : List LeafEntry) (key : ℕ) → key ≢ 0 → HasNone es key → get (map_of_entries es) key ≡ None }
+    ensures over { (a : Leaf) (i key : ℕ) (value : List ℕ) → key ≢ 0 → IsFirstWith a.entries key i → map_of_entries (rewritten a i key value).entries ≡ put (map_of_entries a.entries) key value }
+    ensures new { (a : Leaf) (i key : ℕ) (value : List ℕ) → key ≢ 0 → HasNone a.entries key → IsFirstWith a.entries 0 i → map_of_entries (rewritten a i key value).entries ≡ put (map_of_entries a.entries) key value }
+    ensures removed { (a : Leaf) (i key : ℕ) (zeros : List ℕ) → key ≢ 0 → HasKeysOnce a.entries → IsFirstWith a.entries key i → map_of_entries (rewritten a i 0 zeros).entries ≡ del (map_of_entries a.entries) key }
+    ensures once { (a : Leaf) (i key : ℕ) (value : List ℕ) → i < length a.entries → HasKeysOnce a.entries → ((j : ℕ) → j < length a.entries → j ≢ i → key_at a.entries j ≡ key → key ≡ 0) → HasKeysOnce (rewritten a i key value).entries }
+    ensures lawful { (p : ConfigParts) (a : Leaf) (i key : ℕ) (value : List ℕ) → IsLeaf p a → a.version < last_version p → length value ≡ p.value_words → ((key ≡ 0) × (value ≡ replicate p.value_words 0)) ⊎ ((a.low ≤ key) × (1 ≤ key) × (key < a.high)) → IsLeaf p (rewritten a i key value) }
+    ensures room { (es : List LeafEntry) → HasKeysOnce es → nat_lt (size (map_of_entries es)) (length es) ≡ has_room es }
+{}

@@ -1,0 +1,107 @@
+//! Changes of leaves.
+#![tactic(auto)]
+
+mod laws;
+
+ghost use Rattle.std.specs.Prelude.{◌≡◌, ◌-◌, ◌<◌, ◌≤◌, ◌^◌, MatchOption, length, map};
+ghost use Rattle.sh_edit.specs.Held.{value_at};
+ghost use Rattle.sh_edit.specs.Placing.{HasNone, IsFirstWith, PlacedBy};
+ghost use Rattle.sh_edit.specs.Rewriting.{cleared, rewritten};
+
+pub use laws::edits_are_the_maps;
+use sh_base::Value;
+use sh_image::{LeafEntry, LeafImage};
+use sh_lanes::first_equal;
+
+/// Where a put of a key goes.
+#[derive(Clone, Copy, Debug)]
+pub enum Placed {
+    /// Over the entry at this index, which has the key, with this value.
+    Over { index: u32, old: Value },
+    /// Into the empty entry at this index.
+    New { index: u32 },
+    /// Nowhere: the leaf has neither the key nor an empty entry.
+    NoRoom,
+}
+
+/// The least index with this key; none exactly where no entry has it. The key 0 is an empty entry's.
+pub fn find(leaf: &LeafImage, key: u64) -> Option<u32>
+    ensures { MatchOption result (HasNone leaf.now.entries key) (λ index. IsFirstWith leaf.now.entries key index) }
+{
+    match first_equal(leaf.keys(), key) {
+        Some(index) => Some(index as u32),
+        None => None,
+    }
+}
+
+/// Where a put of the key goes: over the entry with the key, the least such; else into the least empty entry.
+pub fn place(leaf: &LeafImage, key: u64) -> Placed
+    ensures { PlacedBy leaf.now.entries key result }
+{
+    if let Some(index) = find(leaf, key) {
+        return Placed::Over {
+            index,
+            old: leaf.entry(index).value,
+        };
+    }
+    match find(leaf, 0) {
+        Some(index) => Placed::New { index },
+        None => Placed::NoRoom,
+    }
+}
+
+/// The index and the value of the key; none exactly where no entry has it.
+pub fn remove(leaf: &LeafImage, key: u64) -> Option<(u32, Value)>
+    ensures { MatchOption result (HasNone leaf.now.entries key) (λ found. IsFirstWith leaf.now.entries key found.0 × (found.1 ≡ value_at leaf.now.entries found.0)) }
+{
+    let index = find(leaf, key)?;
+    Some((index, leaf.entry(index).value))
+}
+
+/// The leaf with this key and value at the index (for a delete the key 0 and a value of zeros), every other entry's
+/// key and value in its place, all entry versions 0, and the node's version raised by one. Condition: an index of the
+/// leaf, and the version isn't 2^64 - 1.
+pub fn rewrite(leaf: &LeafImage, index: u32, key: u64, value: Value) -> LeafImage
+    requires index { index < length leaf.now.entries }
+    requires version { leaf.now.version < 2 ^ 64 - 1 }
+    ensures { result ≡ rewritten leaf.now index key value }
+{
+    let mut image = cleared(leaf, value);
+    image.set(
+        index,
+        LeafEntry {
+            version: 0,
+            key,
+            value,
+        },
+    );
+    image.set_version(leaf.version() + 1);
+    image
+}
+
+// The leaf with all entry versions 0; `zero` is any value.
+fn cleared(leaf: &LeafImage, zero: Value) -> LeafImage
+    ensures { result ≡ record leaf.now { entries = map cleared leaf.now.entries } }
+{
+    let count = leaf.keys().len() as u32;
+    let mut image = LeafImage::new(
+        leaf.version(),
+        leaf.low(),
+        leaf.high(),
+        leaf.next(),
+        count,
+        zero,
+    );
+    for index in 0..count {
+        let LeafEntry { key, value, .. } = leaf.entry(index);
+        image.set(
+            index,
+            LeafEntry {
+                version: 0,
+                key,
+                value,
+            },
+        );
+    }
+    image
+}

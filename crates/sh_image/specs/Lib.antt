@@ -1,0 +1,4 @@
+pub mod Entries
+pub mod Leaf
+pub mod Columns
+pub mod Seen

@@ -1,0 +1,5 @@
+pub mod NodeLemmas
+pub mod DecideLemmas
+pub mod ServeLemmas
+pub mod ReplyLemmas
+pub mod RunLemmas

@@ -1,0 +1,4 @@
+pub mod Replies
+pub mod Leaves
+pub mod Decisions
+pub mod Runs

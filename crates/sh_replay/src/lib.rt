@@ -1,0 +1,6 @@
+//! A sheet of calls, served one after another on one leaf.
+#![tactic(auto)]
+
+mod decision;
+mod node;
+mod serve;

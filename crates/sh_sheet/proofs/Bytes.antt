@@ -1,0 +1,46 @@
+-- Known bytes over several reads or writes.
+use Rattle.std.proofs.Common.{ℕ, ◌≡◌, ◌+◌, ◌-◌, List, [], ◌++◌, Option, Some, None, length, take, drop, refl, sym, ap, ◌∙◌, append_assoc}
+use Rattle.std.proofs.lemmas.List.{append-nil, take_rest, take-append-drop, drop-drop}
+use Rattle.std.proofs.Math.Seq.{take-add}
+use Rattle.std.specs.Io.KnownBytes.{Consumes, Appends, Keeps}
+
+-- the bytes from a place on are n of them, and those after
+pub drop_front : (bytes into : List ℕ) (at n : ℕ) → take n into ≡ take n (take (length bytes - at) (drop at bytes)) → drop at bytes ≡ take n into ++ drop (at + n) bytes
+drop_front bytes into at n copied =
+    rw (copied, take_rest, ← drop-drop n at bytes) (sym (take-append-drop n (drop at bytes)))
+
+-- nothing is consumed yet
+pub consumes_none : (a : Option (List ℕ)) → Consumes a a []
+consumes_none None = tt
+consumes_none (Some xs) = refl
+
+-- one read after another
+pub consumes_more : (a b c : Option (List ℕ)) (xs ys : List ℕ) → Consumes a b xs → Consumes b c ys → Consumes a c (xs ++ ys)
+consumes_more None b c xs ys p q = tt
+consumes_more (Some os) None c xs ys p q = absurd p
+consumes_more (Some os) (Some bs) None xs ys p q = absurd q
+consumes_more (Some os) (Some bs) (Some cs) xs ys p q = p ∙ ap (λ t. xs ++ t) q ∙ sym (append_assoc xs ys cs)
+
+-- nothing is appended yet
+pub appends_none : (a : Option (List ℕ)) → Appends a a []
+appends_none None = tt
+appends_none (Some xs) = sym (append-nil xs)
+
+-- one write after another
+pub appends_more : (a b c : Option (List ℕ)) (xs ys : List ℕ) → Appends a b xs → Appends b c ys → Appends a c (xs ++ ys)
+appends_more None b c xs ys p q = tt
+appends_more (Some os) None c xs ys p q = absurd p
+appends_more (Some os) (Some bs) None xs ys p q = absurd q
+appends_more (Some os) (Some bs) (Some cs) xs ys p q = q ∙ ap (λ t. t ++ ys) p ∙ append_assoc os xs ys
+
+-- a write of m of the bytes from n on, after those before n; `take (length xs - n) (drop n xs)` is the slice `&xs[n..]`
+pub appends_take : (a b c : Option (List ℕ)) (n m : ℕ) (xs : List ℕ) → Appends a b (take n xs) → Appends b c (take m (take (length xs - n) (drop n xs))) → Appends a c (take (n + m) xs)
+appends_take a b c n m xs p q =
+    rw take-add (appends_more a b c (take n xs) (take m (drop n xs)) p (rw take_rest at q))
+
+-- a failed write keeps what was written
+pub appends_keeps : (a b c : Option (List ℕ)) (xs : List ℕ) → Appends a b xs → Keeps b c → Appends a c xs
+appends_keeps None b c xs p q = tt
+appends_keeps (Some os) None c xs p q = absurd p
+appends_keeps (Some os) (Some bs) None xs p q = absurd q
+appends_keeps (Some os) (Some bs) (Some cs) xs p q = q ∙ p

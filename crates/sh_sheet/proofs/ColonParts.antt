@@ -1,0 +1,88 @@
+-- Where a text is cut at its colons.
+use Rattle.std.proofs.Common.{ℕ, ◌≡◌, ◌<◌, ◌≤◌, ◌+◌, ◌-◌, ◌==◌, Bool, true, false, List, [], ◌∷◌, length, take, drop, Option, Some, None, refl, sym, ap, ◌∙◌, arith, ◌++◌, option_map, append_assoc}
+use Rattle.std.specs.List.{position, position_or_len}
+use Rattle.std.proofs.lemmas.Bool.Decides.{nat_tests}
+use Rattle.std.proofs.lemmas.List.{append-nil, take_rest}
+use Rattle.std.proofs.lemmas.List.Splits.{slice_split_first, length-slice_split}
+use Rattle.std.proofs.lemmas.Option.{cond_some}
+use Rattle.sh_sheet.specs.Number.{number_of}
+use Rattle.sh_sheet.specs.Sheet.{colon_parts, joined, numbers_of, value_in}
+
+-- a byte that is a colon
+abbrev is_colon : ℕ → Bool
+is_colon b = b == 58
+
+no_part_more : (b : ℕ) (bs : List ℕ) (t : Bool) → is_colon b ≡ t → length (b ∷ bs) ≤ position_or_len is_colon (b ∷ bs)
+    → (length bs ≤ position_or_len is_colon bs → colon_parts bs ≡ bs ∷ []) → colon_parts (b ∷ bs) ≡ (b ∷ bs) ∷ []
+no_part_more b bs true e h rest = let none = simp e at h in absurd (omega arith)
+no_part_more b bs false e h rest = let more = simp e at h in simp (e, rest (omega arith))
+
+no_part : (text : List ℕ) → length text ≤ position_or_len is_colon text → colon_parts text ≡ text ∷ []
+no_part [] h = refl
+no_part (b ∷ bs) h = no_part_more b bs (is_colon b) refl h (no_part bs)
+
+-- without a colon the text is its one part
+pub no_colon : (text : List ℕ) → position is_colon text ≡ None → colon_parts text ≡ text ∷ []
+no_colon text h = no_part text (grind (arith, nat_tests))
+
+-- at the first colon, the text before it, and the parts behind it
+pub first_colon : (text : List ℕ) (at : ℕ) → position is_colon text ≡ Some at → colon_parts text ≡ take at text ∷ colon_parts (take (length text - (at + 1)) (drop (at + 1) text))
+first_colon text at h =
+    let found = cond_some _ _ _ h in
+    let within : position_or_len is_colon text < length text = grind (arith, nat_tests) in
+    rw (take_rest, ← found.1) (slice_split_first is_colon text 0 within)
+
+-- behind these numbers, if there are more
+abbrev pub behind : List ℕ → Option (List ℕ) → Option (List ℕ)
+behind ns more = option_map (λ ms. ns ++ ms) more
+
+-- the first parts of a text were so many numbers, and these parts are left
+pub record IsCut (text ns : List ℕ) (at : ℕ) (left : List (List ℕ)) : Type 0 where
+  pub count : length (colon_parts text) ≡ at + length left
+  pub numbers : numbers_of (colon_parts text) ≡ behind ns (numbers_of left)
+
+behind_none : (o : Option (List ℕ)) → o ≡ behind [] o
+behind_none None = refl
+behind_none (Some ms) = refl
+
+-- nothing is cut yet
+pub cut_none : (text : List ℕ) → IsCut text [] 0 (colon_parts text)
+cut_none text = record { count = omega arith; numbers = behind_none (numbers_of (colon_parts text)) }
+
+behind_more : (ns : List ℕ) (n : ℕ) (o : Option (List ℕ)) → behind ns (joined (Some n) o) ≡ behind (ns ++ n ∷ []) o
+behind_more ns n None = refl
+behind_more ns n (Some ms) = ap (λ t. Some t) (sym (append_assoc ns (n ∷ []) ms))
+
+-- one number more
+pub cut_more : (text ns part : List ℕ) (at n : ℕ) (left more : List (List ℕ)) → IsCut text ns at left → left ≡ part ∷ more → Some n ≡ number_of part → IsCut text (ns ++ n ∷ []) (at + 1) more
+cut_more text ns part at n left more was parts number = record {
+  count = was.count ∙ rw parts (omega arith);
+  numbers = was.numbers ∙ rw (parts, ← number) (behind_more ns n (numbers_of more));
+}
+
+-- more parts than words; a text has at least one part
+pub too_many_parts : (text ns more : List ℕ) (at count : ℕ) → IsCut text ns at (colon_parts more) → at ≡ count → None ≡ value_in count text
+too_many_parts text ns more at count was full =
+    let all = was.count in
+    let some = length-slice_split is_colon more in
+    grind (arith, nat_tests)
+
+-- fewer parts than words
+pub too_few_parts : (text ns : List ℕ) (at count : ℕ) → IsCut text ns at [] → at < count → None ≡ value_in count text
+too_few_parts text ns at count was few = let more = was.count in grind (arith, nat_tests)
+
+no_value : (text : List ℕ) (count : ℕ) → numbers_of (colon_parts text) ≡ None → None ≡ value_in count text
+no_value text count none = grind (arith, nat_tests)
+
+-- a part that is no number
+pub no_number_part : (text ns part : List ℕ) (at count : ℕ) (left more : List (List ℕ)) → IsCut text ns at left → left ≡ part ∷ more → None ≡ number_of part → None ≡ value_in count text
+no_number_part text ns part at count left more was parts number =
+    let none : numbers_of (colon_parts text) ≡ None = was.numbers ∙ rw (parts, ← number) refl in
+    no_value text count none
+
+-- each part was a number
+pub all_parts : (text ns : List ℕ) (at count : ℕ) → IsCut text ns at [] → at ≤ count → count ≤ at → Some ns ≡ value_in count text
+all_parts text ns at count was low high =
+    let all = was.count in
+    let numbers : numbers_of (colon_parts text) ≡ Some ns = was.numbers ∙ ap (λ t. Some t) (append-nil ns) in
+    grind (arith, nat_tests)

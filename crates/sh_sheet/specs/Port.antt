@@ -1,0 +1,20 @@
+-- What the calls of sources and sinks say of their faults and their bytes.
+use Rattle.std.specs.Prelude.{ℕ, ◌≡◌, ◌≤◌, ◌<◌, ◌-◌, ◌^◌, ◌⊎◌, List, Option, Result, OnOk, OnErr, ◌++◌}
+use Rattle.std.specs.Io.KnownBytes.{Appends}
+
+-- the count of faults has risen, or stands at its last value
+abbrev pub HasRisen : ℕ → ℕ → Type 0
+HasRisen before now = (before < now) ⊎ (now ≡ 2 ^ 64 - 1)
+
+-- the count of faults never falls; it stays where the call answered Ok, and has risen where it failed
+pub record HasCause {T E : Type 0} (before now : ℕ) (result : Result T E) : Type 0 where
+  pub kept : before ≤ now
+  pub ok : OnOk result (now ≡ before)
+  pub failed : OnErr result (HasRisen before now)
+
+-- the bytes that the sink holds, where they are told, have grown by a front of these
+pub record AppendsFront (old new : Option (List ℕ)) (bytes : List ℕ) : Type 0 where
+  pub front : List ℕ
+  pub rest : List ℕ
+  pub whole : bytes ≡ front ++ rest
+  pub written : Appends old new front

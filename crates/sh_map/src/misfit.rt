@@ -105,7 +105,7 @@ fn least_unfit(
 
 /// Whether the book of this log and these finished calls is lawful, or else its first misfit: of the kinds `Entry`,
 /// `Reply`, `Row` and `Order` the first that there is, and of its kind the one with the least place or number. The time
-/// is that of comparing each entry and each call with each.
+/// grows with the square of the number of entries and calls.
 pub fn judge(alloc: Global, log: &[Entry], dones: &[Done]) -> Result<Option<Misfit>, AllocError>
     ensures { IfOk result (λ found. MatchOption found
         (IsLawful log.now dones.now)

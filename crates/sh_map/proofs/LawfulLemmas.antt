@@ -1,6 +1,6 @@
 -- A book is lawful where it breaks no rule.
-use Rattle.std.proofs.Common.{◌≡◌, ℕ, suc, ◌+◌, ◌<◌, ◌≤◌, List, [], ◌∷◌, length, get_or, take, Some, inl, inr, refl, sym, ap, subst, ◌∙◌, arith, length-take-le}
-use Rattle.std.specs.Prelude.{slice_get, All, AllPairs}
+use Rattle.std.proofs.Common.{◌≡◌, ℕ, suc, ◌+◌, ◌<◌, ◌≤◌, List, [], ◌∷◌, length, get_or, take, Some, refl, sym, subst, arith, length-take-le}
+use Rattle.std.specs.Prelude.{slice_get, AllPairs}
 use Rattle.std.proofs.lemmas.List.{get_or-take}
 use Rattle.std.proofs.lemmas.Option.{slice_get_within, slice_get-get_or, get_or_from_slice_get}
 use Rattle.sh_map.specs.declared.call.Call.{Call}
@@ -13,7 +13,7 @@ use Rattle.sh_map.specs.declared.misfit.Misfit.{Misfit}
 use Rattle.sh_map.specs.declared.misfit.Misfit.TheVariants as misfit
 use Rattle.sh_map.specs.Map.{Map}
 use Rattle.sh_map.specs.Log.{changed, map_from, IsNext, IsLegalFrom}
-use Rattle.sh_map.specs.Book.{AnswersAt, Answers, IsLater, IsLawful}
+use Rattle.sh_map.specs.Book.{AnswersAt, Answers, IsLawful}
 use Rattle.sh_map.specs.Judge.{AnswersAside, RowsAnswer, FitsReply, FitsRows, FitsOrder, Follows, AllFit, AllEntriesFit, IsFirstMisfit}
 use Rattle.sh_map.proofs.LogLemmas.{IsLegal-at}
 

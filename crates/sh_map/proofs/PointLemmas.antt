@@ -1,9 +1,9 @@
 -- When each key of a range has a point.
-use Rattle.std.proofs.Common.{◌≡◌, ◌↔◌, ◌⊎◌, ℕ, zero, suc, ◌+◌, ◌-◌, ◌<◌, ◌≤◌, Bool, true, false, List, [], ◌∷◌, ◌++◌, length, get_or, take, drop, map, Option, Some, None, Result, Ok, Err, IfOk, inl, inr, refl, sym, ap, subst, ◌∙◌, arith, length-take, length-drop, length-take-le}
+use Rattle.std.proofs.Common.{◌≡◌, ◌↔◌, ◌⊎◌, ℕ, suc, ◌+◌, ◌-◌, ◌<◌, ◌≤◌, Bool, List, [], ◌∷◌, length, get_or, take, drop, map, None, Result, Ok, Err, IfOk, inl, inr, refl, sym, ap, subst, ◌∙◌, arith, length-drop, length-take-le}
 use Rattle.std.specs.Prelude.{IsTrue, All, AllPairs}
 use Rattle.std.specs.Ordering.{nat_cmp}
 use Rattle.std.specs.Cmp.{nat_cmp_total}
-use Rattle.std.specs.FinMap.{empty, entries, find, from_entries, get-entries, get-from_entries}
+use Rattle.std.specs.FinMap.{empty, entries, find, get-entries, get-from_entries}
 use Rattle.std.specs.declared.alloc.AllocError.{AllocError}
 use Rattle.std.proofs.lemmas.Bool.{cases_eq}
 use Rattle.std.proofs.Math.Seq.{take-add, take-take}
@@ -12,7 +12,7 @@ use Rattle.sh_map.specs.declared.book.Row.{Row}
 use Rattle.sh_map.specs.Map.{Map, get, pair_of}
 use Rattle.sh_map.specs.Log.{map_from, map_of, map_at}
 use Rattle.sh_map.specs.Book.{AnswersRange}
-use Rattle.sh_map.specs.Rows.{Becomes, HasPoint}
+use Rattle.sh_map.specs.Rows.{HasPoint}
 use Rattle.sh_map.proofs.MapLemmas.{apart_test}
 use Rattle.sh_map.proofs.LogLemmas.{map_from-append}
 

@@ -1,4 +1,4 @@
-use Rattle.std.proofs.Common.{Some, None, take}
+use Rattle.std.proofs.Common.{take}
 use Rattle.sh_map.specs.declared.call.Reply.TheVariants as reply
 use Rattle.sh_map.proofs.LastLemmas.{get_answer, value_from, none_left}
 use Rattle.sh_map.proofs.laws.get_laws.Goals as goal

@@ -1,4 +1,4 @@
-use Rattle.std.proofs.Common.{◌<◌, length, arith, subst, ap, refl}
+use Rattle.std.proofs.Common.{◌<◌, arith, subst, ap, refl}
 use Rattle.std.specs.Prelude.{AllPairs}
 use Rattle.std.proofs.lemmas.List.{take_all}
 use Rattle.sh_map.specs.declared.book.Row.{Row}

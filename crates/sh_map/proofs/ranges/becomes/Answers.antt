@@ -1,4 +1,4 @@
-use Rattle.std.proofs.Common.{◌∙◌, sym}
+use Rattle.std.proofs.Common.{◌∙◌}
 use Rattle.std.proofs.lemmas.Bool.{false≢true}
 use Rattle.sh_map.proofs.RangeLemmas.{becomes_decides}
 use Rattle.sh_map.proofs.ranges.becomes.Goals as goal

@@ -8,7 +8,7 @@ use crate::{Call, Change, Done, Entry, PlainMap, Reply};
 use sh_base::Value;
 use std::alloc::{AllocError, Global};
 
-/// Whether two values, or two wants of a value, are the same.
+/// Whether two values are the same, or both are none.
 pub(crate) fn same(a: &Option<Value>, b: &Option<Value>) -> bool
     ensures { IsTrue result ↔ (a.now ≡ b.now) }
 {

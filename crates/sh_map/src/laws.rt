@@ -1,20 +1,5 @@
 // Laws of logs and books, each proved where its function is checked. They do nothing when they are called.
-ghost use Rattle.std.specs.Prelude.{
-  ◌≡◌,
-  ◌≢◌,
-  ◌<◌,
-  ◌≤◌,
-  ◌++◌,
-  ◌∷◌,
-  [],
-  ℕ,
-  List,
-  All,
-  Any,
-  Option,
-  take,
-  slice_get,
-};
+ghost use Rattle.std.specs.Prelude.{◌≡◌, ◌≤◌, ◌<◌, ◌++◌, ◌∷◌, [], ℕ, List, All, Any, take, slice_get};
 ghost use Rattle.sh_map.specs.declared.call.Call.TheVariants as call;
 ghost use Rattle.sh_map.specs.declared.call.Reply.TheVariants as reply;
 ghost use Rattle.sh_map.specs.declared.log.Change.TheVariants as change;

@@ -1,14 +1,7 @@
 // What is wrong with a book.
 ghost use Rattle.std.specs.Prelude.{IsTrue, ◌↔◌, ◌≡◌, IfOk, MatchOption, min};
 ghost use Rattle.sh_map.specs.Book.{IsLawful};
-ghost use Rattle.sh_map.specs.Judge.{
-  AllFit,
-  FitsOrder,
-  FitsRule,
-  Follows,
-  IsFirstMisfit,
-  IsLeastUnfit,
-};
+ghost use Rattle.sh_map.specs.Judge.{AllFit, FitsOrder, FitsRule, Follows, IsFirstMisfit, IsLeastUnfit};
 
 use crate::entries::{first_unfit_entry, made};
 use crate::ranges::do_rows_answer;

@@ -50,7 +50,7 @@ fn becomes(before: &PlainMap, during: &[Entry], rows: &[Row], key: u64) -> bool
     same(&now, &had) || leaves(during, key, &had)
 }
 
-// The same for a key of low..upto; of other keys nothing is asked.
+// Whether a key of low..upto has so; of other keys nothing is asked.
 fn has_point(
     before: &PlainMap,
     during: &[Entry],
@@ -83,8 +83,8 @@ fn are_answered(
         .all(|row| has_point(before, during, rows, low, upto, row.key))
 }
 
-// Whether each key of low..upto has, at some point from these earlier entries on, what the rows give it. Only keys with
-// a row, and those that are there at the first point, need a look.
+// Whether each key of low..upto has, at some point of the entries behind the earlier ones, what the rows give it. Only
+// keys with a row, and those that the earlier entries left, need a look.
 fn have_points(
     alloc: Global,
     earlier: &[Entry],

@@ -3,7 +3,7 @@ use Rattle.std.proofs.Common.{◌≡◌, ◌≢◌, ℕ, ◌+◌, ◌<◌, List,
 use Rattle.sh_map.specs.declared.log.Change.{Change}
 use Rattle.sh_map.specs.declared.log.Change.TheVariants.{Put, Del}
 use Rattle.sh_map.specs.declared.log.Entry.{Entry}
-use Rattle.sh_map.specs.Map.{Map, get, put, del}
+use Rattle.sh_map.specs.Map.{Map, get}
 use Rattle.sh_map.specs.Log.{key_of, left_by, changed, map_at}
 use Rattle.sh_map.proofs.MapLemmas.{get-put, get-del}
 use Rattle.sh_map.proofs.LogLemmas.{changed_other, map_more}

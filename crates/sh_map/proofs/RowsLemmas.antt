@@ -24,7 +24,7 @@ pub second : (a b : Bool) → T (a && b) → T b
 second true b h = h
 second false b h = absurd h
 
-both : (a b : Bool) → T a → T b → T (a && b)
+pub both : (a b : Bool) → T a → T b → T (a && b)
 both true b p q = q
 both false b p q = p
 
@@ -74,7 +74,7 @@ gap_tail r rows key i gap = record {
 at_tail : (r : Row) (rows : List Row) (key i : ℕ) → IsAt (r ∷ rows) key (suc i) → IsAt rows key i
 at_tail r rows key i at = record { in_range = omega (arith, at.in_range); has_key = at.has_key }
 
-less_is : (x y : ℕ) → x < y → nat_cmp x y ≡ Less
+pub less_is : (x y : ℕ) → x < y → nat_cmp x y ≡ Less
 less_is x y h = sym (nat_cmp_is x y Less h)
 
 greater_is : (x y : ℕ) → y < x → nat_cmp x y ≡ Greater

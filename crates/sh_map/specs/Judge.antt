@@ -6,8 +6,10 @@ use Rattle.sh_map.specs.declared.call.Reply.{Reply}
 use Rattle.sh_map.specs.declared.call.Reply.TheVariants as reply
 use Rattle.sh_map.specs.declared.log.Entry.{Entry}
 use Rattle.sh_map.specs.declared.book.Done.{Done}
-use Rattle.sh_map.specs.declared.judge.Misfit.{Misfit}
-use Rattle.sh_map.specs.declared.judge.Misfit.TheVariants as misfit
+use Rattle.sh_map.specs.declared.misfit.Misfit.{Misfit}
+use Rattle.sh_map.specs.declared.misfit.Misfit.TheVariants as misfit
+use Rattle.sh_map.specs.declared.misfit.Rule.{Rule}
+use Rattle.sh_map.specs.declared.misfit.Rule.TheVariants as rule
 use Rattle.sh_map.specs.Log.{map_at, IsNext}
 use Rattle.sh_map.specs.Book.{AnswersRange, AnswersAt, IsOwn, IsLastOfSeat, IsLater}
 
@@ -25,8 +27,13 @@ abbrev pub RowsAnswer : List Entry → Done → Call → Reply → Type 0
 RowsAnswer log d (Range low high) (reply.Rows upto) = (d.point ≤ length log) × AnswersRange log d.first d.point low upto d.rows
 RowsAnswer log d asked answer = Unit {0}
 
+-- a finished call follows one before it, in number and in its seat's order
+pub record Follows (x d : Done) : Type 0 where
+  pub number : x.n < d.n
+  pub order : IsLater x d
+
 -- Three rules of a finished call d behind those before it: it is answered at its point, but for rows; its rows answer;
--- it begins no later than its point, and follows the others in number and in its seat's order.
+-- it begins no later than its point, and follows the others.
 abbrev pub FitsReply : List Entry → List Done → Done → Type 0
 FitsReply log before d = (d.point ≤ length log) × AnswersAside log d d.call d.reply
 
@@ -34,7 +41,13 @@ abbrev pub FitsRows : List Entry → List Done → Done → Type 0
 FitsRows log before d = RowsAnswer log d d.call d.reply
 
 abbrev pub FitsOrder : List Done → Done → Type 0
-FitsOrder before d = (d.first ≤ d.point) × All (λ x. (x.n < d.n) × IsLater x d) before
+FitsOrder before d = (d.first ≤ d.point) × All (λ x. Follows x d) before
+
+-- the rule of each kind
+abbrev pub FitsRule : Rule → List Entry → List Done → Done → Type 0
+FitsRule rule.Reply log before d = FitsReply log before d
+FitsRule rule.Rows log before d = FitsRows log before d
+FitsRule rule.Order log before d = FitsOrder before d
 
 -- each finished call keeps a rule
 abbrev pub AllFit : (List Done → Done → Type 0) → List Done → Type 0

@@ -6,3 +6,4 @@ pub mod Points
 pub mod Rows
 pub mod Judge
 pub mod Made
+pub mod Laws

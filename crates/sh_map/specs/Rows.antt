@@ -1,9 +1,11 @@
 -- A map as a list of rows with rising keys.
-use Rattle.std.specs.Prelude.{◌≡◌, ℕ, ◌<◌, ◌≤◌, List, [], length, map, slice_index_or, T}
+use Rattle.std.specs.Prelude.{◌≡◌, ℕ, ◌<◌, ◌≤◌, List, [], length, map, slice_index_or, take, Option, T}
 use Rattle.std.specs.Ordering.{nat_cmp}
-use Rattle.std.specs.FinMap.{from_sorted, is_sorted}
+use Rattle.std.specs.FinMap.{from_entries, from_sorted, is_sorted}
 use Rattle.sh_map.specs.declared.book.Row.{Row}
-use Rattle.sh_map.specs.Map.{Map, pair_of}
+use Rattle.sh_map.specs.declared.log.Entry.{Entry}
+use Rattle.sh_map.specs.Map.{Map, get, pair_of}
+use Rattle.sh_map.specs.Log.{map_from}
 
 -- each row's key is below the next one's
 abbrev pub IsRising : List Row → Type 0
@@ -29,3 +31,11 @@ pub record IsGapFor (rows : List Row) (key i : ℕ) : Type 0 where
   pub in_range : i ≤ length rows
   pub smaller_before : (j : ℕ) → j < i → key_at rows j < key
   pub greater_after : (j : ℕ) → i ≤ j → j < length rows → key < key_at rows j
+
+-- from this map on, a key has this at some point of the entries
+abbrev pub Becomes : Map → List Entry → ℕ → Option (List ℕ) → Type 0
+Becomes m log key had = (q : ℕ) × (q ≤ length log) × (get (map_from m (take q log)) key ≡ had)
+
+-- a key of low..upto has at some point of the entries what the rows give it
+pub record HasPoint (m : Map) (log : List Entry) (rows : List Row) (low upto key : ℕ) : Type 0 where
+  pub here : low ≤ key → key < upto → Becomes m log key (get (from_entries (map pair_of rows)) key)

@@ -8,9 +8,9 @@ use crate::{Call, Change, Done, Entry, PlainMap, Reply};
 use sh_base::Value;
 use std::alloc::{AllocError, Global};
 
-/// Whether two values, or two wants of a value, are the same.
-pub(crate) fn same(a: Option<Value>, b: Option<Value>) -> bool
-    ensures { IsTrue result ↔ (a ≡ b) }
+/// Whether two values are the same, or both are none.
+pub(crate) fn same(a: &Option<Value>, b: &Option<Value>) -> bool
+    ensures { IsTrue result ↔ (a.now ≡ b.now) }
 {
     match (a, b) {
         (Some(a), Some(b)) => a.words() == b.words(),
@@ -27,11 +27,11 @@ fn is_next(map: &PlainMap, entry: &Entry) -> bool
         Change::Put { .. } => true,
         Change::Del { .. } => entry.old.is_some(),
     };
-    removes && same(entry.old, map.get(entry.change.key()))
+    removes && same(&entry.old, &map.get(entry.change.key()))
 }
 
-// How many entries a call with this reply has made.
-fn made(call: Call, reply: Reply) -> u64
+/// How many entries a call with this reply has made.
+pub(crate) fn made(call: Call, reply: Reply) -> u64
     ensures { result ≡ made call reply }
 {
     match (call, reply) {

@@ -3,7 +3,7 @@ ghost use Rattle.std.specs.Prelude.{IsTrue, ◌↔◌, ◌≡◌, ◌<◌, ◌�
 ghost use Rattle.sh_map.specs.Map.{get};
 ghost use Rattle.sh_map.specs.Log.{map_of, map_at};
 ghost use Rattle.sh_map.specs.Book.{entry_of};
-ghost use Rattle.sh_map.specs.Judge.{AnswersAside, FitsReply};
+ghost use Rattle.sh_map.specs.Judge.{AnswersAside};
 
 use crate::entries::same;
 use crate::{Call, Change, Done, Entry, Reply};
@@ -27,7 +27,7 @@ fn left_at(log: &[Entry], key: u64) -> Option<Value>
 fn is_change(a: Change, b: Change) -> bool
     ensures { IsTrue result ↔ (a ≡ b) }
 {
-    a.key() == b.key() && same(a.left(), b.left())
+    a.key() == b.key() && same(&a.left(), &b.left())
 }
 
 // Whether this is the entry at a place.
@@ -36,7 +36,7 @@ fn has_entry(log: &[Entry], at: u64, seat: u32, change: Change, old: Option<Valu
 {
     match log.get(at as usize) {
         Some(entry) => {
-            entry.seat == seat && is_change(entry.change, change) && same(entry.old, old)
+            entry.seat == seat && is_change(entry.change, change) && same(&entry.old, &old)
         }
         None => false,
     }
@@ -47,10 +47,10 @@ fn has_at(log: &[Entry], point: u64, key: u64, had: Option<Value>) -> bool
     requires { point ≤ length log.now }
     ensures { IsTrue result ↔ (get (map_at log.now point) key ≡ had) }
 {
-    same(left_at(&log[..point as usize], key), had)
+    same(&left_at(&log[..point as usize], key), &had)
 }
 
-// Whether a get of this key is answered so at its point.
+// Whether a get of this key is answered at its point.
 fn answers_get(log: &[Entry], done: &Done, key: u64) -> bool
     requires { done.now.point ≤ length log.now }
     ensures { IsTrue result ↔ AnswersAside log.now done.now (Call.Get key) done.now.reply }
@@ -62,7 +62,7 @@ fn answers_get(log: &[Entry], done: &Done, key: u64) -> bool
     }
 }
 
-// Whether a put of this value is answered so by its entry.
+// Whether a put of this value is answered by its entry.
 fn answers_put(log: &[Entry], done: &Done, key: u64, value: Value) -> bool
     ensures { IsTrue result ↔ AnswersAside log.now done.now (Call.Put key value) done.now.reply }
 {
@@ -75,7 +75,7 @@ fn answers_put(log: &[Entry], done: &Done, key: u64, value: Value) -> bool
     }
 }
 
-// Whether a delete of this key is answered so at its point.
+// Whether a delete of this key is answered at its point.
 fn answers_del(log: &[Entry], done: &Done, key: u64) -> bool
     requires { done.now.point ≤ length log.now }
     ensures { IsTrue result ↔ AnswersAside log.now done.now (Call.Del key) done.now.reply }
@@ -90,7 +90,7 @@ fn answers_del(log: &[Entry], done: &Done, key: u64) -> bool
     }
 }
 
-// Whether a range up to here ends where a reply may.
+// Whether a range's reply ends within its bounds.
 fn answers_range(log: &[Entry], done: &Done, low: u64, high: u64) -> bool
     ensures { IsTrue result ↔ AnswersAside log.now done.now (Call.Range low high) done.now.reply }
 {

@@ -1,0 +1,66 @@
+-- What rows and points say of a range.
+use Rattle.std.proofs.Common.{◌≡◌, ◌≢◌, ◌↔◌, ◌⊎◌, ℕ, zero, suc, ◌+◌, ◌-◌, ◌<◌, ◌≤◌, Bool, List, [], ◌∷◌, length, get_or, take, map, Option, inl, inr, refl, sym, ap, ◌∙◌, arith, length-take-le}
+use Rattle.std.proofs.lemmas.List.{take_more, get_or-take, get_or_default}
+use Rattle.std.specs.Prelude.{T, IsTrue, AllPairs, Any}
+use Rattle.std.specs.Ordering.{nat_cmp}
+use Rattle.std.specs.FinMap.Entries.{below_all}
+use Rattle.std.proofs.lemmas.Bool.{cases_eq}
+use Rattle.std.proofs.lemmas.List.Quantifiers.{all_pairs_push}
+use Rattle.sh_map.specs.declared.log.Entry.{Entry}
+use Rattle.sh_map.specs.declared.book.Row.{Row}
+use Rattle.sh_map.specs.Map.{Map, get, pair_of}
+use Rattle.sh_map.specs.Log.{key_of, left_by, changed, map_from}
+use Rattle.sh_map.specs.Rows.{IsRising, Becomes}
+use Rattle.sh_map.proofs.LogLemmas.{changed_other}
+use Rattle.sh_map.proofs.ReplyLemmas.{changed_here}
+use Rattle.sh_map.proofs.RowsLemmas.{less_is, both}
+
+-- a walk over rows, one row on, which was read and lies above the one before
+module _ (rows : List Row) (at : ℕ) (row : Row) (in_range : at < length rows) (read : row ≡ get_or rows at row) where
+  pub rising_more : AllPairs (λ x y. x.key < y.key) (take at rows) → (0 < at → (x : Row) × (x ≡ get_or rows (at - 1) x) × (x.key < row.key)) → AllPairs (λ x y. x.key < y.key) (take (at + 1) rows)
+  rising_more pairs last = rw (take_more rows at row in_range) (all_pairs_push (λ x y. x.key < y.key) (take at rows) (get_or rows at row) pairs (λ k d lt.
+      let len : length (take at rows) ≡ at = length-take-le at rows (omega arith) in
+      let x = last (omega arith) in
+      let above : x.0.key < (get_or rows at row).key = omega (arith, x.2, ap (λ (r : Row). r.key) read) in
+      let in_take : (i : ℕ) → i < at → get_or (take at rows) i d ≡ get_or rows i x.0 = λ i h. get_or-take at rows i d h ∙ get_or_default rows i d x.0 (omega arith) in
+      let at_last : (get_or (take at rows) (at - 1) d).key ≡ x.0.key = ap (λ (r : Row). r.key) (in_take (at - 1) (omega arith) ∙ sym x.1) in
+      elim (cases_eq k (at - 1)) [
+        | inl same ↦ omega (arith, above, at_last, ap (λ (i : ℕ). (get_or (take at rows) i d).key) same)
+        | inr differ ↦ omega (arith, above, at_last, pairs k (at - 1) d (omega arith) (omega arith))
+      ]))
+
+pub is_rising : (rows : List Row) → AllPairs (λ x y. x.key < y.key) rows → IsRising rows
+is_rising [] h = tt
+is_rising (r ∷ rows) h = both _ _ (below r.key rows (λ j d lt. h 0 (suc j) d (omega arith) (omega arith))) (is_rising rows (λ i j d lt in_range. h (suc i) (suc j) d (omega arith) (omega arith)))
+  where
+    below : (x : ℕ) (rs : List Row) → ((j : ℕ) (d : Row) → j < length rs → x < (get_or rs j d).key) → T (below_all nat_cmp x (map pair_of rs))
+    below x [] above = tt
+    below x (s ∷ rs) above = both _ _ (rw (less_is x s.key (above 0 s (omega arith))) tt) (below x rs (λ j d lt. above (suc j) d (omega arith)))
+
+-- a key has something at a point of the entries where it had it before, or an entry leaves it so
+becomes_by_entry : (m : Map) (log : List Entry) (key : ℕ) (had : Option (List ℕ)) (k : ℕ) (e : Entry) → k < length log → get_or log k e ≡ e → key_of e.change ≡ key → left_by e.change ≡ had → Becomes m log key had
+becomes_by_entry m [] key had k e lt is of_key left = absurd (omega arith)
+becomes_by_entry m (x ∷ log) key had zero e lt is of_key left =
+    let here : key_of x.change ≡ key = ap (λ (y : Entry). key_of y.change) is ∙ of_key in
+    (1, omega arith, ap (get (changed m x.change)) (sym here) ∙ changed_here m x.change ∙ ap (λ (y : Entry). left_by y.change) is ∙ left)
+becomes_by_entry m (x ∷ log) key had (suc k) e lt is of_key left =
+    let later = becomes_by_entry (changed m x.change) log key had k e (omega arith) is of_key left in
+    (suc later.0, omega (arith, later.1), later.2)
+
+becomes_cases : (m : Map) (log : List Entry) (key : ℕ) (had : Option (List ℕ)) (q : ℕ) → q ≤ length log → get (map_from m (take q log)) key ≡ had → (get m key ≡ had) ⊎ Any (λ e. (key_of e.change ≡ key) × (left_by e.change ≡ had)) log
+becomes_cases m log key had zero le is = inl is
+becomes_cases m [] key had (suc q) le is = absurd (omega arith)
+becomes_cases m (x ∷ log) key had (suc q) le is = elim (becomes_cases (changed m x.change) log key had q (omega arith) is) [
+  | inr any ↦ inr (suc any.0, any.1, omega (arith, any.2), any.3, any.4)
+  | inl here ↦ elim (cases_eq (key_of x.change) key) [
+    | inl same ↦ inr (0, x, omega arith, refl, (same, sym (changed_here m x.change) ∙ ap (get (changed m x.change)) same ∙ here))
+    | inr differ ↦ inl (sym (changed_other m x.change key (λ e. differ (sym e))) ∙ here)
+  ]
+]
+
+-- a test of the entries is one of the points, where the key didn't have it before
+pub becomes_decides : (m : Map) (log : List Entry) (key : ℕ) (had wanted : Option (List ℕ)) (t : Bool) → had ≡ wanted → (get m key ≢ had) → (IsTrue t ↔ Any (λ e. (key_of e.change ≡ key) × (left_by e.change ≡ had)) log) → IsTrue t ↔ Becomes m log key wanted
+becomes_decides m log key had wanted t same not_before told = (
+  λ yes. let any = told.0 yes in becomes_by_entry m log key wanted any.0 any.1 any.2 any.3 any.4.0 (any.4.1 ∙ same),
+  λ b. elim (becomes_cases m log key had b.0 b.1 (b.2 ∙ sym same)) [ inl before ↦ absurd (not_before before) | inr any ↦ told.1 any ],
+)

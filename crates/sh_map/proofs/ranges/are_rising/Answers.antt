@@ -1,0 +1,21 @@
+use Rattle.std.proofs.Common.{◌<◌, arith, subst, ap, refl}
+use Rattle.std.specs.Prelude.{AllPairs}
+use Rattle.std.proofs.lemmas.List.{take_all}
+use Rattle.sh_map.specs.declared.book.Row.{Row}
+use Rattle.sh_map.proofs.RangeLemmas.{rising_more}
+use Rattle.sh_map.proofs.ranges.are_rising.Goals as goal
+use Rattle.sh_map.proofs.ranges.are_rising.Goals.{else-at-gt0-via-then-at-gt0+else-row-rows, else-at-gt0-via-else-at-gt0}
+
+pub loop-at-preserved : goal.loop-at-preserved
+loop-at-preserved c =
+    let rows = c.args.rows.now in
+    let at = c.loop-at.at in
+    rising_more rows at c.index-rows-at.result c.loop-at-test.true c.index-rows-at.is c.loop-at.invariant (λ positive. elim c.else-at-gt0.branch [
+      | else-at-gt0-via-then-at-gt0+else-row-rows w ↦ (w.index-rows-at-then-at-gt0.result, w.index-rows-at-then-at-gt0.is, omega (arith, ap (λ (r : Row). r.key) w.index-rows-at-then-at-gt0.is, w.if-row-rows.false))
+      | else-at-gt0-via-else-at-gt0 w ↦ absurd (omega arith)
+    ])
+
+pub returns : goal.returns
+returns c =
+    let rows = c.args.rows.now in
+    (λ yes. subst (AllPairs (λ x y. x.key < y.key)) (take_all c.loop-at.at rows c.loop-at-test.false) c.loop-at.invariant, λ pairs. refl)

@@ -6,7 +6,7 @@ mod leaf;
 mod read;
 mod write;
 
-pub use laws::leaves_spelled_once;
+pub use laws::{causes_shut_each_other_out, leaves_spelled_once};
 pub use leaf::{LeafEntry, LeafImage};
 pub use read::{Seen, read_image};
 pub use write::{write_entry, write_leaf};

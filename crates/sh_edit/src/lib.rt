@@ -2,6 +2,7 @@
 #![tactic(auto)]
 
 mod laws;
+mod split;
 
 ghost use Rattle.std.specs.Prelude.{◌≡◌, ◌-◌, ◌<◌, ◌≤◌, ◌^◌, MatchOption, length, map};
 ghost use Rattle.sh_edit.specs.Held.{value_at};
@@ -12,6 +13,7 @@ pub use laws::edits_are_the_maps;
 use sh_base::Value;
 use sh_image::{LeafEntry, LeafImage};
 use sh_lanes::first_equal;
+pub use split::{LeafHalves, split_leaf};
 
 /// Where a put of a key goes.
 #[derive(Clone, Copy, Debug)]

@@ -5,3 +5,4 @@ pub mod RoomLemmas
 pub mod SortLemmas
 pub mod FillLemmas
 pub mod SplitLemmas
+pub mod HalvesLemmas

@@ -26,16 +26,16 @@ some_none : {x : List ℕ} → Some x ≡ None → ⊥
 some_none h = cc
 
 -- no pair has the key 0
-abbrev AreKeys : List (ℕ × List ℕ) → Type 0
+abbrev pub AreKeys : List (ℕ × List ℕ) → Type 0
 AreKeys pairs = AllByRecursion (λ x. x.0 ≢ 0) pairs
 
 module _ (P : ℕ × List ℕ → Type 0) where
-  all_take : (n : ℕ) (pairs : List (ℕ × List ℕ)) → AllByRecursion P pairs → AllByRecursion P (take n pairs)
+  pub all_take : (n : ℕ) (pairs : List (ℕ × List ℕ)) → AllByRecursion P pairs → AllByRecursion P (take n pairs)
   all_take zero pairs h = tt
   all_take (suc n) [] h = tt
   all_take (suc n) (x ∷ pairs) h = (h.0, all_take n pairs h.1)
 
-  all_drop : (n : ℕ) (pairs : List (ℕ × List ℕ)) → AllByRecursion P pairs → AllByRecursion P (drop n pairs)
+  pub all_drop : (n : ℕ) (pairs : List (ℕ × List ℕ)) → AllByRecursion P pairs → AllByRecursion P (drop n pairs)
   all_drop zero pairs h = h
   all_drop (suc n) [] h = tt
   all_drop (suc n) (x ∷ pairs) h = all_drop n pairs h.1
@@ -82,16 +82,16 @@ find_apart : (xs : List (ℕ × List ℕ)) (q : ℕ) → AllByRecursion (λ x. x
 find_apart [] q h = refl
 find_apart (x ∷ xs) q h = rw (apart_test q x.0 (λ e. h.0 (sym e))) (find_apart xs q h.1)
 
-all_weaker : (P Q : ℕ × List ℕ → Type 0) (xs : List (ℕ × List ℕ)) → ((x : ℕ × List ℕ) → P x → Q x) → AllByRecursion P xs → AllByRecursion Q xs
+pub all_weaker : (P Q : ℕ × List ℕ → Type 0) (xs : List (ℕ × List ℕ)) → ((x : ℕ × List ℕ) → P x → Q x) → AllByRecursion P xs → AllByRecursion Q xs
 all_weaker P Q [] f h = tt
 all_weaker P Q (x ∷ xs) f h = (f x h.0, all_weaker P Q xs f h.1)
 
 -- ---- the separator parts the rising pairs
-above_all : (x : ℕ) (ps : List (ℕ × List ℕ)) → T (below_all nat_cmp x ps) → AllByRecursion (λ y. x ≤ y.0) ps
+pub above_all : (x : ℕ) (ps : List (ℕ × List ℕ)) → T (below_all nat_cmp x ps) → AllByRecursion (λ y. x ≤ y.0) ps
 above_all x [] h = tt
 above_all x (y ∷ ps) h = (omega (arith, less x y.0 (first _ _ h)), above_all x ps (second _ _ h))
 
-pair_above : (x : ℕ) (ps : List (ℕ × List ℕ)) (n : ℕ) → T (below_all nat_cmp x ps) → n < length ps → x < (get_or ps n (0, [])).0
+pub pair_above : (x : ℕ) (ps : List (ℕ × List ℕ)) (n : ℕ) → T (below_all nat_cmp x ps) → n < length ps → x < (get_or ps n (0, [])).0
 pair_above x [] n h lt = absurd (omega arith)
 pair_above x (y ∷ ps) zero h lt = less x y.0 (first _ _ h)
 pair_above x (y ∷ ps) (suc n) h lt = pair_above x ps n (second _ _ h) (omega arith)
@@ -107,7 +107,7 @@ drop_above (x ∷ ps) zero h lt = (omega arith, above_all x.0 ps (first _ _ h))
 drop_above (x ∷ ps) (suc n) h lt = drop_above ps n (second _ _ h) (omega arith)
 
 module _ (es : List LeafEntry) (key : ℕ) (value : List ℕ) (nz : key ≢ 0) where
-  are_keys : AreKeys (pairs_after es key value)
+  pub are_keys : AreKeys (pairs_after es key value)
   are_keys = keys_from_none (pairs_after es key value) (sym (get-entries (put (map_of_entries es) key value) 0) ∙ get-put_other (map_of_entries es) key 0 value (λ e. nz (sym e)) ∙ get-zero es)
 
 module _ (a : Leaf) (key : ℕ) (value : List ℕ) (right : ℕ) (nz : key ≢ 0) where
@@ -158,10 +158,10 @@ module _ (P : ℕ × List ℕ → Type 0) where
   all_from [] h = nothing (entries (from_entries {R = nat_cmp} [])) (sym (len-entries (from_entries {R = nat_cmp} [])) ∙ len-empty nat_cmp (List ℕ))
   all_from (x ∷ ps) h = subst (AllByRecursion P) (sym (entries-insert nat_cmp_total (from_entries {R = nat_cmp} ps) x.0 x.1)) (all_put x.0 x.1 (entries (from_entries {R = nat_cmp} ps)) h.0 (all_from ps h.1))
 
-  all_after : (es : List LeafEntry) (key : ℕ) (value : List ℕ) → P (key, value) → AllByRecursion P (pairs_of es) → AllByRecursion P (pairs_after es key value)
+  pub all_after : (es : List LeafEntry) (key : ℕ) (value : List ℕ) → P (key, value) → AllByRecursion P (pairs_of es) → AllByRecursion P (pairs_after es key value)
   all_after es key value p h = subst (AllByRecursion P) (sym (entries-insert nat_cmp_total (map_of_entries es) key value)) (all_put key value (entries (map_of_entries es)) p (all_from (pairs_of es) h))
 
-  all_at : (ps : List (ℕ × List ℕ)) (n : ℕ) (d : ℕ × List ℕ) → n < length ps → AllByRecursion P ps → P (get_or ps n d)
+  pub all_at : (ps : List (ℕ × List ℕ)) (n : ℕ) (d : ℕ × List ℕ) → n < length ps → AllByRecursion P ps → P (get_or ps n d)
   all_at [] n d lt h = absurd (omega arith)
   all_at (x ∷ ps) zero d lt h = h.0
   all_at (x ∷ ps) (suc n) d lt h = all_at ps n d (omega arith) h.1
@@ -171,13 +171,13 @@ module _ (a : Leaf) (key : ℕ) (value : List ℕ) (right : ℕ) (some : 1 ≤ l
   long : length (pairs_after a.entries key value) ≡ length a.entries + 1
   long = length-pairs_after a.entries key value nz none full once
 
-  some_right : left_count a.entries < length (pairs_after a.entries key value)
+  pub some_right : left_count a.entries < length (pairs_after a.entries key value)
   some_right = right_is_some a.entries key value nz none full once some
 
-  left_below : AllByRecursion (λ y. y.0 < separator_of a.entries key value) (take (left_count a.entries) (pairs_after a.entries key value))
+  pub left_below : AllByRecursion (λ y. y.0 < separator_of a.entries key value) (take (left_count a.entries) (pairs_after a.entries key value))
   left_below = take_below (pairs_after a.entries key value) (left_count a.entries) (entries_sorted (put (map_of_entries a.entries) key value)) some_right
 
-  right_from : AllByRecursion (λ y. separator_of a.entries key value ≤ y.0) (drop (left_count a.entries) (pairs_after a.entries key value))
+  pub right_from : AllByRecursion (λ y. separator_of a.entries key value ≤ y.0) (drop (left_count a.entries) (pairs_after a.entries key value))
   right_from = drop_above (pairs_after a.entries key value) (left_count a.entries) (entries_sorted (put (map_of_entries a.entries) key value)) some_right
 
   parts : (q : ℕ) → find nat_cmp q (take (left_count a.entries) (pairs_after a.entries key value) ++ drop (left_count a.entries) (pairs_after a.entries key value)) ≡ get (put (map_of_entries a.entries) key value) q

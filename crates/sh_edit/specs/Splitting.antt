@@ -1,11 +1,12 @@
 -- A leaf without room, split at a put.
-use Rattle.std.specs.Prelude.{ℕ, ◌+◌, ◌-◌, ◌/◌, ◌==◌, if◌then◌else◌, List, [], ◌++◌, length, map, take, drop, replicate, slice_index_or}
+use Rattle.std.specs.Prelude.{◌≤◌, ℕ, ◌+◌, ◌-◌, ◌/◌, ◌==◌, if◌then◌else◌, List, [], ◌++◌, length, map, take, drop, replicate, slice_index_or}
 use Rattle.std.specs.Option.{unwrap_or}
 use Rattle.std.specs.FinMap.{entries}
 use Rattle.sh_map.specs.Map.{put}
 use Rattle.sh_image.specs.declared.leaf.LeafEntry.{LeafEntry}
 use Rattle.sh_image.specs.Leaf.{Leaf}
-use Rattle.sh_edit.specs.Held.{held, map_of_entries}
+use Rattle.sh_edit.specs.Held.{held, map_of_entries, HasKeysOnce}
+use Rattle.sh_edit.specs.Placing.{HasNone}
 
 -- an empty entry whose value is as long as this one
 abbrev pub empty_like : List ℕ → LeafEntry
@@ -45,3 +46,11 @@ value_after es key value q = if q == key then value else unwrap_or (held es q) v
 
 abbrev pub pair_after : List LeafEntry → ℕ → List ℕ → ℕ → ℕ × List ℕ
 pair_after es key value q = (q, value_after es key value q)
+
+-- a leaf that a put of the key finds without room: it has an entry, no key twice, and neither the key nor an empty entry
+pub record IsSplit (a : Leaf) (key : ℕ) : Type 0 where
+  pub some : 1 ≤ length a.entries
+  pub once : HasKeysOnce a.entries
+  pub lacks : HasNone a.entries key
+  pub full : HasNone a.entries 0
+  pub is_key : 1 ≤ key

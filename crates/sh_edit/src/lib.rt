@@ -9,7 +9,7 @@ ghost use Rattle.sh_edit.specs.Held.{value_at};
 ghost use Rattle.sh_edit.specs.Placing.{HasNone, IsFirstWith, PlacedBy};
 ghost use Rattle.sh_edit.specs.Rewriting.{cleared, rewritten};
 
-pub use laws::edits_are_the_maps;
+pub use laws::{edits_are_the_maps, splits_are_the_maps};
 use sh_base::Value;
 use sh_image::{LeafEntry, LeafImage};
 use sh_lanes::first_equal;

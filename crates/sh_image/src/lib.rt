@@ -1,11 +1,13 @@
 //! Images of leaves, the words that spell them, and what the words of a node are.
 #![tactic(auto)]
 
+mod inner;
 mod laws;
 mod leaf;
 mod read;
 mod write;
 
+pub use inner::{InnerImage, Pair};
 pub use laws::{causes_shut_each_other_out, leaves_spelled_once};
 pub use leaf::{LeafEntry, LeafImage};
 pub use read::{Seen, read_image};

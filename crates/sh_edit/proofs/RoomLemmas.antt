@@ -12,10 +12,10 @@ use Rattle.sh_edit.specs.Held.{pairs_of, has_room, map_of_entries, key_at, HasKe
 use Rattle.sh_edit.specs.Placing.{HasNone}
 use Rattle.sh_edit.proofs.HeldLemmas.{differ_test, get-map_of_entries, held_none}
 
-once_tail : (e : LeafEntry) (es : List LeafEntry) → HasKeysOnce (e ∷ es) → HasKeysOnce es
+pub once_tail : (e : LeafEntry) (es : List LeafEntry) → HasKeysOnce (e ∷ es) → HasKeysOnce es
 once_tail e es once i j less below same = once (suc i) (suc j) (omega arith) (omega arith) same
 
-once_head : (e : LeafEntry) (es : List LeafEntry) → e.key ≢ 0 → HasKeysOnce (e ∷ es) → HasNone es e.key
+pub once_head : (e : LeafEntry) (es : List LeafEntry) → e.key ≢ 0 → HasKeysOnce (e ∷ es) → HasNone es e.key
 once_head e es nz once j below is = nz (once 0 (suc j) (omega arith) (omega arith) (sym is))
 
 -- the map has as many keys as there are pairs

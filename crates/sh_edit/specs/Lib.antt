@@ -1,3 +1,4 @@
 pub mod Held
 pub mod Placing
 pub mod Rewriting
+pub mod Splitting

@@ -1,13 +1,15 @@
 // What the changes of a leaf mean for the map that its entries hold.
-ghost use Rattle.std.specs.Prelude.{◌≡◌, ◌≢◌, ◌<◌, ◌≤◌, ◌⊎◌, ℕ, List, length, replicate, nat_lt, Some, None};
+ghost use Rattle.std.specs.Prelude.{◌≡◌, ◌≢◌, ◌<◌, ◌≤◌, ◌⊎◌, ◌^◌, ◌++◌, ℕ, List, length, replicate, nat_lt, Some, None};
 ghost use Rattle.sh_base.specs.declared.config.ConfigParts.{ConfigParts};
-ghost use Rattle.sh_base.specs.Setting.{last_version};
+ghost use Rattle.sh_base.specs.Setting.{last_version, nodes};
+ghost use Rattle.std.specs.FinMap.{from_entries};
 ghost use Rattle.sh_map.specs.Map.{get, put, del, size};
 ghost use Rattle.sh_image.specs.declared.leaf.LeafEntry.{LeafEntry};
 ghost use Rattle.sh_image.specs.Leaf.{Leaf, IsLeaf};
-ghost use Rattle.sh_edit.specs.Held.{map_of_entries, value_at, key_at, has_room, HasKeysOnce};
+ghost use Rattle.sh_edit.specs.Held.{map_of_entries, pairs_of, value_at, key_at, has_room, HasKeysOnce};
 ghost use Rattle.sh_edit.specs.Placing.{IsFirstWith, HasNone};
 ghost use Rattle.sh_edit.specs.Rewriting.{rewritten};
+ghost use Rattle.sh_edit.specs.Splitting.{left_half, right_half, separator_of, IsSplit};
 
 /// The changes of a leaf are the map's. What `find` finds is the map's value of the key. A rewrite at the index that
 /// `place` answered is the put, and one that empties the index that `remove` answered is the delete, of a leaf without
@@ -22,4 +24,17 @@ pub fn edits_are_the_maps()
     ensures once { (a : Leaf) (i key : ℕ) (value : List ℕ) → i < length a.entries → HasKeysOnce a.entries → ((j : ℕ) → j < length a.entries → j ≢ i → key_at a.entries j ≡ key → key ≡ 0) → HasKeysOnce (rewritten a i key value).entries }
     ensures lawful { (p : ConfigParts) (a : Leaf) (i key : ℕ) (value : List ℕ) → IsLeaf p a → a.version < last_version p → length value ≡ p.value_words → ((key ≡ 0) × (value ≡ replicate p.value_words 0)) ⊎ ((a.low ≤ key) × (1 ≤ key) × (key < a.high)) → IsLeaf p (rewritten a i key value) }
     ensures room { (es : List LeafEntry) → HasKeysOnce es → nat_lt (size (map_of_entries es)) (length es) ≡ has_room es }
+{}
+
+/// A split at a put parts the leaf's map after it. The pairs of the two halves together are the put's; a key has its
+/// value in the left half where it lies below the separator, and else in the right one, and the other half lacks it.
+/// The separator lies between the fences, above the low one. No half has a key twice; and both meet the rules where the
+/// leaf did, its version wasn't the last one, and the right half's node is one of the setting's.
+pub fn splits_are_the_maps()
+    ensures together { (a : Leaf) (key right : ℕ) (value : List ℕ) → key ≢ 0 → from_entries (pairs_of (left_half a key value right).entries ++ pairs_of (right_half a key value).entries) ≡ put (map_of_entries a.entries) key value }
+    ensures left { (a : Leaf) (key right q : ℕ) (value : List ℕ) → IsSplit a key → q < separator_of a.entries key value → (get (map_of_entries (left_half a key value right).entries) q ≡ get (put (map_of_entries a.entries) key value) q) × (get (map_of_entries (right_half a key value).entries) q ≡ None) }
+    ensures right { (a : Leaf) (key right q : ℕ) (value : List ℕ) → IsSplit a key → separator_of a.entries key value ≤ q → (get (map_of_entries (left_half a key value right).entries) q ≡ None) × (get (map_of_entries (right_half a key value).entries) q ≡ get (put (map_of_entries a.entries) key value) q) }
+    ensures once { (a : Leaf) (key right : ℕ) (value : List ℕ) → key ≢ 0 → HasKeysOnce (left_half a key value right).entries × HasKeysOnce (right_half a key value).entries }
+    ensures separator { (p : ConfigParts) (a : Leaf) (key : ℕ) (value : List ℕ) → IsSplit a key → IsLeaf p a → length value ≡ p.value_words → a.low ≤ key → key < a.high → (a.low < separator_of a.entries key value) × (separator_of a.entries key value < a.high) }
+    ensures lawful { (p : ConfigParts) (a : Leaf) (key right : ℕ) (value : List ℕ) → IsSplit a key → IsLeaf p a → length value ≡ p.value_words → a.low ≤ key → key < a.high → a.high < 2 ^ 64 → a.version < last_version p → 1 ≤ right → right ≤ nodes p → IsLeaf p (left_half a key value right) × IsLeaf p (right_half a key value) }
 {}

@@ -2,16 +2,18 @@
 #![tactic(auto)]
 
 mod laws;
+mod split;
 
 ghost use Rattle.std.specs.Prelude.{◌≡◌, ◌-◌, ◌<◌, ◌≤◌, ◌^◌, MatchOption, length, map};
 ghost use Rattle.sh_edit.specs.Held.{value_at};
 ghost use Rattle.sh_edit.specs.Placing.{HasNone, IsFirstWith, PlacedBy};
 ghost use Rattle.sh_edit.specs.Rewriting.{cleared, rewritten};
 
-pub use laws::edits_are_the_maps;
+pub use laws::{edits_are_the_maps, splits_are_the_maps};
 use sh_base::Value;
 use sh_image::{LeafEntry, LeafImage};
 use sh_lanes::first_equal;
+pub use split::{LeafHalves, split_leaf};
 
 /// Where a put of a key goes.
 #[derive(Clone, Copy, Debug)]
@@ -104,4 +106,93 @@ fn cleared(leaf: &LeafImage, zero: Value) -> LeafImage
         );
     }
     image
+}
+
+#[cfg(test)]
+mod tests {
+    use super::*;
+
+    // A leaf of version 7 with these keys, all entry versions 5. A key is its own value.
+    fn leaf_of(keys: [u64; 4]) -> LeafImage
+        ensures count { length result.entries ≡ 4 }
+        ensures version { result.version ≡ 7 }
+    {
+        let mut leaf = LeafImage::new(7, 10, 20, 2, 4, Value::of(&[0]));
+        leaf.set(0, entry_of(keys[0]));
+        leaf.set(1, entry_of(keys[1]));
+        leaf.set(2, entry_of(keys[2]));
+        leaf.set(3, entry_of(keys[3]));
+        leaf
+    }
+
+    fn entry_of(key: u64) -> LeafEntry {
+        LeafEntry {
+            version: 5,
+            key,
+            value: Value::of(&[key]),
+        }
+    }
+
+    fn is_over(placed: Placed, at: u32, word: u64) -> bool {
+        match placed {
+            Placed::Over { index, old } => index == at && old.words() == [word].as_slice(),
+            _ => false,
+        }
+    }
+
+    fn is_new(placed: Placed, at: u32) -> bool {
+        match placed {
+            Placed::New { index } => index == at,
+            _ => false,
+        }
+    }
+
+    fn has_no_room(placed: Placed) -> bool {
+        match placed {
+            Placed::NoRoom => true,
+            _ => false,
+        }
+    }
+
+    #[test]
+    fn a_put_goes_over_its_key_or_into_the_first_empty_entry(rt: HostRuntime) {
+        let leaf = leaf_of([12, 0, 15, 0]);
+        assert!(rt; is_over(place(&leaf, 12), 0, 12));
+        assert!(rt; is_over(place(&leaf, 15), 2, 15));
+        assert!(rt; is_new(place(&leaf, 13), 1));
+        let full = leaf_of([16, 12, 15, 11]);
+        assert!(rt; is_over(place(&full, 11), 3, 11));
+        assert!(rt; has_no_room(place(&full, 13)));
+    }
+
+    #[test]
+    fn a_delete_finds_its_key_and_value(rt: HostRuntime) {
+        let leaf = leaf_of([12, 0, 15, 0]);
+        assert!(rt;
+            match remove(&leaf, 15) {
+                Some((index, value)) => index == 2 && value.words() == [15].as_slice(),
+                None => false
+            }
+        );
+        assert!(rt;
+            match remove(&leaf, 13) {
+                Some(_) => false,
+                None => true
+            }
+        );
+    }
+
+    #[test]
+    fn a_rewrite_clears_the_entry_versions(rt: HostRuntime) {
+        let leaf = leaf_of([12, 0, 15, 0]);
+        let image = rewrite(&leaf, 1, 13, Value::of(&[130]));
+        assert!(rt; image.keys() == [12, 13, 15, 0].as_slice());
+        assert_eq!(rt; image.version(), 8);
+        assert!(rt;
+            image.entries() == 4
+                && image.entry(2).version == 0
+                && image.entry(2).value.words() == [15].as_slice()
+                && image.entry(1).value.words() == [130].as_slice()
+        );
+    }
 }

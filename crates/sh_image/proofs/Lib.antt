@@ -1,4 +1,5 @@
 mod ColumnLemmas
+mod PairLemmas
 pub mod EntriesLemmas
 pub mod LeafLemmas
 pub mod ReadLemmas

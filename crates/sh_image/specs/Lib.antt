@@ -1,4 +1,6 @@
 pub mod Entries
 pub mod Leaf
+pub mod Inner
 pub mod Columns
+pub mod PairColumns
 pub mod Seen

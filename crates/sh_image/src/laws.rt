@@ -3,6 +3,9 @@ ghost use Rattle.std.specs.Prelude.{◌≡◌, List, ℕ, length};
 ghost use Rattle.sh_base.specs.Parts.{parts_of};
 ghost use Rattle.sh_base.specs.Setting.{node_size};
 ghost use Rattle.sh_image.specs.Leaf.{Leaf, leaf_in, leaf_words, IsLeaf, Spells};
+ghost use Rattle.sh_image.specs.Seen.{IsUntorn, SeenBy};
+ghost use Rattle.sh_image.specs.declared.read.Seen.{Seen};
+ghost use Rattle.sh_image.specs.declared.read.Seen.TheVariants.{Leaf as LeafSeen};
 
 use sh_base::Config;
 
@@ -13,4 +16,11 @@ pub fn leaves_spelled_once(cfg: &Config)
     ensures spelled_once { (words : List ℕ) (a : Leaf) → Spells (parts_of cfg.now) words a → leaf_in (parts_of cfg.now) words ≡ a }
     ensures written_back { (words : List ℕ) (a : Leaf) → Spells (parts_of cfg.now) words a → leaf_words (leaf_in (parts_of cfg.now) words) ≡ words }
     ensures as_long { (a : Leaf) → IsLeaf (parts_of cfg.now) a → length (leaf_words a) ≡ node_size (parts_of cfg.now) }
+{}
+
+/// The causes of a reader's answers shut each other out: words that spell a leaf are untorn, and that leaf is the only
+/// answer of theirs.
+pub fn causes_shut_each_other_out(cfg: &Config)
+    ensures untorn { (words : List ℕ) (a : Leaf) → Spells (parts_of cfg.now) words a → IsUntorn (parts_of cfg.now) words }
+    ensures leaf { (words : List ℕ) (a : Leaf) (seen : Seen) → Spells (parts_of cfg.now) words a → SeenBy (parts_of cfg.now) words seen → seen ≡ LeafSeen a }
 {}

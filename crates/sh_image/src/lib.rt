@@ -1,12 +1,14 @@
 //! Images of leaves, the words that spell them, and what the words of a node are.
 #![tactic(auto)]
 
+mod inner;
 mod laws;
 mod leaf;
 mod read;
 mod write;
 
-pub use laws::leaves_spelled_once;
+pub use inner::{InnerImage, Pair};
+pub use laws::{causes_shut_each_other_out, leaves_spelled_once};
 pub use leaf::{LeafEntry, LeafImage};
 pub use read::{Seen, read_image};
 pub use write::{write_entry, write_leaf};

@@ -1,0 +1,44 @@
+-- The pairs in columns, by their indexes.
+use Rattle.std.proofs.Common.{◌≡◌, ℕ, ◌+◌, ◌<◌, ◌≤◌, List, [], ◌∷◌, ◌++◌, length, get_or, set, refl, sym, ap, ◌∙◌, inl, inr, length-append, arith}
+use Rattle.std.proofs.lemmas.Bool.{cases_lt}
+use Rattle.std.proofs.lemmas.List.{same_lists, get_or-set_same, get_or-set_other, get_or_append_left, get_or-append-add}
+use Rattle.std.proofs.lemmas.List.FromFn.{get_or-map-range_with_len, length-map-range_with_len}
+use Rattle.sh_image.specs.declared.inner.Pair.{Pair}
+use Rattle.sh_image.specs.PairColumns.{pair_at, pairs_of}
+
+module _ (separators children : List ℕ) where
+  pub length_pairs_of : (n : ℕ) → length (pairs_of n separators children) ≡ n
+  unfolding pairs_of
+  length_pairs_of n = length-map-range_with_len (pair_at separators children) 0 n
+
+  pub get_or_pairs_of : (n i : ℕ) (d : Pair) → i < n → get_or (pairs_of n separators children) i d ≡ pair_at separators children i
+  unfolding pairs_of
+  get_or_pairs_of n i d below = get_or-map-range_with_len (pair_at separators children) 0 n i i d below (omega arith)
+
+pub no_pairs_of : (separators children : List ℕ) → pairs_of 0 separators children ≡ []
+unfolding pairs_of
+no_pairs_of separators children = refl
+
+at_end : (xs : List Pair) (x d : Pair) (k n : ℕ) → length xs ≡ n → k ≡ n → get_or (xs ++ x ∷ []) k d ≡ x
+at_end xs x d k n long is = ap (λ j. get_or (xs ++ x ∷ []) j d) (is ∙ sym long) ∙ last xs
+  where
+    last : (xs : List Pair) → get_or (xs ++ x ∷ []) (length xs) d ≡ x
+    last [] = refl
+    last (y ∷ xs) = last xs
+
+pub pairs_of_push : (separators children : List ℕ) (n : ℕ) (x : Pair) → n < length separators → n < length children → pairs_of (n + 1) (set separators n x.separator) (set children n x.child) ≡ pairs_of n separators children ++ x ∷ []
+pairs_of_push separators children n x a b =
+    let old = pairs_of n separators children in
+    let news = set separators n x.separator in
+    let newc = set children n x.child in
+    let long = length_pairs_of news newc (n + 1) in
+    let old_long = length_pairs_of separators children n in
+    same_lists _ _ (long ∙ sym (length-append old (x ∷ []) ∙ ap (λ k. k + 1) old_long)) (λ k d h.
+    let in_range : k < n + 1 = omega (arith, long) in
+    get_or_pairs_of news newc (n + 1) k d in_range
+    ∙ elim (cases_lt k n) [
+      | inl below ↦ (λ t. record { separator = get_or-set_other separators n k x.separator 0 (λ e. omega arith) t; child = get_or-set_other children n k x.child 0 (λ e. omega arith) t }) ∙ sym (get_or_append_left old (x ∷ []) d k (omega (arith, old_long)) ∙ get_or_pairs_of separators children n k d below)
+      | inr from ↦
+          let is : k ≡ n = omega arith in
+          ap (pair_at news newc) is ∙ (λ t. record { separator = get_or-set_same separators n x.separator 0 a t; child = get_or-set_same children n x.child 0 b t }) ∙ sym (at_end old x d k n old_long is)
+    ])

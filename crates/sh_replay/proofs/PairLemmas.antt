@@ -32,7 +32,7 @@ one_more : (b : Bool) (e : LeafEntry) (es : List LeafEntry) → length (pairs_of
 one_more true e es short is = rw is (omega (arith, short))
 one_more false e es short is = rw is (omega (arith, short))
 
-pairs_short : (es : List LeafEntry) → length (pairs_of es) ≤ length es
+pub pairs_short : (es : List LeafEntry) → length (pairs_of es) ≤ length es
 pairs_short [] = omega arith
 pairs_short (e ∷ es) = one_more (eqb e.key 0) e es (pairs_short es) refl
 

@@ -24,7 +24,8 @@ use Rattle.sh_replay.specs.Replies.{IsOneKey, key_in, reply_of, changed_by}
 use Rattle.sh_map.specs.Made.{entries_by}
 use Rattle.sh_edit.specs.Held.{held, has_room, map_of_entries}
 use Rattle.sh_edit.proofs.HeldLemmas.{get-map_of_entries}
-use Rattle.sh_edit.proofs.RoomLemmas.{room_is_size}
+use Rattle.sh_edit.proofs.RoomLemmas.{room_is_size, size_is_pairs}
+use Rattle.sh_replay.proofs.PairLemmas.{pairs_short}
 use Rattle.sh_replay.specs.Leaves.{leaf_of, leaf_reply, HasLeaf, IsNextLeaf, IsServed}
 use Rattle.sh_replay.specs.Runs.{HasReply, IsNumbered, IsRun}
 use Rattle.sh_replay.proofs.ReplyLemmas.{Tells, IsUpdateReply, IsDelReply, IsGetReply, get_tells, put_tells, del_tells}
@@ -118,6 +119,12 @@ reply_by_log p words log dones call run nz =
     ∙ ap (λ r. reply_of (last_version p) (length log) r (held a.entries (key_in call)) call) room
     ∙ ap (λ h. reply_of (last_version p) (length log) (nat_lt (size (map_of log)) p.leaf) h call) had
 
+-- the map has no more keys than the leaf has entries
+map_fits : (p : ConfigParts) (words : List ℕ) (log : List Entry) (dones : List Done) → IsRun p words log dones → size (map_of log) ≤ p.leaf
+map_fits p words log dones run =
+    let es = (leaf_of p words).entries in
+    omega (arith, ap size (sym run.pairs) ∙ size_is_pairs es run.leaf.once, pairs_short es, run.leaf.spelled.lawful.count)
+
 -- an entry's own call is among more calls
 any_left : (dones : List Done) (d : Done) (P : Done → Type 0) → Any P dones → Any P (dones ++ d ∷ [])
 any_left dones d P own = (own.0, own.1, omega (arith, own.2, length-append dones (d ∷ [])), get_or_append_left dones (d ∷ []) own.1 own.0 own.2 ∙ own.3, own.4)
@@ -137,7 +144,12 @@ module _ (p : ConfigParts) (log : List Entry) (dones : List Done) (d : Done) whe
 
   -- a finished call's reply stands when the log grows
   reply_later : (e : Entry) (x : Done) → x.point ≤ length log → HasReply p log x → HasReply p (log ++ e ∷ []) x
-  reply_later e x within h = h ∙ ap (λ (m : Map). reply_of (last_version p) x.point (nat_lt (size m) p.leaf) (get m (key_in x.call)) x.call) (sym (map_at-push log e x.point within))
+  reply_later e x within h =
+      let same = sym (map_at-push log e x.point within) in
+      record {
+        says = h.says ∙ ap (λ (m : Map). reply_of (last_version p) x.point (nat_lt (size m) p.leaf) (get m (key_in x.call)) x.call) same;
+        fits = subst (λ (m : Map). size m ≤ p.leaf) same h.fits;
+      }
 
 module _ (p : ConfigParts) (words : List ℕ) (log : List Entry) (dones : List Done) (run : IsRun p words log dones) (seat : ℕ) (call : Call) (one : IsOneKey call) (nz : key_in call ≢ 0) where
   -- the next finished call
@@ -151,7 +163,12 @@ module _ (p : ConfigParts) (words : List ℕ) (log : List Entry) (dones : List D
   }
 
   replied : (r : Reply) (more : List Entry) → r ≡ reply_of (last_version p) (length log) (nat_lt (size (map_of log)) p.leaf) (get (map_of log) (key_in call)) call → HasReply p (log ++ more) (next_done r)
-  replied r more says = says ∙ ap (λ (m : Map). reply_of (last_version p) (length log) (nat_lt (size m) p.leaf) (get m (key_in call)) call) (sym (map_before log more))
+  replied r more says =
+      let same = sym (map_before log more) in
+      record {
+        says = says ∙ ap (λ (m : Map). reply_of (last_version p) (length log) (nat_lt (size m) p.leaf) (get m (key_in call)) call) same;
+        fits = subst (λ (m : Map). size m ≤ p.leaf) same (map_fits p words log dones run);
+      }
 
   -- the calls before have ended
   later : (r : Reply) → All (λ x. IsLater x (next_done r)) dones

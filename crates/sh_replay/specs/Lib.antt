@@ -5,3 +5,5 @@ pub mod Runs
 pub mod Pairs
 pub mod Worlds
 pub mod Headline
+pub mod Causes
+pub mod Complete

@@ -13,11 +13,11 @@ use Rattle.sh_sheet.specs.declared.item.Item.TheVariants.{Ask}
 use Rattle.sh_replay.specs.Replies.{key_in, reply_of}
 use Rattle.sh_replay.specs.Leaves.{leaf_of, HasLeaf}
 
--- A finished call's reply is the one of the map at its point, in a leaf whose version is the number of entries so far.
--- So NoSplitYet comes exactly where a put's key is new and the map has as many keys as a leaf has entries, and Worn
--- exactly where an update that would write finds the last version.
-abbrev pub HasReply : ConfigParts → List Entry → Done → Type 0
-HasReply p log d = d.reply ≡ reply_of (last_version p) d.point (nat_lt (size (map_at log d.point)) p.leaf) (get (map_at log d.point) (key_in d.call)) d.call
+-- A finished call's reply is the one of the map at its point, in a leaf whose version is the number of entries so far;
+-- and that map has no more keys than a leaf has entries.
+pub record HasReply (p : ConfigParts) (log : List Entry) (d : Done) : Type 0 where
+  pub says : d.reply ≡ reply_of (last_version p) d.point (nat_lt (size (map_at log d.point)) p.leaf) (get (map_at log d.point) (key_in d.call)) d.call
+  pub fits : size (map_at log d.point) ≤ p.leaf
 
 -- a finished call is asked by the sheet's item
 abbrev pub item_of : Done → Item

@@ -2,6 +2,7 @@
 #![tactic(auto)]
 
 mod decision;
+mod laws;
 mod node;
 mod pairs;
 mod replay;
@@ -9,6 +10,7 @@ mod run;
 mod serve;
 mod world;
 
+pub use laws::{replay_laws, replay_sure};
 pub use pairs::{pairs_in, sum_of};
 pub use replay::replay_top;
 pub use world::World;

@@ -9,3 +9,6 @@ mod told;
 
 pub use laws::{known_orders, known_uses};
 pub use order::{Order, WordFault, read_words};
+
+#[cfg(test)]
+mod tests;

@@ -6,13 +6,14 @@ ghost use Rattle.sh_sheet.specs.Number.{number_of};
 ghost use Rattle.sh_words.specs.Narrow.{narrow, narrow_parts, narrowed};
 ghost use Rattle.sh_words.specs.Order.{ReadsAs, asked_if, asked_of, given_in, order_of, parts_in};
 ghost use Rattle.sh_words.specs.Uses.{Use};
+ghost use Rattle.sh_words.specs.declared.order.WordFault.TheVariants.{NoMemory};
 
 use crate::names::{flags_for, options_for};
 use crate::told::{is_used, number, tell};
 use clap::ArgMatches;
 use sh_base::{Config, ConfigParts};
 use sh_sheet::Mode;
-use std::alloc::Global;
+use std::alloc::{AllocError, Global};
 
 /// What the words ask for.
 #[derive(Clone, Copy, Debug)]
@@ -38,6 +39,14 @@ pub enum WordFault {
     NoMemory,
 }
 
+impl From<AllocError> for WordFault {
+    ghost from_gives = { λ _ e. e ≡ NoMemory };
+
+    fn from(_: AllocError) -> Self {
+        WordFault::NoMemory
+    }
+}
+
 /// What the words give, before it is put to the test.
 #[derive(Clone, Copy)]
 pub struct Given {
@@ -56,10 +65,8 @@ pub fn read_words(alloc: Global, words: &[&str], mode: Mode) -> Result<Order, Wo
     ensures order { IfOk result (λ o. order_of mode (map (λ w. w.now) words.now) ≡ Some (asked_of o)) }
     ensures usage { IsErrOf result WordFault.Usage → order_of mode (map (λ w. w.now) words.now) ≡ None }
 {
-    match tell(alloc, options_for(mode), flags_for(mode), words) {
-        Ok(matches) => order_from(read_given(&matches)),
-        Err(fault) => Err(fault),
-    }
+    let matches = tell(alloc, options_for(mode), flags_for(mode), words)?;
+    order_from(read_given(&matches))
 }
 
 // The order, where what is given is sound.
@@ -70,7 +77,7 @@ fn order_from(given: Given) -> Result<Order, WordFault>
     let Ok(cfg) = Config::new(given.parts) else {
         return Err(WordFault::Usage);
     };
-    if !is_range_of_calls(given.make) || given.seed.is_some() && given.make.is_none() {
+    if !is_count_of_calls(given.make) || given.seed.is_some() && given.make.is_none() {
         return Err(WordFault::Usage);
     }
     Ok(Order {
@@ -82,7 +89,8 @@ fn order_from(given: Given) -> Result<Order, WordFault>
     })
 }
 
-fn is_range_of_calls(make: Option<u64>) -> bool
+// So many calls can be made.
+fn is_count_of_calls(make: Option<u64>) -> bool
     ensures { result ≡ option_map_or (λ n. nat_le 1 n && nat_le n 1000000) make true }
 {
     match make {

@@ -24,10 +24,7 @@ pub fn parse<'a>(
     if ends_options(words) {
         return Err(WordFault::Usage);
     }
-    let command = match command(alloc, options, flags) {
-        Ok(command) => command,
-        Err(_) => return Err(WordFault::NoMemory),
-    };
+    let command = command(alloc, options, flags)?;
     match command.try_get_matches_from(words) {
         Ok(matches) => Ok(matches),
         Err(error) => Err(fault_of(&error)),

@@ -25,10 +25,7 @@ pub fn tell<'a>(
     ensures told { IfOk result (λ m. Told (names_of options.entry.now flags.entry.now) (map (λ w. w.now) words.entry.now) m) }
     ensures usage { IsErrOf result WordFault.Usage → told_by (names_of options.entry.now flags.entry.now) (map (λ w. w.now) words.entry.now) ≡ None }
 {
-    let matches = match parse(alloc, options, flags, words) {
-        Ok(matches) => matches,
-        Err(fault) => return Err(fault),
-    };
+    let matches = parse(alloc, options, flags, words)?;
     if all_read_numbers(&matches, options) {
         Ok(matches)
     } else {

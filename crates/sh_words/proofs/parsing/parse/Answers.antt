@@ -8,13 +8,13 @@ pub returns-then-ends_options-clause-usage : goal.returns-then-ends_options-clau
 returns-then-ends_options-clause-usage c used =
     end_told (names_of c.args.options.now c.args.flags.now) (map (λ w. w.now) c.args.words.now) c.requires (sym c.ends_options.ensures ∙ c.if-ends_options.true)
 
-pub returns-in-Ok-try_get_matches_from-clause-holds : goal.returns-in-Ok-try_get_matches_from-clause-holds
-returns-in-Ok-try_get_matches_from-clause-holds c =
-    holds_at (names_of c.args.options.now c.args.flags.now) _ (map (λ w. w.now) c.args.words.now) _ c.in-Ok.ensures (sym c.ends_options.ensures ∙ c.if-ends_options.false)
-    c.in-Ok-try_get_matches_from.ensures.kinds c.in-Ok-try_get_matches_from.ensures.matches
+pub returns-in-Ok-clause-holds : goal.returns-in-Ok-clause-holds
+returns-in-Ok-clause-holds c =
+    holds_at (names_of c.args.options.now c.args.flags.now) _ (map (λ w. w.now) c.args.words.now) _ c.in_ok-command.ensures (sym c.ends_options.ensures ∙ c.if-ends_options.false)
+    c.in-Ok.ensures.kinds c.in-Ok.ensures.matches
 
-pub returns-in-Err-try_get_matches_from-clause-usage : goal.returns-in-Err-try_get_matches_from-clause-usage
-returns-in-Err-try_get_matches_from-clause-usage c used =
+pub returns-in-Err-clause-usage : goal.returns-in-Err-clause-usage
+returns-in-Err-clause-usage c used =
     let is_usage : c.fault_of.result ≡ Usage = cc in
-    refused_at (names_of c.args.options.now c.args.flags.now) _ (map (λ w. w.now) c.args.words.now) c.in-Err-try_get_matches_from.error c.in-Ok.ensures
-    (sym c.ends_options.ensures ∙ c.if-ends_options.false) c.in-Err-try_get_matches_from.ensures.kinds (c.fault_of.ensures is_usage)
+    refused_at (names_of c.args.options.now c.args.flags.now) _ (map (λ w. w.now) c.args.words.now) c.in-Err.error c.in_ok-command.ensures
+    (sym c.ends_options.ensures ∙ c.if-ends_options.false) c.in-Err.ensures.kinds (c.fault_of.ensures is_usage)

@@ -1,6 +1,6 @@
 -- The order, by what the parse tells.
-use Rattle.std.proofs.Common.{◌≡◌, ◌≤◌, ◌<◌, ◌-◌, ◌^◌, ℕ, Bool, List, [], ◌∷◌, Option, Some, None, true, false, ◌||◌, refl, ap, ap₂, sym, subst, ◌∙◌, arith}
-use Rattle.std.specs.Prelude.{option_and_then, min, is_none, codes}
+use Rattle.std.proofs.Common.{◌≡◌, ◌<◌, ◌-◌, ◌^◌, ℕ, Bool, List, [], ◌∷◌, Option, Some, None, true, false, refl, ap, ap₂, sym, subst, ◌∙◌, arith}
+use Rattle.std.specs.Prelude.{option_and_then, codes}
 use Rattle.std.specs.Str.{bytes_eq}
 use Rattle.std.proofs.lemmas.Bool.Decides.{nat_tests}
 use Rattle.clap.specs.Words.{found_of}
@@ -15,7 +15,7 @@ use Rattle.sh_sheet.specs.declared.item.Mode.{Mode}
 use Rattle.sh_sheet.specs.declared.item.Mode.TheVariants.{Run, Replay}
 use Rattle.sh_words.specs.Holds.{Reads, Told}
 use Rattle.sh_words.specs.Narrow.{narrow, narrow_parts, narrowed}
-use Rattle.sh_words.specs.Order.{Asked, ReadsAs, asked_if, given_in, names_for, order_of}
+use Rattle.sh_words.specs.Order.{ReadsAs, asked_if, given_in, names_for, order_of}
 use Rattle.sh_words.specs.declared.order.Given.{Given}
 use Rattle.sh_words.specs.Uses.{Names, Text, Use, is_among, told_by}
 use Rattle.sh_words.proofs.Rows.{both_false}

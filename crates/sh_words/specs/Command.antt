@@ -1,4 +1,4 @@
--- The command whose words are parsed, as the kit's parser sees it.
+-- The command that parses the words, as the parser sees it. No public contract names it.
 use Rattle.std.specs.Prelude.{ℕ, Bool, List, [], ◌∷◌, Some, true, codes, map, ◌++◌}
 use Rattle.std.specs.List.{list_any}
 use Rattle.std.specs.Str.{bytes_eq}

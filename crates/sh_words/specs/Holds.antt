@@ -1,4 +1,4 @@
--- What the matches of a parse hold, by the uses that the words make.
+-- What the matches of a parse hold, by the uses that the words make. No public contract names it.
 use Rattle.std.specs.Prelude.{◌≡◌, Bool, true, false, List, Option, Some, None, codes, map, if◌then◌else◌}
 use Rattle.std.specs.Borrow.{Bor}
 use Rattle.clap.specs.Words.{first_value, found_of, one_text}

@@ -60,7 +60,7 @@ pub struct Given {
 /// What the words behind the program's name ask for. Each option is `--name value` or `--name=value`, in any order. `Usage`
 /// comes exactly where a word is no option of the program and no value of one, where a value is missing, is no number or is
 /// out of its range, where `--map` or `--events` has a value, where an option stands twice, where `--seed` stands without
-/// `--make`, and where the setting is refused.
+/// `--make`, and where the setting is refused. `NoMemory` is apart.
 pub fn read_words(alloc: Global, words: &[&str], mode: Mode) -> Result<Order, WordFault>
     ensures order { IfOk result (λ o. order_of mode (map (λ w. w.now) words.now) ≡ Some (asked_of o)) }
     ensures usage { IsErrOf result WordFault.Usage → order_of mode (map (λ w. w.now) words.now) ≡ None }

@@ -1,4 +1,4 @@
-use Rattle.std.proofs.Common.{◌≡◌, codes, refl, ap, ◌∙◌, true}
+use Rattle.std.proofs.Common.{codes, refl, ap, ◌∙◌, true}
 use Rattle.std.specs.Prelude.{option_and_then}
 use Rattle.sh_sheet.specs.Number.{number_of}
 use Rattle.sh_words.specs.Uses.{has_use}

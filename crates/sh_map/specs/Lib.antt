@@ -5,3 +5,4 @@ pub mod Book
 pub mod Points
 pub mod Rows
 pub mod Judge
+pub mod Made

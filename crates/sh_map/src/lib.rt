@@ -6,6 +6,7 @@ mod call;
 mod entries;
 mod judge;
 mod log;
+mod made;
 mod plain_map;
 mod ranges;
 mod replies;
@@ -14,6 +15,7 @@ pub use book::{Book, Done, Dones, Row, Rows};
 pub use call::{Call, Reply};
 pub use judge::Misfit;
 pub use log::{Change, Entry, Log};
+pub use made::log_call;
 pub use plain_map::PlainMap;
 
 #[cfg(test)]

@@ -3,3 +3,5 @@ pub mod DecideLemmas
 pub mod ServeLemmas
 pub mod ReplyLemmas
 pub mod RunLemmas
+pub mod LaidLemmas
+pub mod WorldLemmas

@@ -20,7 +20,8 @@ use Rattle.sh_map.specs.Log.{key_of, changed, map_of, map_at, IsNext}
 use Rattle.sh_map.specs.Book.{entry_of, made, AnswersAt, Answers, IsOwn, IsLater}
 use Rattle.sh_map.proofs.BookLemmas.{IsLawful-push_entry, IsLawful-push_done}
 use Rattle.sh_map.proofs.LogLemmas.{map_at-push, map_at-length, map_of-push}
-use Rattle.sh_replay.specs.Replies.{IsOneKey, key_in, reply_of, changed_by, entries_by}
+use Rattle.sh_replay.specs.Replies.{IsOneKey, key_in, reply_of, changed_by}
+use Rattle.sh_map.specs.Made.{entries_by}
 use Rattle.sh_edit.specs.Held.{held, has_room, map_of_entries}
 use Rattle.sh_edit.proofs.HeldLemmas.{get-map_of_entries}
 use Rattle.sh_edit.proofs.RoomLemmas.{room_is_size}

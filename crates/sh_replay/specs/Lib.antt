@@ -2,3 +2,4 @@ pub mod Replies
 pub mod Leaves
 pub mod Decisions
 pub mod Runs
+pub mod Worlds

@@ -1,15 +1,12 @@
 -- What a call on one key is answered while there is one leaf, and what it changes.
-use Rattle.std.specs.Prelude.{◌≡◌, ℕ, ◌<◌, ◌==◌, nat_lt, if◌then◌else◌, Bool, true, false, List, [], ◌∷◌, Option, Some, None}
+use Rattle.std.specs.Prelude.{◌≡◌, ℕ, ◌<◌, ◌==◌, nat_lt, if◌then◌else◌, Bool, true, false, List, Option, Some, None}
 use Rattle.sh_base.specs.declared.config.ConfigParts.{ConfigParts}
 use Rattle.sh_base.specs.Setting.{last_version}
 use Rattle.sh_map.specs.declared.call.Call.{Call}
 use Rattle.sh_map.specs.declared.call.Call.TheVariants.{Get, Put, Del, Range}
 use Rattle.sh_map.specs.declared.call.Reply.{Reply}
 use Rattle.sh_map.specs.declared.call.Reply.TheVariants as reply
-use Rattle.sh_map.specs.declared.log.Change.TheVariants as change
-use Rattle.sh_map.specs.declared.log.Entry.{Entry}
 use Rattle.sh_map.specs.Map.{Map, get, put, del, size}
-use Rattle.sh_map.specs.Book.{entry_of}
 
 -- a get, a put or a delete
 abbrev pub IsOneKey : Call → Type 0
@@ -55,10 +52,3 @@ abbrev pub changed_by : Map → Call → Map
 changed_by m (Put key value) = put m key value
 changed_by m (Del key) = del m key
 changed_by m call = m
-
--- the entry that a call with this reply makes, or none
-abbrev pub entries_by : ℕ → Call → Reply → List Entry
-entries_by seat (Put key value) (reply.Some old) = entry_of seat (change.Put key value) (Some old) ∷ []
-entries_by seat (Put key value) reply.None = entry_of seat (change.Put key value) None ∷ []
-entries_by seat (Del key) (reply.Some old) = entry_of seat (change.Del key) (Some old) ∷ []
-entries_by seat call reply = []

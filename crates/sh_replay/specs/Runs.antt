@@ -1,8 +1,7 @@
 -- A run of calls on one leaf: the words, the log and the finished calls that it leaves.
-use Rattle.std.specs.Prelude.{◌≡◌, ℕ, ◌+◌, ◌-◌, ◌^◌, ◌<◌, ◌≤◌, List, [], ◌∷◌, ◌++◌, length, map, nat_lt, All, replicate, slice_set, slice_index_or}
+use Rattle.std.specs.Prelude.{◌≡◌, ℕ, ◌+◌, ◌-◌, ◌^◌, ◌<◌, ◌≤◌, List, [], ◌∷◌, ◌++◌, length, map, nat_lt, All, slice_index_or}
 use Rattle.sh_base.specs.declared.config.ConfigParts.{ConfigParts}
-use Rattle.sh_base.specs.Setting.{last_version, pool_words}
-use Rattle.sh_base.specs.Layout.{node_word, root_word, counter_word}
+use Rattle.sh_base.specs.Setting.{last_version}
 use Rattle.sh_map.specs.declared.call.Call.{Call}
 use Rattle.sh_map.specs.declared.call.Reply.{Reply}
 use Rattle.sh_map.specs.declared.log.Entry.{Entry}
@@ -14,12 +13,7 @@ use Rattle.sh_edit.specs.Held.{map_of_entries}
 use Rattle.sh_sheet.specs.declared.item.Item.{Item}
 use Rattle.sh_sheet.specs.declared.item.Item.TheVariants.{Ask}
 use Rattle.sh_replay.specs.Replies.{key_in, reply_of}
-use Rattle.sh_replay.specs.Leaves.{first_leaf, leaf_of, HasLeaf}
-
--- The words of a laid pool: the root is node 1, the first chunk of server 0 is drawn, node 1 is an empty leaf of all
--- keys, and all other words are 0.
-abbrev pub laid_words : ConfigParts → List ℕ
-laid_words p = slice_set (slice_set (slice_set (replicate (pool_words p) 0) root_word 1) (counter_word p 0) 1) (node_word p first_leaf + 3) (2 ^ 64 - 1)
+use Rattle.sh_replay.specs.Leaves.{leaf_of, HasLeaf}
 
 -- A finished call's reply is the one of the map at its point, in a leaf whose version is the number of entries so far.
 -- So NoSplitYet comes exactly where a put's key is new and the map has as many keys as a leaf has entries, and Worn

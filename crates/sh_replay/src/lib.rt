@@ -3,4 +3,8 @@
 
 mod decision;
 mod node;
+mod run;
 mod serve;
+mod world;
+
+pub use world::World;

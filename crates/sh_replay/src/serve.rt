@@ -64,7 +64,7 @@ fn get(leaf: &LeafImage, key: u64) -> Reply
 }
 
 // The value that an empty entry has.
-fn zero_value(cfg: &Config) -> Value
+pub fn zero_value(cfg: &Config) -> Value
     ensures { result ≡ replicate (parts_of cfg.now).value_words 0 }
 {
     let zeros = [0; 8];
@@ -99,13 +99,13 @@ fn delete(cfg: &Config, leaf: &LeafImage, key: u64) -> Decision
 }
 
 // What the leaf makes of a call.
-fn decide(cfg: &Config, leaf: &LeafImage, call: Call) -> Decision
+fn decide(cfg: &Config, leaf: &LeafImage, call: &Call) -> Decision
     requires leaf { IsLeaf (parts_of cfg.now) leaf.now }
     requires once { HasKeysOnce leaf.now.entries }
-    requires call { IsFor (parts_of cfg.now) leaf.now call }
-    ensures { IsDecided (parts_of cfg.now) leaf.now call result }
+    requires call { IsFor (parts_of cfg.now) leaf.now call.now }
+    ensures { IsDecided (parts_of cfg.now) leaf.now call.now result }
 {
-    match call {
+    match *call {
         Call::Get { key } => unchanged(get(leaf, key)),
         Call::Put { key, value } => put(cfg, leaf, key, value),
         Call::Del { key } => delete(cfg, leaf, key),
@@ -131,11 +131,11 @@ fn load(cfg: &Config, words: &[u64], node: &mut [u64]) -> LeafImage
 /// and where the call changes the leaf stores its words from the first to the last. `node` is room for a node's words.
 /// Conditions: the words of node 1 spell a leaf without a key twice, and the call is a get, put or delete in range
 /// whose key the leaf covers.
-pub fn serve(cfg: &Config, words: &mut [u64], node: &mut [u64], call: Call) -> Reply
+pub fn serve(cfg: &Config, words: &mut [u64], node: &mut [u64], call: &Call) -> Reply
     requires leaf { HasLeaf (parts_of cfg.now) words.old }
     requires room { length node.old ≡ node_size (parts_of cfg.now) }
-    requires call { IsFor (parts_of cfg.now) (leaf_of (parts_of cfg.now) words.old) call }
-    ensures served { IsServed (parts_of cfg.now) words.old call result words.new }
+    requires call { IsFor (parts_of cfg.now) (leaf_of (parts_of cfg.now) words.old) call.now }
+    ensures served { IsServed (parts_of cfg.now) words.old call.now result words.new }
     ensures room { length node.new ≡ length node.old }
 {
     let leaf = load(cfg, words, node);

@@ -1,9 +1,8 @@
 -- A front of a text that is written part by part.
-use Rattle.std.proofs.Common.{ℕ, ◌≡◌, ◌<◌, ◌+◌, length, List, ◌++◌, Option, Result, Ok, Err, true, take, drop, get_or, sym, ap, ◌∙◌, append_assoc}
+use Rattle.std.proofs.Common.{ℕ, ◌≡◌, ◌<◌, ◌+◌, length, List, ◌++◌, Option, take, drop, get_or, sym, ap, ◌∙◌, append_assoc}
 use Rattle.std.proofs.lemmas.List.{drop_more, take-append-drop}
 use Rattle.std.proofs.lemmas.List.Concat.{flat_map-append}
 use Rattle.std.specs.List.{flat_map}
-use Rattle.std.specs.Result.{is_err, OnErr}
 use Rattle.std.specs.Io.KnownBytes.{Appends}
 use Rattle.sh_sheet.specs.Port.{AppendsFront}
 use Rattle.sh_sheet.proofs.Bytes.{appends_more}
@@ -28,4 +27,3 @@ parts_at f xs i = ap (flat_map f) (sym (take-append-drop i xs)) ∙ flat_map-app
 -- the texts before the one at i, that one, and those after it
 pub part_at : {X : Type 0} (f : X → List ℕ) (xs : List X) (i : ℕ) (d : X) → i < length xs → flat_map f xs ≡ flat_map f (take i xs) ++ (f (get_or xs i d) ++ flat_map f (drop (i + 1) xs))
 part_at f xs i d h = parts_at f xs i ∙ ap (λ t. flat_map f (take i xs) ++ flat_map f t) (drop_more xs i d h)
-

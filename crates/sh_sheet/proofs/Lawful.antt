@@ -1,11 +1,11 @@
 -- The items of a sheet are lawful calls.
-use Rattle.std.proofs.Common.{ℕ, suc, ◌≡◌, ◌<◌, ◌≤◌, ◌+◌, ◌-◌, ◌^◌, ◌==◌, ◌&&◌, Bool, true, false, List, [], ◌∷◌, length, Option, Some, None, option_map, refl, sym, ap, subst, ◌∙◌, arith}
-use Rattle.std.specs.Prelude.{Result, Ok, Err, MatchResult, IfOk, All, codes, if◌then◌else◌, nat_le, nat_lt}
+use Rattle.std.proofs.Common.{ℕ, ◌≡◌, ◌+◌, ◌==◌, ◌&&◌, Bool, true, false, List, [], ◌∷◌, length, Option, Some, None, option_map, refl, sym, ap, subst, ◌∙◌, arith}
+use Rattle.std.specs.Prelude.{All, codes, if◌then◌else◌}
 use Rattle.std.specs.Str.{bytes_eq}
 use Rattle.std.specs.Option.{option_and_then}
 use Rattle.std.proofs.lemmas.Bool.Decides.{nat_tests}
 use Rattle.std.proofs.lemmas.List.Elements.{All-cons, All-nil}
-use Rattle.std.proofs.lemmas.Option.{cond_some, same_Some, option_and_then_some, none-some}
+use Rattle.std.proofs.lemmas.Option.{cond_some, same_Some, none-some}
 use Rattle.sh_base.specs.declared.config.ConfigParts.{ConfigParts}
 use Rattle.sh_map.specs.declared.call.Call.{Call}
 use Rattle.sh_map.specs.declared.call.Call.TheVariants.{Get, Put, Del}
@@ -119,11 +119,6 @@ either_lawful p true all rows items e = rows_from_lawful p 2 rows items e
 either_lawful p false all rows items e = rows_from_lawful p 1 all items e
 
 -- the items of a sheet are lawful
-rows_lawful : (p : ConfigParts) (rows : List (List (List ℕ))) (items : List Item) → rows_in p rows ≡ Items items → All (IsLawfulItem p) items
+pub rows_lawful : (p : ConfigParts) (rows : List (List (List ℕ))) (items : List Item) → rows_in p rows ≡ Items items → All (IsLawfulItem p) items
 rows_lawful p [] items e = rows_from_lawful p 1 [] items e
 rows_lawful p (row ∷ rows) items e = either_lawful p (is_head row) (row ∷ rows) rows items e
-
-pub result_lawful : {E : Type 0} (p : ConfigParts) (rows : List (List (List ℕ))) (r : Result (List Item) E) (P : E → Type 0)
-    → MatchResult r (λ items. rows_in p rows ≡ Items items) P → IfOk r (All (IsLawfulItem p))
-result_lawful p rows (Ok items) P reads = rows_lawful p rows items reads
-result_lawful p rows (Err why) P reads = tt

@@ -1,10 +1,9 @@
 -- The fields of a row, one by one.
-use Rattle.std.proofs.Common.{ℕ, zero, suc, ◌≡◌, ◌≢◌, ◌<◌, ◌≤◌, ◌+◌, List, [], ◌∷◌, ◌++◌, length, map, drop, get_or, Option, Some, None, refl, sym, ap, ◌∙◌, append_assoc, arith, false}
+use Rattle.std.proofs.Common.{ℕ, zero, suc, ◌≡◌, ◌≢◌, List, [], ◌∷◌, ◌++◌, length, get_or, Some, None, refl, arith, false}
 use Rattle.csv.specs.Records.{field_at}
 use Rattle.sh_base.specs.declared.config.ConfigParts.{ConfigParts}
-use Rattle.sh_sheet.specs.Sheet.{Reading, Items, Refused, item_in, is_head, read_on, rows_from}
+use Rattle.sh_sheet.specs.Sheet.{Reading, Items, Refused, item_in, is_head}
 use Rattle.sh_sheet.specs.declared.item.Item.{Item}
-use Rattle.sh_sheet.specs.declared.status.RowCause.TheVariants as cause
 
 -- no field at the place
 pub field_none : (fields : List (List ℕ)) (i : ℕ) → None ≡ field_at fields i → [] ≡ get_or fields i []

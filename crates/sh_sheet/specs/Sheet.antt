@@ -1,5 +1,5 @@
 -- What the rows of a sheet say.
-use Rattle.std.specs.Prelude.{ℕ, ◌≡◌, ◌+◌, ◌-◌, ◌^◌, ◌==◌, Bool, true, false, ◌&&◌, nat_le, nat_lt, List, [], ◌∷◌, length, codes, Option, Some, None, option_map, if◌then◌else◌}
+use Rattle.std.specs.Prelude.{ℕ, ◌≡◌, ◌+◌, ◌-◌, ◌^◌, ◌<◌, ◌==◌, Bool, false, ◌&&◌, nat_le, nat_lt, List, [], ◌∷◌, length, codes, Option, Some, None, option_map, if◌then◌else◌}
 use Rattle.std.specs.List.{slice_split}
 use Rattle.std.specs.Option.{option_and_then}
 use Rattle.std.specs.Str.{bytes_eq}
@@ -12,7 +12,7 @@ use Rattle.sh_sheet.specs.Records.{records_in}
 use Rattle.sh_sheet.specs.declared.status.RowCause.{RowCause}
 use Rattle.sh_sheet.specs.declared.status.RowCause.TheVariants as cause
 use Rattle.sh_sheet.specs.declared.item.Item.{Item}
-use Rattle.sh_sheet.specs.declared.item.Item.TheVariants.{Ask, Mark, After, Turn}
+use Rattle.sh_sheet.specs.declared.item.Item.TheVariants.{Ask}
 use Rattle.sh_sheet.specs.declared.item.SheetFault.{SheetFault}
 use Rattle.sh_sheet.specs.declared.item.SheetFault.TheVariants as fault
 
@@ -82,10 +82,19 @@ rows_in p (row ∷ rows) = if is_head row then rows_from p 2 rows else rows_from
 abbrev pub sheet_of : ConfigParts → List ℕ → Reading
 sheet_of p bytes = rows_in p (records_in bytes)
 
+-- the most calls that a sheet may ask for
+abbrev pub most_calls : ℕ
+most_calls = 1000000
+
+-- every row is lawful, and there are too many calls
+abbrev pub IsTooMany : Reading → Type 0
+IsTooMany (Items items) = most_calls < length items
+IsTooMany (Refused row why) = ⊥
+
 -- why a sheet isn't read
 abbrev pub IsFault : Reading → SheetFault → Type 0
 IsFault reading (fault.Row row why) = reading ≡ Refused row why
-IsFault reading fault.TooMany = ⊥
+IsFault reading fault.TooMany = IsTooMany reading
 IsFault reading fault.NoMemory = Unit {0}
 
 -- an item that a read sheet may have: a call of one key, in range for the setting, by seat 0

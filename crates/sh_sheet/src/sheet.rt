@@ -1,8 +1,8 @@
 // The items of a sheet.
-ghost use Rattle.std.specs.Prelude.{◌≡◌, ◌≤◌, All, IfOk, MatchResult, map};
+ghost use Rattle.std.specs.Prelude.{◌≡◌, ◌≤◌, All, IfOk, MatchResult, length, map};
 ghost use Rattle.csv.specs.Records.{fields_of};
 ghost use Rattle.sh_base.specs.Parts.{parts_of};
-ghost use Rattle.sh_sheet.specs.Sheet.{Reading, Items, rows_from, rows_in, sheet_of, IsFault, IsLawfulItem};
+ghost use Rattle.sh_sheet.specs.Sheet.{Reading, Items, most_calls, rows_from, rows_in, sheet_of, IsFault, IsLawfulItem};
 
 use crate::rows::{call_of_row, is_head};
 use crate::{Item, Mode, RowCause, SheetFault, records_of};
@@ -10,6 +10,9 @@ use csv::ByteRecord;
 use sh_base::Config;
 use std::alloc::{AllocError, Global};
 use std::marker::Model;
+
+/// The most calls that a sheet may ask for.
+pub const MOST_CALLS: usize = 1_000_000;
 
 /// The items of a sheet, seen as their list.
 #[derive(Debug, Drop)]
@@ -74,7 +77,8 @@ fn read_sheet_rows(alloc: Global, cfg: &Config, rows: &[ByteRecord]) -> Result<S
 /// trimming. Rows are numbered from 1 and every record counts; a first row with exactly the fields `op`, `seat`, `a`,
 /// `b` is skipped. Every other row has to be a `put`, `get` or `del` of seat 0 and of a key from 1 to 2^64-2; its last
 /// field is the value of a `put`, the setting's number of words joined by colons, and else empty. The first row that
-/// isn't is refused by its number, for now with the cause `NotYet`.
+/// isn't is refused by its number, for now with the cause `NotYet`; `TooMany` comes exactly where every row is lawful and
+/// there are more than [`MOST_CALLS`].
 pub fn read_sheet(
     alloc: Global,
     bytes: &[u8],
@@ -83,7 +87,12 @@ pub fn read_sheet(
 ) -> Result<Sheet, SheetFault>
     ensures reads { MatchResult result (λ s. sheet_of (parts_of cfg.now) bytes.now ≡ Items s) (λ e. IsFault (sheet_of (parts_of cfg.now) bytes.now) e) }
     ensures lawful { IfOk result (λ s. All (IsLawfulItem (parts_of cfg.now)) s) }
+    ensures few { IfOk result (λ s. length s ≤ most_calls) }
 {
     let rows = records_of(alloc, bytes)?;
-    read_sheet_rows(alloc, cfg, &rows)
+    let sheet = read_sheet_rows(alloc, cfg, &rows)?;
+    if sheet.items.len() > MOST_CALLS {
+        return Err(SheetFault::TooMany);
+    }
+    Ok(sheet)
 }

@@ -6,8 +6,7 @@ ghost use Rattle.sh_sheet.specs.Port.{AppendsFront};
 ghost use Rattle.sh_sheet.specs.Text.{call_line, end_line, map_line};
 ghost use Rattle.sh_sheet.specs.Write.{HasWriteCause};
 
-use crate::line;
-use crate::{Sink, write_all};
+use crate::{Sink, line, write_all};
 use sh_map::{Done, Row};
 use std::alloc::{AllocError, Global};
 
@@ -45,11 +44,7 @@ impl Line for Row {
     }
 }
 
-fn write_lines<L: Line, K: Sink>(
-    alloc: Global,
-    sink: &mut K,
-    lines: &[L],
-) -> Result<(), WriteError>
+fn write_lines<L: Line, K: Sink>(alloc: Global, sink: &mut K, lines: &[L]) -> Result<(), WriteError>
     ensures ok { OnOk result (Appends (K.held sink.old) (K.held sink.new) (flat_map L.text lines.now)) }
     ensures err { OnErr result (AppendsFront (K.held sink.old) (K.held sink.new) (flat_map L.text lines.now)) }
     ensures cause { HasWriteCause (K.faults sink.old) (K.faults sink.new) result }
@@ -67,11 +62,7 @@ fn write_lines<L: Line, K: Sink>(
 }
 
 /// Writes the lines of these finished calls, one after another.
-pub fn write_calls<K: Sink>(
-    alloc: Global,
-    sink: &mut K,
-    dones: &[Done],
-) -> Result<(), WriteError>
+pub fn write_calls<K: Sink>(alloc: Global, sink: &mut K, dones: &[Done]) -> Result<(), WriteError>
     ensures ok { OnOk result (Appends (K.held sink.old) (K.held sink.new) (flat_map call_line dones.now)) }
     ensures err { OnErr result (AppendsFront (K.held sink.old) (K.held sink.new) (flat_map call_line dones.now)) }
     ensures cause { HasWriteCause (K.faults sink.old) (K.faults sink.new) result }

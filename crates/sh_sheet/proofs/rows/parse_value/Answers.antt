@@ -1,8 +1,6 @@
-use Rattle.std.proofs.Common.{arith, ap, sym, ◌∙◌, option_map, Some, ◌≡◌, take}
+use Rattle.std.proofs.Common.{arith, ◌∙◌}
 use Rattle.std.proofs.lemmas.List.{length-set, take_more_set}
-use Rattle.sh_sheet.specs.Sheet.{colon_parts}
-use Rattle.sh_sheet.specs.Parts.{parts_behind}
-use Rattle.sh_sheet.proofs.ColonParts.{IsCut, cut_more, too_many_parts}
+use Rattle.sh_sheet.proofs.ColonParts.{cut_more, too_many_parts}
 use Rattle.sh_sheet.proofs.rows.parse_value.Goals as goal
 
 pub returns-then-at-count : goal.returns-then-at-count

@@ -1,4 +1,4 @@
-use Rattle.std.proofs.Common.{◌-◌, drop, length, length-drop, length-take, arith}
+use Rattle.std.proofs.Common.{length-drop, length-take, arith}
 use Rattle.std.proofs.lemmas.List.{drop_all}
 use Rattle.sh_sheet.proofs.Bytes.{drop_front}
 use Rattle.sh_sheet.proofs.list.ListSourceSource.read.Goals as goal

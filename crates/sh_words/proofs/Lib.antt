@@ -1,0 +1,9 @@
+pub mod Agree
+pub mod AllNumbers
+pub mod Chain
+pub mod OrderLemmas
+pub mod Parsed
+pub mod Rows
+pub mod Steps
+pub mod Tables
+pub mod Values

@@ -1,0 +1,5 @@
+pub mod Command
+pub mod Holds
+pub mod Narrow
+pub mod Order
+pub mod Uses

@@ -5,13 +5,14 @@ mod inner;
 mod laws;
 mod leaf;
 mod read;
+mod read_inner;
 mod write;
 
-pub use inner::{InnerImage, Pair};
-pub use laws::{causes_shut_each_other_out, leaves_spelled_once};
+pub use inner::{Image, InnerImage, Pair};
+pub use laws::{causes_shut_each_other_out, inner_nodes_spelled_once, leaves_spelled_once};
 pub use leaf::{LeafEntry, LeafImage};
 pub use read::{Seen, read_image};
-pub use write::{write_entry, write_leaf};
+pub use write::{write_entry, write_inner, write_leaf};
 
 #[cfg(test)]
 mod tests {

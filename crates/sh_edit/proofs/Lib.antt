@@ -6,3 +6,4 @@ pub mod SortLemmas
 pub mod FillLemmas
 pub mod SplitLemmas
 pub mod HalvesLemmas
+pub mod PairLemmas

@@ -7,3 +7,4 @@ pub mod FillLemmas
 pub mod SplitLemmas
 pub mod HalvesLemmas
 pub mod PairLemmas
+pub mod RiseLemmas

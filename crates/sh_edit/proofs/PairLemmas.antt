@@ -11,10 +11,10 @@ use Rattle.sh_image.specs.declared.inner.Pair.{Pair}
 use Rattle.sh_image.specs.Inner.{Inner, separator_at, no_pair}
 use Rattle.sh_edit.specs.Pairing.{pairs_with, IsGapAt}
 
-less_test : (a b : ℕ) → a < b → nat_lt a b ≡ true
+pub less_test : (a b : ℕ) → a < b → nat_lt a b ≡ true
 less_test a b h = grind (arith, nat_tests)
 
-not_less_test : (a b : ℕ) → b ≤ a → nat_lt a b ≡ false
+pub not_less_test : (a b : ℕ) → b ≤ a → nat_lt a b ≡ false
 not_less_test a b h = grind (arith, nat_tests)
 
 -- a pair put in at its gap

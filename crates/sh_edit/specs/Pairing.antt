@@ -1,8 +1,9 @@
 -- An inner node with one pair more, its two halves, and the root above two nodes.
-use Rattle.std.specs.Prelude.{ℕ, ◌+◌, ◌-◌, ◌^◌, ◌<◌, ◌≤◌, if◌then◌else◌, nat_lt, List, [], ◌∷◌, length, take, drop}
+use Rattle.std.specs.Prelude.{◌≢◌, ℕ, ◌+◌, ◌-◌, ◌^◌, ◌<◌, ◌≤◌, if◌then◌else◌, nat_lt, List, [], ◌∷◌, length, take, drop}
+use Rattle.std.specs.List.{AllByRecursion}
 use Rattle.sh_base.specs.declared.config.ConfigParts.{ConfigParts}
 use Rattle.sh_image.specs.declared.inner.Pair.{Pair}
-use Rattle.sh_image.specs.Inner.{Inner, separator_at}
+use Rattle.sh_image.specs.Inner.{Inner, HasChild, separator_at}
 
 -- the pairs with one more, behind those whose separators are less
 abbrev pub pairs_with : List Pair → Pair → List Pair
@@ -34,3 +35,14 @@ pub record IsGapAt (pairs : List Pair) (separator at : ℕ) : Type 0 where
   pub within : at ≤ length pairs
   pub before : (i : ℕ) → i < at → separator_at pairs i < separator
   pub after : at < length pairs → separator ≤ separator_at pairs at
+
+-- no pair has the separator
+abbrev pub IsNew : List Pair → ℕ → Type 0
+IsNew pairs separator = AllByRecursion (λ (x : Pair). x.separator ≢ separator) pairs
+
+-- a pair that may be added to an inner node: its separator is new and lies between the fences, and it has a child
+pub record IsAddable (p : ConfigParts) (a : Inner) (new : Pair) : Type 0 where
+  pub fresh : IsNew a.pairs new.separator
+  pub low : a.low ≤ new.separator
+  pub high : new.separator < a.high
+  pub child : HasChild p new

@@ -11,7 +11,7 @@ ghost use Rattle.sh_edit.specs.Placing.{HasNone, IsFirstWith, PlacedBy};
 ghost use Rattle.sh_edit.specs.Rewriting.{cleared, rewritten};
 
 pub use inner::{InnerHalves, add_child, new_root, split_inner};
-pub use laws::{edits_are_the_maps, splits_are_the_maps};
+pub use laws::{edits_are_the_maps, inner_nodes_keep_their_pairs, splits_are_the_maps};
 use sh_base::Value;
 use sh_image::{LeafEntry, LeafImage};
 use sh_lanes::first_equal;

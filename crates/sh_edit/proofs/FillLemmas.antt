@@ -3,7 +3,7 @@ use Rattle.std.proofs.Common.{◌≡◌, ℕ, zero, suc, ◌+◌, ◌-◌, ◌<�
 use Rattle.std.proofs.lemmas.List.{take-map, drop-map, drop-replicate, take_all, get_or-map, length-take-le, length-drop, length-map}
 use Rattle.sh_image.specs.declared.leaf.LeafEntry.{LeafEntry}
 use Rattle.sh_image.specs.Leaf.{Leaf}
-use Rattle.sh_edit.specs.Splitting.{empty_like, entry_with, entries_from, pairs_after, left_count, value_after, pair_after, separator_of}
+use Rattle.sh_edit.specs.Splitting.{entry_with, entries_from, pairs_after, left_count, pair_after, separator_of}
 
 suc_is : (n : ℕ) → suc n ≡ n + 1
 suc_is n = omega arith

@@ -1,6 +1,6 @@
 -- The halves of a lawful leaf are lawful, and keep their keys apart.
-use Rattle.std.proofs.Common.{◌≡◌, ◌≢◌, ◌⊎◌, ℕ, zero, suc, ◌+◌, ◌-◌, ◌<◌, ◌≤◌, ◌^◌, ◌/◌, List, [], ◌∷◌, ◌++◌, length, take, drop, map, replicate, inl, inr, refl, sym, ap, ◌∙◌, get_or, arith}
-use Rattle.std.specs.Prelude.{T, ◌↔◌}
+use Rattle.std.proofs.Common.{◌≡◌, ◌≢◌, ◌⊎◌, ℕ, zero, suc, ◌+◌, ◌-◌, ◌<◌, ◌≤◌, ◌^◌, List, [], ◌∷◌, ◌++◌, length, take, drop, map, replicate, inl, inr, refl, sym, ap, ◌∙◌, get_or, arith}
+use Rattle.std.specs.Prelude.{T}
 use Rattle.std.specs.List.{AllByRecursion}
 use Rattle.std.specs.Ordering.{nat_cmp}
 use Rattle.std.specs.FinMap.{is_sorted, entries_sorted}
@@ -13,7 +13,7 @@ use Rattle.sh_map.specs.Map.{put}
 use Rattle.sh_map.proofs.RowsLemmas.{first, second, less}
 use Rattle.sh_image.specs.declared.leaf.LeafEntry.{LeafEntry}
 use Rattle.sh_image.specs.Leaf.{Leaf, IsEntry, IsLeaf}
-use Rattle.sh_edit.specs.Held.{pairs_of, map_of_entries, key_at, HasKeysOnce}
+use Rattle.sh_edit.specs.Held.{pairs_of, map_of_entries, HasKeysOnce}
 use Rattle.sh_edit.specs.Placing.{HasNone}
 use Rattle.sh_edit.specs.Splitting.{empty_like, entry_with, entries_from, pairs_after, left_count, separator_of, left_half, right_half}
 use Rattle.sh_edit.proofs.HeldLemmas.{differ_test}

@@ -1,6 +1,6 @@
 -- The halves of a split hold the put, each key on its side of the separator, and meet the rules.
-use Rattle.std.proofs.Common.{◌≡◌, ◌≢◌, ◌⊎◌, ℕ, zero, suc, ◌+◌, ◌-◌, ◌<◌, ◌≤◌, ◌/◌, Bool, true, cond, List, [], ◌∷◌, ◌++◌, length, take, drop, map, replicate, Some, None, inl, inr, refl, sym, ap, subst, ◌∙◌, get_or, Less, Equal, Greater, arith}
-use Rattle.std.specs.Prelude.{T, ◌↔◌, is_some}
+use Rattle.std.proofs.Common.{◌≡◌, ◌≢◌, ℕ, zero, suc, ◌+◌, ◌-◌, ◌<◌, ◌≤◌, true, cond, List, [], ◌∷◌, ◌++◌, length, take, drop, map, replicate, Some, None, inl, inr, refl, sym, ap, subst, ◌∙◌, get_or, Less, Equal, Greater, arith}
+use Rattle.std.specs.Prelude.{T, is_some}
 use Rattle.std.specs.List.{AllByRecursion}
 use Rattle.std.specs.Ordering.{nat_cmp, eq_by_cmp}
 use Rattle.std.specs.Cmp.{nat_cmp_total}
@@ -8,15 +8,13 @@ use Rattle.std.specs.FinMap.{find, entries, from_entries, get-entries, get-from_
 use Rattle.std.specs.FinMap.Entries.{below_all, by_order, put as put_pair}
 use Rattle.std.proofs.lemmas.Cmp.{ranked}
 use Rattle.std.proofs.lemmas.Bool.{cases_eq, eq-eqb}
-use Rattle.std.proofs.lemmas.List.{take-append-drop, length-map, length-replicate, length-take-le, length-drop}
-use Rattle.sh_base.specs.declared.config.ConfigParts.{ConfigParts}
-use Rattle.sh_base.specs.Setting.{nodes, last_version}
+use Rattle.std.proofs.lemmas.List.{take-append-drop}
 use Rattle.sh_map.specs.Map.{Map, get, put, size}
 use Rattle.sh_map.proofs.MapLemmas.{same_by_keys, same_test, apart_test, get-put_other}
 use Rattle.sh_map.proofs.RowsLemmas.{less, first, second}
 use Rattle.sh_image.specs.declared.leaf.LeafEntry.{LeafEntry}
-use Rattle.sh_image.specs.Leaf.{Leaf, IsEntry, IsLeaf}
-use Rattle.sh_edit.specs.Held.{pairs_of, map_of_entries, key_at, HasKeysOnce}
+use Rattle.sh_image.specs.Leaf.{Leaf}
+use Rattle.sh_edit.specs.Held.{pairs_of, map_of_entries, HasKeysOnce}
 use Rattle.sh_edit.specs.Placing.{HasNone}
 use Rattle.sh_edit.specs.Splitting.{empty_like, entry_with, entries_from, pairs_after, left_count, separator_of, left_half, right_half}
 use Rattle.sh_edit.proofs.HeldLemmas.{differ_test, get-zero, get-map_of_entries, held_none}

@@ -1,5 +1,5 @@
 -- Where a key stands in a leaf, or may be put.
-use Rattle.std.specs.Prelude.{◌≡◌, ◌≢◌, ℕ, ◌<◌, List, length}
+use Rattle.std.specs.Prelude.{◌≡◌, ◌≢◌, ◌⊎◌, ℕ, ◌<◌, List, length}
 use Rattle.sh_image.specs.declared.leaf.LeafEntry.{LeafEntry}
 use Rattle.sh_edit.specs.Held.{key_at, value_at}
 use Rattle.sh_edit.specs.declared.Placed.{Placed}
@@ -20,3 +20,7 @@ abbrev pub PlacedBy : List LeafEntry → ℕ → Placed → Type 0
 PlacedBy es key (Over index old) = IsFirstWith es key index × (old ≡ value_at es index)
 PlacedBy es key (New index) = HasNone es key × IsFirstWith es 0 index
 PlacedBy es key NoRoom = HasNone es key × HasNone es 0
+
+-- an entry is empty, or the first one with its key
+abbrev pub StandsFirst : List LeafEntry → ℕ → Type 0
+StandsFirst es i = (key_at es i ≡ 0) ⊎ IsFirstWith es (key_at es i) i

@@ -1,15 +1,17 @@
-//! Changes of leaves.
+//! Changes of leaves and inner nodes.
 #![tactic(auto)]
 
+mod inner;
 mod laws;
 mod split;
 
-ghost use Rattle.std.specs.Prelude.{◌≡◌, ◌-◌, ◌<◌, ◌≤◌, ◌^◌, MatchOption, length, map};
-ghost use Rattle.sh_edit.specs.Held.{value_at};
-ghost use Rattle.sh_edit.specs.Placing.{HasNone, IsFirstWith, PlacedBy};
+ghost use Rattle.std.specs.Prelude.{◌≡◌, ◌↔◌, IsTrue, ◌-◌, ◌<◌, ◌≤◌, ◌^◌, MatchOption, length, map};
+ghost use Rattle.sh_edit.specs.Held.{value_at, HasKeysOnce};
+ghost use Rattle.sh_edit.specs.Placing.{HasNone, IsFirstWith, PlacedBy, StandsFirst};
 ghost use Rattle.sh_edit.specs.Rewriting.{cleared, rewritten};
 
-pub use laws::{edits_are_the_maps, splits_are_the_maps};
+pub use inner::{InnerHalves, add_child, new_root, split_inner};
+pub use laws::{edits_are_the_maps, inner_nodes_keep_their_pairs, splits_are_the_maps};
 use sh_base::Value;
 use sh_image::{LeafEntry, LeafImage};
 use sh_lanes::first_equal;
@@ -33,6 +35,30 @@ pub fn find(leaf: &LeafImage, key: u64) -> Option<u32>
     match first_equal(leaf.keys(), key) {
         Some(index) => Some(index as u32),
         None => None,
+    }
+}
+
+/// Whether no key stands twice. The key 0 is an empty entry's, and may.
+pub fn keys_differ(leaf: &LeafImage) -> bool
+    ensures { IsTrue result ↔ HasKeysOnce leaf.now.entries }
+{
+    for index in 0..leaf.entries() {
+        if !stands_first(leaf, index) {
+            return false;
+        }
+    }
+    true
+}
+
+// Whether an entry is empty, or no entry before it has its key. Condition: an index of the leaf.
+fn stands_first(leaf: &LeafImage, index: u32) -> bool
+    requires { index < length leaf.now.entries }
+    ensures { IsTrue result ↔ StandsFirst leaf.now.entries index }
+{
+    let key = leaf.entry(index).key;
+    match find(leaf, key) {
+        Some(first) => key == 0 || first == index,
+        None => key == 0,
     }
 }
 
@@ -111,6 +137,8 @@ fn cleared(leaf: &LeafImage, zero: Value) -> LeafImage
 #[cfg(test)]
 mod tests {
     use super::*;
+    use sh_base::{Config, ConfigFault, ConfigParts};
+    use sh_image::{InnerImage, Pair};
 
     // A leaf of version 7 with these keys, all entry versions 5. A key is its own value.
     fn leaf_of(keys: [u64; 4]) -> LeafImage
@@ -193,6 +221,128 @@ mod tests {
                 && image.entry(2).version == 0
                 && image.entry(2).value.words() == [15].as_slice()
                 && image.entry(1).value.words() == [130].as_slice()
+        );
+    }
+
+    // The halves of a leaf that has no room for the key, and no key twice.
+    fn split(leaf: &LeafImage, key: u64, right: u32) -> Option<LeafHalves> {
+        if leaf.entries() == 0 || leaf.version() != 7 || !keys_differ(leaf) {
+            return None;
+        }
+        match place(leaf, key) {
+            Placed::NoRoom => Some(split_leaf(leaf, key, Value::of(&[130]), right)),
+            _ => None,
+        }
+    }
+
+    #[test]
+    fn a_split_parts_five_pairs_at_the_third_key(rt: HostRuntime) {
+        assert!(rt; split(&leaf_of([15, 12, 15, 11]), 13, 9).is_none());
+        let Some(halves) = split(&leaf_of([16, 12, 15, 11]), 13, 9) else {
+            assert!(rt; false, "no split");
+            return;
+        };
+        let (left, right) = (&halves.left, &halves.right);
+        assert_eq!(rt; halves.separator, 13);
+        assert!(rt; left.keys() == [11, 12, 0, 0].as_slice());
+        assert!(rt; right.keys() == [13, 15, 16, 0].as_slice());
+        assert!(rt;
+            left.version() == 8 && left.low() == 10 && left.high() == 13 && left.next() == 9
+        );
+        assert!(rt;
+            right.version() == 0 && right.low() == 13 && right.high() == 20 && right.next() == 2
+        );
+        assert!(rt;
+            right.entries() == 4
+                && right.entry(0).value.words() == [130].as_slice()
+                && right.entry(1).value.words() == [15].as_slice()
+        );
+    }
+
+    // Leaves of four entries, so inner nodes of eight pairs.
+    fn small() -> Result<Config, ConfigFault> {
+        Config::new(ConfigParts {
+            servers: 1,
+            chunks: 1,
+            chunk_nodes: 16,
+            locks: 1,
+            leaf: 4,
+            computes: 1,
+            seats: 1,
+            bound: 0,
+            bits: 4,
+            rows: 1,
+            cached: 0,
+            value_words: 1,
+        })
+    }
+
+    fn has_pair(image: &InnerImage, index: u32, separator: u64, child: u32) -> bool {
+        if index >= image.pairs() {
+            return false;
+        }
+        let pair = image.pair(index);
+        pair.separator == separator && pair.child == child
+    }
+
+    // The node with the pair added, where its version allows.
+    fn added(cfg: &Config, inner: &InnerImage, separator: u64, child: u32) -> Option<InnerImage> {
+        if inner.version() > 100 || inner.pairs() > 2 * cfg.leaf() {
+            return None;
+        }
+        add_child(cfg, inner, separator, child)
+    }
+
+    #[test]
+    fn a_pair_is_added_in_its_place(rt: HostRuntime) {
+        let Ok(cfg) = small() else {
+            assert!(rt; false, "no setting");
+            return;
+        };
+        let Some(image) = added(&cfg, &new_root(1, 1, 20, 2), 10, 3) else {
+            assert!(rt; false, "no room");
+            return;
+        };
+        assert!(rt; image.version() == 1 && image.level() == 1 && image.pairs() == 3);
+        assert!(rt; image.low() == 0 && image.high() == u64::MAX && image.next() == 0);
+        assert!(rt;
+            has_pair(&image, 0, 0, 1) && has_pair(&image, 1, 10, 3) && has_pair(&image, 2, 20, 2)
+        );
+    }
+
+    #[test]
+    fn a_full_inner_node_is_split_before_the_fifth_pair(rt: HostRuntime) {
+        let Ok(cfg) = small() else {
+            assert!(rt; false, "no setting");
+            return;
+        };
+        let mut full = InnerImage::new(5, 1, 0, 100, 7);
+        for index in 0u32..8 {
+            if full.pairs() < 128 {
+                full.push(Pair {
+                    separator: 10 * u64::from(index),
+                    child: index + 1,
+                });
+            }
+        }
+        if full.pairs() != 2 * cfg.leaf() || full.version() != 5 {
+            assert!(rt; false, "not full");
+            return;
+        }
+        assert!(rt; add_child(&cfg, &full, 35, 9).is_none());
+        let InnerHalves {
+            left,
+            right,
+            separator,
+        } = split_inner(&cfg, &full, 35, 9, 6);
+        assert_eq!(rt; separator, 35);
+        assert!(rt;
+            left.version() == 6 && left.pairs() == 4 && left.high() == 35 && left.next() == 6
+        );
+        assert!(rt; right.version() == 0 && right.pairs() == 5 && right.low() == 35);
+        assert!(rt; right.high() == 100 && right.next() == 7);
+        assert!(rt;
+            has_pair(&left, 3, 30, 4) && has_pair(&right, 0, 35, 9) && has_pair(&right, 1, 40, 5)
         );
     }
 }

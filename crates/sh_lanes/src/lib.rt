@@ -1,14 +1,27 @@
-//! Scans of words: where a word stands, where two slices differ, how many words are empty, and a column of a table.
+//! Scans of words, four lanes at a time: where a word stands, where two slices differ, how many words are empty. And a
+//! column of a table.
 #![tactic(auto)]
 
-ghost use Rattle.std.specs.Prelude.{◌≡◌, ℕ, ◌+◌, ◌*◌, ◌<◌, length, MatchOption};
+ghost use Rattle.std.specs.Prelude.{◌≡◌, ◌==◌, ℕ, ◌+◌, ◌*◌, ◌<◌, ◌≤◌, length, not, MatchOption};
+ghost use Rattle.std.specs.List.{prefix_len};
+ghost use Rattle.std.specs.Simd.Lanes.{chunk, zip2};
 ghost use Rattle.sh_lanes.specs.Scans.{count_empty, HasNone, IsColumn, IsFirst, IsFirstDiffering};
+
+use std::simd::prelude::*;
 
 /// The least index whose word is `key`, and `None` exactly where there is none.
 pub fn first_equal(keys: &[u64], key: u64) -> Option<usize>
     ensures { MatchOption result (HasNone keys.now key) (λ i. IsFirst keys.now key i) }
 {
-    for index in 0..keys.len() {
+    let mut at = 0;
+    'fours: while keys.len() - at >= 4 {
+        let lane = equal_lane(keys, at, key);
+        if lane < 4 {
+            return Some(at + lane);
+        }
+        at += 4;
+    }
+    for index in at..keys.len() {
         if keys[index] == key {
             return Some(index);
         }
@@ -16,12 +29,34 @@ pub fn first_equal(keys: &[u64], key: u64) -> Option<usize>
     None
 }
 
+// The first of the four words from `at` on that is `key`, and 4 where none is. Condition: there are four.
+fn equal_lane(keys: &[u64], at: usize, key: u64) -> usize
+    requires { at + 4 ≤ length keys.now }
+    ensures { result ≡ prefix_len (λ k. not (k == key)) (chunk at 4 keys.now) }
+{
+    let lanes = u64x4::from_slice(&keys[at..]);
+    let mask = lanes.simd_eq(u64x4::splat(key)).to_bitmask();
+    if mask == 0 {
+        4
+    } else {
+        mask.trailing_zeros() as usize
+    }
+}
+
 /// The least index at which the slices differ, and `None` exactly where they agree. Condition: they have one length.
 pub fn first_differing(a: &[u64], b: &[u64]) -> Option<usize>
     requires { length a.now ≡ length b.now }
     ensures { MatchOption result (a.now ≡ b.now) (λ i. IsFirstDiffering a.now b.now i) }
 {
-    for index in 0..a.len() {
+    let mut at = 0;
+    'fours: while a.len() - at >= 4 {
+        let lane = differing_lane(a, b, at);
+        if lane < 4 {
+            return Some(at + lane);
+        }
+        at += 4;
+    }
+    for index in at..a.len() {
         if a[index] != b[index] {
             return Some(index);
         }
@@ -29,17 +64,47 @@ pub fn first_differing(a: &[u64], b: &[u64]) -> Option<usize>
     None
 }
 
+// The first of the four places from `at` on at which the slices differ, and 4 where none is. Condition: both have four.
+fn differing_lane(a: &[u64], b: &[u64], at: usize) -> usize
+    requires a { at + 4 ≤ length a.now }
+    requires b { at + 4 ≤ length b.now }
+    ensures { result ≡ prefix_len (λ d. not d) (zip2 (λ x y. not (x == y)) (chunk at 4 a.now) (chunk at 4 b.now)) }
+{
+    let lanes = u64x4::from_slice(&a[at..]);
+    let mask = lanes.simd_ne(u64x4::from_slice(&b[at..])).to_bitmask();
+    if mask == 0 {
+        4
+    } else {
+        mask.trailing_zeros() as usize
+    }
+}
+
 /// How many words are 0.
 pub fn count_empty(keys: &[u64]) -> usize
     ensures { result ≡ count_empty keys.now }
 {
     let mut empty = 0;
-    for index in 0..keys.len() {
+    let mut at = 0;
+    'fours: while keys.len() - at >= 4 {
+        empty += empty_lanes(keys, at);
+        at += 4;
+    }
+    for index in at..keys.len() {
         if keys[index] == 0 {
             empty += 1;
         }
     }
     empty
+}
+
+// How many of the four words from `at` on are 0. Condition: there are four.
+fn empty_lanes(keys: &[u64], at: usize) -> usize
+    requires { at + 4 ≤ length keys.now }
+    ensures { result ≡ count_empty (chunk at 4 keys.now) }
+{
+    let lanes = u64x4::from_slice(&keys[at..]);
+    let mask = lanes.simd_eq(u64x4::splat(0)).to_bitmask();
+    mask.count_ones() as usize
 }
 
 /// Fills `out` with a column of the words: `out[i]` becomes `words[start + stride * i]`. Condition: each of these
@@ -64,9 +129,12 @@ mod tests {
         assert_eq!(rt; first_equal(&[3], 3), Some(0));
         assert_eq!(rt; first_equal(&[1, 2, 3, 3, 5], 3), Some(2));
         assert_eq!(rt; first_equal(&[1, 2, 3, 3, 5], 4), None);
+        assert_eq!(rt; first_equal(&[1, 2, 3, 4, 5, 6, 7, 5, 9], 5), Some(4));
+        assert_eq!(rt; first_equal(&[1, 2, 3, 4, 5, 6, 7, 8, 9], 9), Some(8));
         assert_eq!(rt; count_empty(&[]), 0);
         assert_eq!(rt; count_empty(&[0]), 1);
         assert_eq!(rt; count_empty(&[0, 1, 0, 2, 0]), 3);
+        assert_eq!(rt; count_empty(&[0, 1, 0, 2, 0, 0, 0, 3, 0, 4]), 6);
     }
 
     #[test]
@@ -77,6 +145,10 @@ mod tests {
         assert_eq!(rt;
             first_differing(&[1, 2, 3, 4, 5], &[1, 2, 0, 4, 0]),
             Some(2)
+        );
+        assert_eq!(rt;
+            first_differing(&[1, 2, 3, 4, 5, 6, 7, 8, 9], &[1, 2, 3, 4, 5, 6, 0, 8, 9]),
+            Some(6)
         );
     }
 

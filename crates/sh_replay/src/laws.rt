@@ -1,5 +1,5 @@
 // What the headline means for a caller.
-ghost use Rattle.std.specs.Prelude.{ℕ, List, Option};
+ghost use Rattle.std.specs.Prelude.{ℕ, List, Option, length};
 ghost use Rattle.sh_base.specs.declared.config.ConfigParts.{ConfigParts};
 ghost use Rattle.sh_map.specs.declared.log.Entry.{Entry};
 ghost use Rattle.sh_map.specs.declared.book.Done.{Done};
@@ -12,7 +12,7 @@ ghost use Rattle.sh_replay.specs.Headline.{Headline};
 ghost use Rattle.sh_replay.specs.Complete.{IsFree, EndsWell, IsNoFault};
 
 use crate::{World, replay_top};
-use sh_sheet::{Status, SureSink, SureSource};
+use sh_sheet::{Sink, Source, Status, SureSink, SureSource};
 use std::alloc::Global;
 
 /// Refusals come by their causes: of each call of a run, `NoSplitYet` exactly where it is a put of a new key and the
@@ -24,8 +24,8 @@ pub fn replay_laws()
     ensures complete { (words : ℕ) (old new : World) (left rest : Option (List ℕ)) (before now : ℕ) (held after : Option (List ℕ)) (fell fallen : ℕ) (status : Status) → Headline words old new left rest before now held after fell fallen status → IsFree words left before now fell fallen → EndsWell status }
 {}
 
-/// [`replay_top`] over a source and a sink that never fail: neither `ReadFault` nor `WriteFault` comes. Condition: the
-/// world is blank.
+/// [`replay_top`] over a source and a sink that never fail: neither `ReadFault` nor `WriteFault` comes, and all that is
+/// said of the other statuses holds. Condition: the world is blank.
 pub fn replay_sure(
     alloc: Global,
     words: &[&str],
@@ -34,7 +34,8 @@ pub fn replay_sure(
     sink: &mut SureSink,
 ) -> Status
     requires { IsBlank world.old }
-    ensures { IsNoFault result }
+    ensures no_fault { IsNoFault result }
+    ensures headline { Headline (length words.now) world.old world.new (⟦<SureSource as Source>⟧.left source.old) (⟦<SureSource as Source>⟧.left source.new) 0 0 (⟦<SureSink as Sink>⟧.held sink.old) (⟦<SureSink as Sink>⟧.held sink.new) 0 0 result }
 {
     replay_top(alloc, words, world, source, sink)
 }

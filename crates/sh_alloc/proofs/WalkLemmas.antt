@@ -1,17 +1,16 @@
 -- What the words of a walk's run were.
-use Rattle.std.proofs.Common.{◌≡◌, ℕ, zero, suc, ◌+◌, ◌-◌, ◌%◌, ◌<◌, ◌≤◌, List, [], ◌∷◌, ◌++◌, inl, inr, refl, sym, ap, subst, ◌∙◌, arith}
+use Rattle.std.proofs.Common.{◌≡◌, ℕ, ◌+◌, ◌-◌, ◌%◌, ◌<◌, ◌≤◌, List, [], ◌∷◌, inl, inr, refl, sym, ap, subst, ◌∙◌, arith}
 use Rattle.std.proofs.Math.Nat.{mod-eq_of_lt, add-mod_right}
 use Rattle.std.proofs.lemmas.Nat.{mod_below}
 use Rattle.std.proofs.lemmas.Bool.{cases_lt}
 use Rattle.std.proofs.lemmas.Bool.Decides.{nat_tests}
 use Rattle.sh_base.specs.declared.config.ConfigParts.{ConfigParts}
-use Rattle.sh_base.specs.Layout.{counter_word}
 use Rattle.sh_alloc.specs.declared.state.Phase.{Phase}
 use Rattle.sh_alloc.specs.declared.state.Phase.TheVariants.{Loading, Adding, Found, Spent}
 use Rattle.sh_alloc.specs.declared.state.Walk.{Walk}
 use Rattle.sh_alloc.specs.declared.state.ChunkWant.{ChunkWant}
-use Rattle.sh_alloc.specs.declared.state.ChunkWant.TheVariants.{Event, Got, AllSpent}
-use Rattle.sh_alloc.specs.Walks.{walk_at, start_of, want_of, next_of, fed_by, run_of}
+use Rattle.sh_alloc.specs.declared.state.ChunkWant.TheVariants.{Got, AllSpent}
+use Rattle.sh_alloc.specs.Walks.{walk_at, start_of, want_of, fed_by, run_of}
 use Rattle.sh_alloc.specs.Chunks.{FindsSpent, FindsChunk}
 
 abbrev Runs : Phase → Type 0

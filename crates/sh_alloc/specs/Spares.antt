@@ -1,5 +1,5 @@
 -- Spare nodes: a range of numbers, taken from its low end.
-use Rattle.std.specs.Prelude.{ℕ, zero, suc, ◌≡◌, ◌+◌, ◌-◌, ◌<◌, ◌≤◌, ◌==◌, if◌then◌else◌, Option, Some, None}
+use Rattle.std.specs.Prelude.{ℕ, ◌≡◌, ◌+◌, ◌-◌, ◌<◌, ◌≤◌, ◌==◌, if◌then◌else◌, Option, Some, None}
 use Rattle.sh_alloc.specs.declared.state.NodeRange.{NodeRange}
 use Rattle.sh_alloc.specs.declared.state.Spare.{Spare}
 

@@ -1,17 +1,18 @@
 -- What the words of a walk's run were.
-use Rattle.std.proofs.Common.{◌≡◌, ℕ, ◌+◌, ◌-◌, ◌%◌, ◌<◌, ◌≤◌, List, [], ◌∷◌, inl, inr, refl, sym, ap, subst, ◌∙◌, arith}
+use Rattle.std.proofs.Common.{◌≡◌, ◌⊎◌, ℕ, ◌+◌, ◌-◌, ◌%◌, ◌<◌, ◌≤◌, List, [], ◌∷◌, ◌++◌, inl, inr, refl, sym, ap, subst, ◌∙◌, arith}
 use Rattle.std.proofs.Math.Nat.{mod-eq_of_lt, add-mod_right}
 use Rattle.std.proofs.lemmas.Nat.{mod_below}
 use Rattle.std.proofs.lemmas.Bool.{cases_lt}
 use Rattle.std.proofs.lemmas.Bool.Decides.{nat_tests}
 use Rattle.sh_base.specs.declared.config.ConfigParts.{ConfigParts}
+use Rattle.sh_base.specs.Layout.{counter_word}
 use Rattle.sh_alloc.specs.declared.state.Phase.{Phase}
 use Rattle.sh_alloc.specs.declared.state.Phase.TheVariants.{Loading, Adding, Found, Spent}
 use Rattle.sh_alloc.specs.declared.state.Walk.{Walk}
 use Rattle.sh_alloc.specs.declared.state.ChunkWant.{ChunkWant}
 use Rattle.sh_alloc.specs.declared.state.ChunkWant.TheVariants.{Got, AllSpent}
 use Rattle.sh_alloc.specs.Walks.{walk_at, start_of, want_of, fed_by, run_of}
-use Rattle.sh_alloc.specs.Chunks.{FindsSpent, FindsChunk}
+use Rattle.sh_alloc.specs.Chunks.{Asks, FindsSpent, FindsChunk}
 
 abbrev Runs : Phase → Type 0
 Runs Loading = Unit {0}
@@ -153,3 +154,88 @@ module _ (p : ConfigParts) where
 
   pub chunk_by_run : (seat : ℕ) (words : List ℕ) (server chunk : ℕ) → want_of p (run_of p (start_of p seat) words) ≡ Got server chunk → FindsChunk p (start_of p seat) words server chunk
   chunk_by_run seat words server chunk h = chunk_found (seat % p.servers) 0 Loading words server chunk tt h
+
+  -- a run's word that was found at a limit is its first, or one of a run from the second on
+  first_or_later : (w : Walk) (x : ℕ) (words : List ℕ) (server : ℕ) → FindsSpent p w (x ∷ words) server → (Asks (want_of p w) (counter_word p server) × (p.chunks ≤ x)) ⊎ FindsSpent p (fed_by p w x) words server
+  first_or_later w x words server h = by_front h.before h.word h.after h.whole h.asks h.spent
+    where
+      by_front : (before : List ℕ) (word : ℕ) (after : List ℕ) → (x ∷ words) ≡ before ++ (word ∷ after) → Asks (want_of p (run_of p w before)) (counter_word p server) → p.chunks ≤ word → (Asks (want_of p w) (counter_word p server) × (p.chunks ≤ x)) ⊎ FindsSpent p (fed_by p w x) words server
+      by_front [] word after whole asks spent = let e : x ≡ word = cc in inl (asks, omega (arith, e, spent))
+      by_front (y ∷ before) word after whole asks spent =
+          let e : y ≡ x = cc in
+          let rest : words ≡ before ++ (word ∷ after) = cc in
+          inr (record { before = before; word = word; after = after; whole = rest; asks = subst (λ z. Asks (want_of p (run_of p (fed_by p w z) before)) (counter_word p server)) e asks; spent = spent })
+
+  -- servers less than once round apart are two
+  mod_once : (a : ℕ) → p.servers ≤ a → a < p.servers + p.servers → a % p.servers ≡ a - p.servers
+  mod_once a low high =
+      let sum : a ≡ (a - p.servers) + p.servers = omega arith in
+      ap (λ i. i % p.servers) sum ∙ add-mod_right (a - p.servers) p.servers ∙ mod-eq_of_lt (omega arith)
+
+  apart : (f n k : ℕ) → f < p.servers → n < k → k < p.servers → (f + n) % p.servers ≡ (f + k) % p.servers → ⊥
+  apart f n k first less below same = elim (cases_lt (f + k) p.servers) [
+    | inl lk ↦
+        let ek : (f + k) % p.servers ≡ f + k = mod-eq_of_lt lk in
+        let en : (f + n) % p.servers ≡ f + n = mod-eq_of_lt (omega arith) in
+        omega (arith, sym en ∙ same ∙ ek)
+    | inr gk ↦
+        let ek = mod_once (f + k) gk (omega arith) in
+        elim (cases_lt (f + n) p.servers) [
+          | inl ln ↦
+              let en : (f + n) % p.servers ≡ f + n = mod-eq_of_lt ln in
+              omega (arith, sym en ∙ same ∙ ek)
+          | inr gn ↦
+              let en = mod_once (f + n) gn (omega arith) in
+              omega (arith, sym en ∙ same ∙ ek)
+        ]
+  ]
+
+  -- a walk that has its chunk asks for no more
+  asks_none : (f n c : ℕ) (words : List ℕ) (server : ℕ) → FindsSpent p (walk_at f n (Found c)) words server → ⊥
+  asks_none f n c words server h = subst (λ (u : Walk). Asks (want_of p u) (counter_word p server)) (stays_found f n c h.before) h.asks
+
+  -- a run that found the n-th server and each later one spent ends with all spent
+  ends_spent : (f n : ℕ) (phase : Phase) (words : List ℕ) → Runs phase → f < p.servers → n < p.servers → ((k : ℕ) → n ≤ k → k < p.servers → FindsSpent p (walk_at f n phase) words ((f + k) % p.servers)) → want_of p (run_of p (walk_at f n phase) words) ≡ AllSpent
+  ends_spent f n phase [] runs first below found = let h = found n (omega arith) below in absurd (nothing h.before h.word h.after h.whole)
+    where
+      nothing : (before : List ℕ) (word : ℕ) (after : List ℕ) → [] ≡ before ++ (word ∷ after) → ⊥
+      nothing [] word after e = cc
+      nothing (y ∷ before) word after e = cc
+  ends_spent f n phase (x ∷ words) runs first below found = elim (cases_lt x p.chunks) [
+    | inl less ↦ in_time phase runs less found (ends_spent f n Adding words tt first below)
+    | inr spent ↦ elim (cases_lt (n + 1) p.servers) [
+      | inl more ↦
+          let step = passes f n x phase runs spent more in
+          ap (λ (u : Walk). want_of p (run_of p u words)) step ∙ ends_spent f (n + 1) Loading words tt first more
+          (λ k from k_below. elim (first_or_later (walk_at f n phase) x words ((f + k) % p.servers) (found k (omega arith) k_below)) [
+            | inl here ↦ absurd (apart f n k first (omega arith) k_below (same_server phase runs k here.0))
+            | inr later ↦ subst (λ (u : Walk). FindsSpent p u words ((f + k) % p.servers)) step later
+          ])
+      | inr last ↦ ap (λ (u : Walk). want_of p (run_of p u words)) (ends f n x phase runs spent last) ∙ ap (want_of p) (stays_spent f n words)
+    ]
+  ]
+    where
+      same_server : (phase : Phase) → Runs phase → (k : ℕ) → Asks (want_of p (walk_at f n phase)) (counter_word p ((f + k) % p.servers)) → (f + n) % p.servers ≡ (f + k) % p.servers
+      same_server Loading runs k asks = omega (arith, asks)
+      same_server Adding runs k asks = omega (arith, asks)
+      same_server (Found c) runs k asks = absurd runs
+      same_server Spent runs k asks = absurd runs
+
+      in_time : (phase : Phase) → Runs phase → x < p.chunks → ((k : ℕ) → n ≤ k → k < p.servers → FindsSpent p (walk_at f n phase) (x ∷ words) ((f + k) % p.servers)) → (((k : ℕ) → n ≤ k → k < p.servers → FindsSpent p (walk_at f n Adding) words ((f + k) % p.servers)) → want_of p (run_of p (walk_at f n Adding) words) ≡ AllSpent) → want_of p (run_of p (walk_at f n phase) (x ∷ words)) ≡ AllSpent
+      in_time Loading runs less found then =
+          let step = loads f n x less in
+          ap (λ (u : Walk). want_of p (run_of p u words)) step ∙ then
+          (λ k from k_below. elim (first_or_later (walk_at f n Loading) x words ((f + k) % p.servers) (found k from k_below)) [
+            | inl here ↦ absurd (omega (arith, here.1))
+            | inr later ↦ subst (λ (u : Walk). FindsSpent p u words ((f + k) % p.servers)) step later
+          ])
+      in_time Adding runs less found then = elim (first_or_later (walk_at f n Adding) x words ((f + n) % p.servers) (found n (omega arith) below)) [
+        | inl here ↦ absurd (omega (arith, here.1))
+        | inr later ↦ absurd (asks_none f n x words ((f + n) % p.servers) (subst (λ (u : Walk). FindsSpent p u words ((f + n) % p.servers)) (adds f n x less) later))
+      ]
+      in_time (Found c) runs less found then = absurd runs
+      in_time Spent runs less found then = absurd runs
+
+  pub run_by_spent : (seat : ℕ) (words : List ℕ) → 1 ≤ p.servers → ((server : ℕ) → server < p.servers → FindsSpent p (start_of p seat) words server) → want_of p (run_of p (start_of p seat) words) ≡ AllSpent
+  run_by_spent seat words some found =
+      ends_spent (seat % p.servers) 0 Loading words tt (mod_below seat p.servers (omega arith)) (omega arith) (λ k from below. found ((seat % p.servers + k) % p.servers) (mod_below (seat % p.servers + k) p.servers (omega arith)))

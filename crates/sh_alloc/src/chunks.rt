@@ -28,7 +28,7 @@ impl Chunks {
 
     /// What is to be done now. At each server the counter is loaded, and where it is below the server's number of
     /// chunks one is added; the word found by the add is the chunk, where it's below too, and `Got` tells it. Else the
-    /// next server's turn comes. `AllSpent` comes where the counter of every server was found at its limit.
+    /// next server's turn comes. `AllSpent` comes exactly where every counter was found at its limit.
     pub fn want(&self) -> ChunkWant
         ensures here { result ≡ want_of (setting_of self.now) (walk_of self.now) }
         ensures within { IsWantOf (setting_of self.now) result }

@@ -15,9 +15,11 @@ pub fn spare_laws()
     ensures back { (r : NodeRange) (n : ℕ) → 1 ≤ r.first → lowest r ≡ Some n → MayPutBack n (without_lowest r) × (with_lowest n (without_lowest r) ≡ r) }
 {}
 
-/// A run that ends with every server spent was fed, at each server's counter, a word at or above its limit. And a run
-/// that ends with a chunk got it by an add at that server's counter: the word found is the chunk, and is below the limit.
+/// A run ends with every server spent exactly where it was fed, at each server's counter, a word at or above its limit.
+/// And a run that ends with a chunk got it by an add at that server's counter: the word found is the chunk, and is below
+/// the limit.
 pub fn chunk_laws()
     ensures spent { (p : ConfigParts) (seat : ℕ) (words : List ℕ) (server : ℕ) → server < p.servers → want_of p (run_of p (start_of p seat) words) ≡ AllSpent → FindsSpent p (start_of p seat) words server }
+    ensures all { (p : ConfigParts) (seat : ℕ) (words : List ℕ) → 1 ≤ p.servers → ((server : ℕ) → server < p.servers → FindsSpent p (start_of p seat) words server) → want_of p (run_of p (start_of p seat) words) ≡ AllSpent }
     ensures got { (p : ConfigParts) (seat : ℕ) (words : List ℕ) (server chunk : ℕ) → want_of p (run_of p (start_of p seat) words) ≡ Got server chunk → FindsChunk p (start_of p seat) words server chunk }
 {}

@@ -6,3 +6,5 @@ pub mod SortLemmas
 pub mod FillLemmas
 pub mod SplitLemmas
 pub mod HalvesLemmas
+pub mod PairLemmas
+pub mod RiseLemmas

@@ -2,3 +2,4 @@ pub mod Held
 pub mod Placing
 pub mod Rewriting
 pub mod Splitting
+pub mod Pairing

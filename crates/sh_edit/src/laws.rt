@@ -1,14 +1,18 @@
-// What the changes of a leaf mean for the map that its entries hold.
-ghost use Rattle.std.specs.Prelude.{◌≡◌, ◌≢◌, ◌<◌, ◌≤◌, ◌⊎◌, ◌^◌, ◌++◌, ℕ, List, length, replicate, nat_lt, Some, None};
+// What the changes of leaves mean for the map that their entries hold, and those of inner nodes for their pairs.
+ghost use Rattle.std.specs.Prelude.{◌≡◌, ◌≢◌, ◌<◌, ◌≤◌, ◌⊎◌, ◌^◌, ◌-◌, ◌++◌, ◌∷◌, ◌*◌, ℕ, List, length, replicate, nat_lt, Some, None};
 ghost use Rattle.sh_base.specs.declared.config.ConfigParts.{ConfigParts};
 ghost use Rattle.sh_base.specs.Setting.{last_version, nodes};
+ghost use Rattle.std.specs.List.Sorted.{IsPermutation};
 ghost use Rattle.std.specs.FinMap.{from_entries};
 ghost use Rattle.sh_map.specs.Map.{get, put, del, size};
 ghost use Rattle.sh_image.specs.declared.leaf.LeafEntry.{LeafEntry};
+ghost use Rattle.sh_image.specs.Inner.{Inner, IsInner};
+ghost use Rattle.sh_image.specs.declared.inner.Pair.{Pair};
 ghost use Rattle.sh_image.specs.Leaf.{Leaf, IsLeaf};
 ghost use Rattle.sh_edit.specs.Held.{map_of_entries, pairs_of, value_at, key_at, has_room, HasKeysOnce};
 ghost use Rattle.sh_edit.specs.Placing.{IsFirstWith, HasNone};
 ghost use Rattle.sh_edit.specs.Rewriting.{rewritten};
+ghost use Rattle.sh_edit.specs.Pairing.{left_inner, middle_of, pairs_with, right_inner, root_over, with_pair, IsAddable};
 ghost use Rattle.sh_edit.specs.Splitting.{left_half, right_half, separator_of, IsSplit};
 
 /// The changes of a leaf are the map's. What `find` finds is the map's value of the key. A rewrite at the index that
@@ -37,4 +41,16 @@ pub fn splits_are_the_maps()
     ensures once { (a : Leaf) (key right : ℕ) (value : List ℕ) → key ≢ 0 → HasKeysOnce (left_half a key value right).entries × HasKeysOnce (right_half a key value).entries }
     ensures separator { (p : ConfigParts) (a : Leaf) (key : ℕ) (value : List ℕ) → IsSplit a key → IsLeaf p a → length value ≡ p.value_words → a.low ≤ key → key < a.high → (a.low < separator_of a.entries key value) × (separator_of a.entries key value < a.high) }
     ensures lawful { (p : ConfigParts) (a : Leaf) (key right : ℕ) (value : List ℕ) → IsSplit a key → IsLeaf p a → length value ≡ p.value_words → a.low ≤ key → key < a.high → a.high < 2 ^ 64 → a.version < last_version p → 1 ≤ right → right ≤ nodes p → IsLeaf p (left_half a key value right) × IsLeaf p (right_half a key value) }
+{}
+
+/// A pair that is added to an inner node is put to its pairs, and all of them are kept; so do the two halves of a split
+/// together. The node meets the rules where it did before, the pair may be added, and its version wasn't the last one;
+/// so do both halves, which meet at a separator between the fences, and so does a new root.
+pub fn inner_nodes_keep_their_pairs()
+    ensures kept { (a : Inner) (new : Pair) → IsPermutation (new ∷ a.pairs) (with_pair a new).pairs }
+    ensures halves { (count right : ℕ) (a : Inner) (new : Pair) → (left_inner count a new right).pairs ++ (right_inner count a new).pairs ≡ (with_pair a new).pairs }
+    ensures lawful { (p : ConfigParts) (a : Inner) (new : Pair) → IsInner p a → length a.pairs < 2 * p.leaf → IsAddable p a new → a.version < last_version p → IsInner p (with_pair a new) }
+    ensures separator { (p : ConfigParts) (a : Inner) (new : Pair) → IsInner p a → length a.pairs ≡ 2 * p.leaf → IsAddable p a new → (a.low < middle_of p.leaf a.pairs new) × (middle_of p.leaf a.pairs new < a.high) }
+    ensures lawful_halves { (p : ConfigParts) (a : Inner) (new : Pair) (right : ℕ) → IsInner p a → length a.pairs ≡ 2 * p.leaf → IsAddable p a new → a.high < 2 ^ 64 → a.version < last_version p → 1 ≤ right → right ≤ nodes p → IsInner p (left_inner p.leaf a new right) × IsInner p (right_inner p.leaf a new) }
+    ensures lawful_root { (p : ConfigParts) (level left separator right : ℕ) → 1 ≤ p.leaf → 1 ≤ level → level < nodes p → 1 ≤ left → left ≤ nodes p → 1 ≤ right → right ≤ nodes p → 1 ≤ separator → separator < 2 ^ 64 - 1 → IsInner p (root_over level left separator right) }
 {}

@@ -1,6 +1,7 @@
-//! Changes of leaves.
+//! Changes of leaves and inner nodes.
 #![tactic(auto)]
 
+mod inner;
 mod laws;
 mod split;
 
@@ -9,7 +10,8 @@ ghost use Rattle.sh_edit.specs.Held.{value_at};
 ghost use Rattle.sh_edit.specs.Placing.{HasNone, IsFirstWith, PlacedBy};
 ghost use Rattle.sh_edit.specs.Rewriting.{cleared, rewritten};
 
-pub use laws::{edits_are_the_maps, splits_are_the_maps};
+pub use inner::{InnerHalves, add_child, new_root, split_inner};
+pub use laws::{edits_are_the_maps, inner_nodes_keep_their_pairs, splits_are_the_maps};
 use sh_base::Value;
 use sh_image::{LeafEntry, LeafImage};
 use sh_lanes::first_equal;

@@ -1,4 +1,5 @@
 mod ColumnLemmas
+pub mod InnerLemmas
 mod PairLemmas
 pub mod EntriesLemmas
 pub mod LeafLemmas

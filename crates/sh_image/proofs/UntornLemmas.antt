@@ -1,5 +1,5 @@
 -- Words that spell a leaf are untorn: the two versions of the node and of each entry agree.
-use Rattle.std.proofs.Common.{◌≡◌, ℕ, zero, suc, ◌+◌, ◌*◌, ◌<◌, List, [], ◌∷◌, ◌++◌, length, get_or, drop, refl, sym, ap, ◌∙◌, append_assoc, arith}
+use Rattle.std.proofs.Common.{◌≡◌, ℕ, zero, suc, ◌+◌, ◌*◌, ◌<◌, ◌≤◌, List, [], ◌∷◌, ◌++◌, length, get_or, drop, refl, sym, ap, ◌∙◌, append_assoc, arith}
 use Rattle.std.specs.List.{flat_map, AllByRecursion}
 use Rattle.std.proofs.lemmas.List.{drop_at, get_or-drop}
 use Rattle.sh_base.specs.declared.config.ConfigParts.{ConfigParts}
@@ -8,8 +8,10 @@ use Rattle.sh_base.proofs.LayoutLemmas.{entry_at_by_words, node_size_is, node_si
 use Rattle.sh_image.specs.declared.leaf.LeafEntry.{LeafEntry}
 use Rattle.sh_image.specs.Entries.{entry_words}
 use Rattle.sh_image.specs.Leaf.{Leaf, Spells, leaf_words}
+use Rattle.sh_image.specs.Inner.{Inner, SpellsInner}
+use Rattle.sh_image.proofs.InnerLemmas.{inner_spelled, inner_spelled_one, rear_spelled}
 use Rattle.sh_image.specs.declared.read.Seen.{Seen}
-use Rattle.sh_image.specs.declared.read.Seen.TheVariants.{Leaf as LeafSeen, Torn, TornEntry, Odd}
+use Rattle.sh_image.specs.declared.read.Seen.TheVariants.{Leaf as LeafSeen, Inner as InnerSeen, Torn, TornEntry, Odd}
 use Rattle.sh_image.specs.Seen.{IsUntorn, SeenBy}
 use Rattle.sh_image.proofs.EntriesLemmas.{length-entry_words, length-words}
 use Rattle.sh_image.proofs.LeafLemmas.{values_of, spelled_one}
@@ -69,6 +71,20 @@ module _ (p : ConfigParts) (ws : List ℕ) (a : Leaf) (s : Spells p ws a) where
 -- The causes of a reader's answers shut each other out: of words that spell a leaf it answers that leaf.
 pub seen_spelled : (p : ConfigParts) (ws : List ℕ) (a : Leaf) (seen : Seen) → Spells p ws a → SeenBy p ws seen → seen ≡ LeafSeen a
 seen_spelled p ws a (LeafSeen b) s h = ap LeafSeen (sym (spelled_one p ws b h) ∙ spelled_one p ws a s)
+seen_spelled p ws a (InnerSeen b) s h = absurd (omega (arith, ap (λ l. get_or l 1 0) s.words, ap (λ l. get_or l 1 0) h.words, h.lawful.level))
 seen_spelled p ws a (Torn rear front) s h = absurd (h.2 (h.0 ∙ sym (untorn_spelled p ws a s).node ∙ sym h.1))
 seen_spelled p ws a (TornEntry index rear front) s h = absurd (h.torn.differ ((untorn_spelled p ws a s).entries h.leaf index h.torn.in_range))
 seen_spelled p ws a Odd s h = absurd (h.1 a s)
+
+pub untorn_inner : (p : ConfigParts) (ws : List ℕ) (a : Inner) → 1 ≤ p.value_words → SpellsInner p ws a → IsUntorn p ws
+untorn_inner p ws a some s = record {
+  node = sym (rear_spelled p ws a some s);
+  entries = λ leaf. absurd (omega (arith, leaf, (inner_spelled p ws a s).3));
+}
+
+pub seen_inner : (p : ConfigParts) (ws : List ℕ) (a : Inner) (seen : Seen) → 1 ≤ p.value_words → SpellsInner p ws a → SeenBy p ws seen → seen ≡ InnerSeen a
+seen_inner p ws a (LeafSeen b) some s h = absurd (omega (arith, ap (λ l. get_or l 1 0) h.words, (inner_spelled p ws a s).3))
+seen_inner p ws a (InnerSeen b) some s h = ap InnerSeen (sym (inner_spelled_one p ws b h) ∙ inner_spelled_one p ws a s)
+seen_inner p ws a (Torn rear front) some s h = absurd (h.2 (h.0 ∙ sym (untorn_inner p ws a some s).node ∙ sym h.1))
+seen_inner p ws a (TornEntry index rear front) some s h = absurd (omega (arith, h.leaf, (inner_spelled p ws a s).3))
+seen_inner p ws a Odd some s h = absurd (h.2 a s)

@@ -1,14 +1,16 @@
 -- Words that are written piece by piece.
-use Rattle.std.proofs.Common.{◌≡◌, ◌<◌, ◌≤◌, ◌+◌, ◌-◌, ◌++◌, [], ◌∷◌, ℕ, suc, List, length, drop, take, get_or, refl, sym, ap, ◌∙◌, append_assoc, length-append, arith}
-use Rattle.std.specs.Prelude.{slice_set}
+use Rattle.std.proofs.Common.{◌≡◌, ◌<◌, ◌≤◌, ◌+◌, ◌-◌, ◌*◌, ◌++◌, [], ◌∷◌, ℕ, zero, suc, List, length, drop, take, get_or, refl, sym, ap, ◌∙◌, append_assoc, length-append, arith}
+use Rattle.std.specs.Prelude.{slice_set, replicate}
 use Rattle.std.specs.List.{flat_map}
-use Rattle.std.proofs.lemmas.List.{take_more, drop_all, length-drop, set_split, append-nil}
+use Rattle.std.proofs.lemmas.List.{take_more, drop_all, length-drop, length-set, set_split, append-nil}
 use Rattle.std.proofs.lemmas.List.Concat.{flat_map-append}
 use Rattle.std.proofs.lemmas.Slice.{take-put_mid}
 use borrow.Rule.Slice.PartMut.{put_mid}
 use Rattle.sh_image.specs.declared.leaf.LeafEntry.{LeafEntry}
 use Rattle.sh_image.specs.Leaf.{Leaf, header}
 use Rattle.sh_image.specs.Entries.{entry_words}
+use Rattle.sh_image.specs.Inner.{Inner, inner_header, pair_words}
+use Rattle.sh_image.specs.declared.inner.Pair.{Pair}
 
 -- one piece more is written behind what stands
 pub piece_more : (out front new : List ℕ) (at size next : ℕ) → at ≤ length out → next ≡ at + size → length new ≡ size → take at out ≡ front → take next (put_mid at (at + size - at) out new) ≡ front ++ new
@@ -38,3 +40,47 @@ entry_written version key rear value out new long last is = absurd (omega arith)
 pub header_written : (a : Leaf) (version low high next : ℕ) (out : List ℕ) → version ≡ a.version → low ≡ a.low → high ≡ a.high → next ≡ a.next → 6 < length out → take 6 (slice_set (slice_set (slice_set (slice_set (slice_set (slice_set out 0 version) 1 0) 2 low) 3 high) 4 next) 5 0) ≡ header a
 header_written a version low high next (x ∷ y ∷ z ∷ w ∷ u ∷ v ∷ out) e f g h long = λ i. e i ∷ 0 ∷ f i ∷ g i ∷ h i ∷ 0 ∷ []
 header_written a version low high next out e f g h long = absurd (omega arith)
+
+pub inner_header_written : (a : Inner) (version level low high next count : ℕ) (out : List ℕ) → version ≡ a.version → level ≡ a.level → low ≡ a.low → high ≡ a.high → next ≡ a.next → count ≡ length a.pairs → 6 < length out → take 6 (slice_set (slice_set (slice_set (slice_set (slice_set (slice_set out 0 version) 1 level) 2 low) 3 high) 4 next) 5 count) ≡ inner_header a
+inner_header_written a version level low high next count (x ∷ y ∷ z ∷ w ∷ u ∷ v ∷ out) e l f g h k long = λ i. e i ∷ l i ∷ f i ∷ g i ∷ h i ∷ k i ∷ []
+inner_header_written a version level low high next count out e l f g h k long = absurd (omega arith)
+
+-- one word more is written behind what stands
+pub word_more : (out : List ℕ) (n v : ℕ) → n < length out → take (n + 1) (slice_set out n v) ≡ take n out ++ v ∷ []
+word_more out n v below = ap (λ k. take k (slice_set out n v)) (next n) ∙ by_steps out n below
+  where
+    next : (n : ℕ) → n + 1 ≡ suc n
+    next n = omega arith
+
+    by_steps : (out : List ℕ) (n : ℕ) → n < length out → take (suc n) (slice_set out n v) ≡ take n out ++ v ∷ []
+    by_steps [] n h = absurd (omega arith)
+    by_steps (x ∷ out) zero h = refl
+    by_steps (x ∷ out) (suc n) h = ap (λ l. x ∷ l) (by_steps out n (omega arith))
+
+-- the words of one pair more
+pub pair_more : (out front : List ℕ) (ps : List Pair) (i child : ℕ) (x : Pair) → 6 + 2 * i + 1 < length out → i < length ps → get_or ps i x ≡ x → child ≡ x.child → take (6 + 2 * i) out ≡ front ++ flat_map pair_words (take i ps) → take (6 + 2 * (i + 1)) (slice_set (slice_set out (6 + 2 * i) x.separator) (7 + 2 * i) child) ≡ front ++ flat_map pair_words (take (i + 1) ps)
+pair_more out front ps i child x room below is same before =
+    let n = 6 + 2 * i in
+    let past : 6 + 2 * (i + 1) ≡ n + 1 + 1 = omega arith in
+    let second : 7 + 2 * i ≡ n + 1 = omega arith in
+    let first = slice_set out n x.separator in
+    let one = take_more ps i x below ∙ ap (λ y. take i ps ++ y ∷ []) is in
+    (λ t. take (past t) (slice_set first (second t) (same t)))
+    ∙ word_more first (n + 1) x.child (omega (arith, length-set out n x.separator))
+    ∙ ap (λ l. l ++ x.child ∷ []) (word_more out n x.separator (omega arith) ∙ ap (λ l. l ++ x.separator ∷ []) before)
+    ∙ append_assoc (front ++ flat_map pair_words (take i ps)) (x.separator ∷ []) (x.child ∷ [])
+    ∙ append_assoc front (flat_map pair_words (take i ps)) (pair_words x)
+    ∙ ap (λ l. front ++ l) (sym (ap (flat_map pair_words) one ∙ flat_map-append pair_words (take i ps) (x ∷ []) ∙ ap (λ l. flat_map pair_words (take i ps) ++ l) (append-nil (pair_words x))))
+
+abbrev pub zeros : ℕ → List ℕ
+zeros n = replicate n 0
+
+zeros_more : (k : ℕ) → zeros k ++ 0 ∷ [] ≡ zeros (suc k)
+zeros_more zero = refl
+zeros_more (suc k) = ap (λ l. 0 ∷ l) (zeros_more k)
+
+-- one word of 0 more is written
+pub zero_more : (out front : List ℕ) (n start : ℕ) → n < length out → start ≤ n → take n out ≡ front ++ zeros (n - start) → take (n + 1) (slice_set out n 0) ≡ front ++ zeros (n + 1 - start)
+zero_more out front n start below from before =
+    let step : n + 1 - start ≡ suc (n - start) = omega arith in
+    word_more out n 0 below ∙ ap (λ l. l ++ 0 ∷ []) before ∙ append_assoc front (zeros (n - start)) (0 ∷ []) ∙ ap (λ l. front ++ l) (zeros_more (n - start)) ∙ ap (λ k. front ++ zeros k) (sym step)

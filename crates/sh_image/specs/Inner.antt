@@ -29,7 +29,7 @@ words_behind p count = rear_at p - (6 + 2 * count)
 
 -- the words of an inner node: its header, its pairs, zeros, and its version behind
 abbrev pub inner_words : ConfigParts → Inner → List ℕ
-inner_words p a = inner_header a ++ flat_map pair_words a.pairs ++ replicate (words_behind p (length a.pairs)) 0 ++ a.version ∷ []
+inner_words p a = inner_header a ++ (flat_map pair_words a.pairs ++ (replicate (words_behind p (length a.pairs)) 0 ++ a.version ∷ []))
 
 -- the pairs, that many, that the front of the words spells
 abbrev pub pairs_in : ℕ → List ℕ → List Pair

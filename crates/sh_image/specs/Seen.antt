@@ -3,8 +3,9 @@ use Rattle.std.specs.Prelude.{◌≡◌, ◌≢◌, ℕ, ◌<◌, List, slice_in
 use Rattle.sh_base.specs.declared.config.ConfigParts.{ConfigParts}
 use Rattle.sh_base.specs.Layout.{entry_at, entry_rear_at, rear_at}
 use Rattle.sh_image.specs.Leaf.{Leaf, Spells}
+use Rattle.sh_image.specs.Inner.{Inner, SpellsInner}
 use Rattle.sh_image.specs.declared.read.Seen.{Seen}
-use Rattle.sh_image.specs.declared.read.Seen.TheVariants.{Leaf as LeafSeen, Torn, TornEntry, Odd}
+use Rattle.sh_image.specs.declared.read.Seen.TheVariants.{Leaf as LeafSeen, Inner as InnerSeen, Torn, TornEntry, Odd}
 
 -- the node's version in front, and behind
 abbrev pub front_of : List ℕ → ℕ
@@ -46,6 +47,7 @@ pub record IsFirstTorn (p : ConfigParts) (ws : List ℕ) (index rear front : ℕ
 -- The causes of the answers. They shut each other out, so each answer comes exactly where its cause holds.
 abbrev pub SeenBy : ConfigParts → List ℕ → Seen → Type 0
 SeenBy p ws (LeafSeen a) = Spells p ws a
+SeenBy p ws (InnerSeen a) = SpellsInner p ws a
 SeenBy p ws (Torn rear front) = (rear ≡ rear_of p ws) × (front ≡ front_of ws) × (rear ≢ front)
 SeenBy p ws (TornEntry index rear front) = IsFirstTorn p ws index rear front
-SeenBy p ws Odd = IsUntorn p ws × ((a : Leaf) → Spells p ws a → ⊥)
+SeenBy p ws Odd = IsUntorn p ws × ((a : Leaf) → Spells p ws a → ⊥) × ((a : Inner) → SpellsInner p ws a → ⊥)

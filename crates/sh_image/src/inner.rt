@@ -1,6 +1,7 @@
 // An inner node as columns of its pairs.
 ghost use Rattle.std.specs.Prelude.{◌≡◌, ◌<◌, ◌≤◌, ◌++◌, ◌∷◌, [], length, slice_get, Some};
 
+use crate::LeafImage;
 use std::marker::Model;
 
 /// A pair of an inner node: the child covers the keys from the separator on, up to the next pair's.
@@ -25,6 +26,15 @@ pub struct InnerImage {
     count: u32,
     separators: [u64; 128],
     children: [u32; 128],
+}
+
+/// The image of a node.
+#[derive(Debug, Drop)]
+pub enum Image {
+    /// A leaf's.
+    Leaf(LeafImage),
+    /// An inner node's.
+    Inner(InnerImage),
 }
 
 impl Model for InnerImage {

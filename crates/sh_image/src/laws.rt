@@ -1,11 +1,12 @@
-// The laws of the codec: its round trips, and how long a leaf's words are.
+// The laws of the codec: its round trips, how long a node's words are, and that no words have two answers.
 ghost use Rattle.std.specs.Prelude.{◌≡◌, List, ℕ, length};
 ghost use Rattle.sh_base.specs.Parts.{parts_of};
 ghost use Rattle.sh_base.specs.Setting.{node_size};
+ghost use Rattle.sh_image.specs.Inner.{inner_in, inner_words, Inner, IsInner, SpellsInner};
 ghost use Rattle.sh_image.specs.Leaf.{Leaf, leaf_in, leaf_words, IsLeaf, Spells};
 ghost use Rattle.sh_image.specs.Seen.{IsUntorn, SeenBy};
 ghost use Rattle.sh_image.specs.declared.read.Seen.{Seen};
-ghost use Rattle.sh_image.specs.declared.read.Seen.TheVariants.{Leaf as LeafSeen};
+ghost use Rattle.sh_image.specs.declared.read.Seen.TheVariants.{Inner as InnerSeen, Leaf as LeafSeen};
 
 use sh_base::Config;
 
@@ -18,9 +19,19 @@ pub fn leaves_spelled_once(cfg: &Config)
     ensures as_long { (a : Leaf) → IsLeaf (parts_of cfg.now) a → length (leaf_words a) ≡ node_size (parts_of cfg.now) }
 {}
 
-/// The causes of a reader's answers shut each other out: words that spell a leaf are untorn, and that leaf is the only
-/// answer of theirs.
+/// The causes of a reader's answers shut each other out: words that spell a leaf or an inner node are untorn, and
+/// that node is the only answer of theirs.
 pub fn causes_shut_each_other_out(cfg: &Config)
     ensures untorn { (words : List ℕ) (a : Leaf) → Spells (parts_of cfg.now) words a → IsUntorn (parts_of cfg.now) words }
     ensures leaf { (words : List ℕ) (a : Leaf) (seen : Seen) → Spells (parts_of cfg.now) words a → SeenBy (parts_of cfg.now) words seen → seen ≡ LeafSeen a }
+    ensures untorn_inner { (words : List ℕ) (a : Inner) → SpellsInner (parts_of cfg.now) words a → IsUntorn (parts_of cfg.now) words }
+    ensures inner { (words : List ℕ) (a : Inner) (seen : Seen) → SpellsInner (parts_of cfg.now) words a → SeenBy (parts_of cfg.now) words seen → seen ≡ InnerSeen a }
+{}
+
+/// The codec of inner nodes is exact: one that meets the rules is read back from its words, words spell one at most and
+/// that is the one that is read, and it has as many words as a node.
+pub fn inner_nodes_spelled_once(cfg: &Config)
+    ensures read_back { (a : Inner) → inner_in (inner_words (parts_of cfg.now) a) ≡ a }
+    ensures spelled_once { (words : List ℕ) (a : Inner) → SpellsInner (parts_of cfg.now) words a → inner_in words ≡ a }
+    ensures as_long { (a : Inner) → IsInner (parts_of cfg.now) a → length (inner_words (parts_of cfg.now) a) ≡ node_size (parts_of cfg.now) }
 {}

@@ -5,13 +5,14 @@ mod inner;
 mod laws;
 mod leaf;
 mod read;
+mod read_inner;
 mod write;
 
-pub use inner::{InnerImage, Pair};
-pub use laws::{causes_shut_each_other_out, leaves_spelled_once};
+pub use inner::{Image, InnerImage, Pair};
+pub use laws::{causes_shut_each_other_out, inner_nodes_spelled_once, leaves_spelled_once};
 pub use leaf::{LeafEntry, LeafImage};
 pub use read::{Seen, read_image};
-pub use write::{write_entry, write_leaf};
+pub use write::{write_entry, write_inner, write_leaf};
 
 #[cfg(test)]
 mod tests {
@@ -41,6 +42,11 @@ mod tests {
         7, 0, 10, 20, 2, 0, 0, 0, 0, 0, 15, 10, 500, 15, 3, 19, 501, 3, 0, 0, 0, 0, 7,
     ];
 
+    // Version 7, level 1, keys from 10 on below 20, next node 2; the pairs (10, 1) and (15, 2).
+    const INNER: [u64; 23] = [
+        7, 1, 10, 20, 2, 2, 10, 1, 15, 2, 0, 0, 0, 0, 0, 0, 0, 0, 0, 0, 0, 0, 7,
+    ];
+
     fn seen(cfg: &Config, words: &[u64]) -> Option<Seen> {
         if words.len() == cfg.node_size() as usize {
             Some(read_image(cfg, words))
@@ -50,16 +56,16 @@ mod tests {
     }
 
     // What is seen where one of the words is another.
-    fn seen_with(cfg: &Config, at: usize, word: u64) -> Option<Seen> {
-        let mut words = LEAF;
+    fn seen_with(cfg: &Config, node: [u64; 23], at: usize, word: u64) -> Option<Seen> {
+        let mut words = node;
         if at < 23 {
             words[at] = word;
         }
         seen(cfg, &words)
     }
 
-    fn is_odd(cfg: &Config, at: usize, word: u64) -> bool {
-        match seen_with(cfg, at, word) {
+    fn is_odd(cfg: &Config, node: [u64; 23], at: usize, word: u64) -> bool {
+        match seen_with(cfg, node, at, word) {
             Some(Seen::Odd) => true,
             _ => false,
         }
@@ -109,27 +115,61 @@ mod tests {
             return;
         };
         assert!(rt;
-            match seen_with(&cfg, 22, 6) {
+            match seen_with(&cfg, LEAF, 22, 6) {
                 Some(Seen::Torn { rear, front }) => rear == 6 && front == 7,
                 _ => false
             }
         );
         assert!(rt;
-            match seen_with(&cfg, 13, 14) {
+            match seen_with(&cfg, LEAF, 13, 14) {
                 Some(Seen::TornEntry { index, rear, front }) => index == 1
                     && rear == 14
                     && front == 15,
                 _ => false
             }
         );
-        assert!(rt; is_odd(&cfg, 1, 1));
-        assert!(rt; is_odd(&cfg, 3, 10));
-        assert!(rt; is_odd(&cfg, 4, 3));
-        assert!(rt; is_odd(&cfg, 4, 0));
-        assert!(rt; is_odd(&cfg, 5, 1));
-        assert!(rt; is_odd(&cfg, 8, 1));
-        assert!(rt; is_odd(&cfg, 11, 9));
-        assert!(rt; is_odd(&cfg, 15, 20));
+        assert!(rt; is_odd(&cfg, LEAF, 1, 1));
+        assert!(rt; is_odd(&cfg, LEAF, 3, 10));
+        assert!(rt; is_odd(&cfg, LEAF, 4, 3));
+        assert!(rt; is_odd(&cfg, LEAF, 4, 0));
+        assert!(rt; is_odd(&cfg, LEAF, 5, 1));
+        assert!(rt; is_odd(&cfg, LEAF, 8, 1));
+        assert!(rt; is_odd(&cfg, LEAF, 11, 9));
+        assert!(rt; is_odd(&cfg, LEAF, 15, 20));
+    }
+
+    #[test]
+    fn an_inner_node_is_read_from_its_words(rt: HostRuntime) {
+        let Ok(cfg) = small() else {
+            assert!(rt; false, "no setting");
+            return;
+        };
+        assert!(rt; is_inner_written_back(&cfg, &INNER));
+        assert!(rt; !is_odd(&cfg, INNER, 9, 1));
+        assert!(rt; is_odd(&cfg, INNER, 1, 2));
+        assert!(rt; is_odd(&cfg, INNER, 5, 0));
+        assert!(rt; is_odd(&cfg, INNER, 5, 3));
+        assert!(rt; is_odd(&cfg, INNER, 6, 11));
+        assert!(rt; is_odd(&cfg, INNER, 8, 10));
+        assert!(rt; is_odd(&cfg, INNER, 9, 3));
+        assert!(rt; is_odd(&cfg, INNER, 10, 1));
+    }
+
+    // Whether the words are an inner node's with the pairs (10, 1) and (15, 2), and are written again from it.
+    fn is_inner_written_back(cfg: &Config, words: &[u64]) -> bool {
+        let mut out = [0; 23];
+        if words.len() != 23 || cfg.node_size() != 23 {
+            return false;
+        }
+        let Seen::Inner(image) = read_image(cfg, words) else {
+            return false;
+        };
+        write_inner(cfg, &image, &mut out);
+        image.pairs() == 2
+            && image.pair(1).separator == 15
+            && image.pair(1).child == 2
+            && image.level() == 1
+            && out.as_slice() == words
     }
 
     #[test]

@@ -6,7 +6,8 @@ ghost use Rattle.sh_image.specs.Columns.{IsEntryColumn, IsValueColumn};
 ghost use Rattle.sh_image.specs.Leaf.{leaf_in, HaveWords, IsEntry, IsLeaf};
 ghost use Rattle.sh_image.specs.Seen.{SeenBy};
 
-use crate::{LeafEntry, LeafImage};
+use crate::read_inner::read_inner;
+use crate::{InnerImage, LeafEntry, LeafImage};
 use sh_base::{Config, Value};
 use sh_lanes::{column, count_empty, first_differing};
 
@@ -15,11 +16,13 @@ use sh_lanes::{column, count_empty, first_differing};
 pub enum Seen {
     /// They spell this leaf, which meets the rules.
     Leaf(LeafImage),
+    /// They spell this inner node, which meets the rules.
+    Inner(InnerImage),
     /// The node's two versions differ.
     Torn { rear: u64, front: u64 },
     /// The node is a leaf, and this is its first entry whose two versions differ.
     TornEntry { index: u32, rear: u64, front: u64 },
-    /// The versions agree, and the words spell no leaf.
+    /// The versions agree, and the words spell no node.
     Odd,
 }
 
@@ -116,7 +119,10 @@ pub fn read_image(cfg: &Config, words: &[u64]) -> Seen
         return Seen::Torn { rear, front };
     }
     if words[1] != 0 {
-        return Seen::Odd;
+        return match read_inner(cfg, words) {
+            Some(image) => Seen::Inner(image),
+            None => Seen::Odd,
+        };
     }
     let fronts = entry_column(cfg, words, 0);
     let rears = entry_column(cfg, words, cfg.entry_size() - 1);
@@ -141,7 +147,7 @@ pub fn read_image(cfg: &Config, words: &[u64]) -> Seen
 
 // Whether all words are 0.
 #[tactic(auto, using(crate::proofs::EmptyLemmas::empty_exactly))]
-fn are_empty(words: &[u64]) -> bool
+pub(crate) fn are_empty(words: &[u64]) -> bool
     ensures { IsTrue result ↔ (words.now ≡ replicate (length words.now) 0) }
 {
     count_empty(words) == words.len()

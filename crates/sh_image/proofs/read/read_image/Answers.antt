@@ -5,14 +5,15 @@ use Rattle.sh_image.specs.Leaf.{IsLeaf}
 use Rattle.sh_image.specs.Seen.{HasWholeEntries}
 use Rattle.sh_image.proofs.EntriesLemmas.{length-entries_in}
 use Rattle.sh_image.proofs.LeafLemmas.{spelled_one}
+use Rattle.sh_image.proofs.InnerLemmas.{inner_spelled}
 use Rattle.sh_image.proofs.ReadLemmas.{torn_read, whole_read, words_from_untorn, entries_in_have_words, header_spelled}
 use Rattle.sh_image.proofs.read.read_image.Goals as goal
 use Rattle.sh_image.proofs.read.read_image.Goals.{then-words-ne0-2-via-then-words-ne0-2, then-words-ne0-2-via-else-words-ne0-2+then-words-from}
 
-pub returns-in-Some : goal.returns-in-Some
-returns-in-Some c =
+pub returns-in-Some-first_differing : goal.returns-in-Some-first_differing
+returns-in-Some-first_differing c =
     let p = c.args.cfg.now.parts in
-    let torn = torn_read p c.args.words.now _ _ _ c.entry_column-fronts.ensures c.entry_column-rears.ensures (omega (arith, c.entry_size.ensures, entry_size_is p)) _ _ c.leaf-count.ensures c.in-Some.ensures in
+    let torn = torn_read p c.args.words.now _ _ _ c.entry_column-fronts.ensures c.entry_column-rears.ensures (omega (arith, c.entry_size.ensures, entry_size_is p)) _ _ c.leaf-count.ensures c.in-Some-first_differing.ensures in
     record {
       node = sym c.if-rear-front.false ∙ ap (λ n. get_or c.args.words.now n 0) c.rear_at.ensures;
       leaf = c.if-words-ne0.false;
@@ -32,6 +33,7 @@ returns-then-words-ne0-2 c =
             | then-words-ne0-2-via-then-words-ne0-2 w ↦ w.if-words-ne0-2.true head.1
             | then-words-ne0-2-via-else-words-ne0-2+then-words-from w ↦ absurd (omega (arith, w.if-words-from.true, w.from.ensures, w.nodes.ensures, head.2))
           ],
+      λ a s. absurd (omega (arith, c.if-words-ne0.false, (inner_spelled p c.args.words.now a s).3)),
     )
 
 pub is_leaf-requires-clause-next : goal.is_leaf-requires-clause-next
@@ -58,4 +60,5 @@ returns-else-is_leaf c =
     let whole : HasWholeEntries p c.args.words.now = whole_read p c.args.words.now _ _ _ c.entry_column-fronts.ensures c.entry_column-rears.ensures (omega (arith, c.entry_size.ensures, entry_size_is p)) _ c.leaf-count.ensures c.in_default.ensures in (
       record { node = sym c.if-rear-front.false ∙ ap (λ n. get_or c.args.words.now n 0) c.rear_at.ensures; entries = λ leaf. whole },
       λ a s. false≢true (c.if-is_leaf.ensures.1 (subst (IsLeaf p) (sym (c.decoded-image.ensures ∙ spelled_one p c.args.words.now a s)) s.lawful)),
+      λ a s. absurd (omega (arith, c.if-words-ne0.false, (inner_spelled p c.args.words.now a s).3)),
     )

@@ -1,0 +1,6 @@
+use Rattle.std.proofs.Common.{ℕ, ◌<◌, ◌+◌}
+use Rattle.sh_image.specs.Inner.{separator_at}
+use Rattle.sh_image.proofs.read_inner.rises.Given as goal
+
+abbrev pub invariant-loop-index : goal.invariant-loop-index
+invariant-loop-index l = (i : ℕ) → i + 1 < l.index → separator_at l.image.pairs i < separator_at l.image.pairs (i + 1)

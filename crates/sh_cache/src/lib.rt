@@ -1,0 +1,2 @@
+//! Inner nodes that a seat keeps.
+#![tactic(auto)]

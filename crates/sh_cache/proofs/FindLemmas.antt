@@ -1,11 +1,11 @@
 -- The row that is found, row by row.
-use Rattle.std.proofs.Common.{◌≡◌, ℕ, zero, suc, ◌+◌, ◌<◌, ◌≤◌, ◌⊎◌, Bool, true, false, List, [], ◌∷◌, length, get_or, drop, refl, ap, sym, subst, ◌∙◌, inl, inr, arith}
-use Rattle.std.specs.Prelude.{◌&&◌, nat_le, nat_lt, if◌then◌else◌, slice_get, Option, Some, None}
+use Rattle.std.proofs.Common.{◌≡◌, ℕ, suc, ◌+◌, ◌<◌, ◌≤◌, ◌⊎◌, Bool, true, false, List, [], ◌∷◌, length, get_or, drop, refl, ap, sym, subst, ◌∙◌, inl, inr, arith}
+use Rattle.std.specs.Prelude.{◌&&◌, nat_lt, if◌then◌else◌, slice_get, Option, Some, None}
 use Rattle.std.specs.List.{AllByRecursion}
 use Rattle.std.proofs.lemmas.Bool.Decides.{nat_tests}
 use Rattle.std.proofs.lemmas.List.{drop_more, drop_all}
 use Rattle.sh_image.specs.Inner.{Inner}
-use Rattle.sh_cache.specs.Cached.{better, covers, found, found_from, is_above, FoundBy, IsGreatest}
+use Rattle.sh_cache.specs.Cached.{better, covers, found, found_from, FoundBy}
 
 pub found_step : (rows : List Inner) (i : ℕ) (r : Inner) (best : Option Inner) (key : ℕ) → i < length rows → r ≡ get_or rows i r → found_from best (drop i rows) key ≡ found_from (better best r key) (drop (i + 1) rows) key
 found_step rows i r best key below is = ap (λ l. found_from best l key) (drop_more rows i r below) ∙ ap (λ x. found_from (better best x key) (drop (i + 1) rows) key) (sym is)
@@ -40,15 +40,29 @@ from_some (r ∷ rows) best key h = cases (covers r key && nat_lt best.low r.low
         let parts = and_true (covers r key) (nat_lt best.low r.low) e in
         let rest = here parts.0 in
         let above : best.low < r.low = grind (arith, nat_tests, parts.1) in
-        record { row = rest.row; is = rest.is; covering = rest.covering; not_below = omega (arith, rest.not_below); greatest = ((λ t. rest.not_below), rest.greatest); place = elim rest.place [
-          | inl is ↦ inr (record { index = 0; here = ap Some (sym is) })
-          | inr p ↦ inr (record { index = suc p.index; here = p.here })
-        ] }
+        record {
+          row = rest.row;
+          is = rest.is;
+          covering = rest.covering;
+          not_below = omega (arith, rest.not_below);
+          greatest = ((λ t. rest.not_below), rest.greatest);
+          place = elim rest.place [
+            | inl is ↦ inr (record { index = 0; here = ap Some (sym is) })
+            | inr p ↦ inr (record { index = suc p.index; here = p.here })
+          ];
+        }
     cases false e here rest =
-        record { row = rest.row; is = rest.is; covering = rest.covering; not_below = rest.not_below; greatest = ((λ t. not_above t e rest.not_below), rest.greatest); place = elim rest.place [
-          | inl is ↦ inl is
-          | inr p ↦ inr (record { index = suc p.index; here = p.here })
-        ] }
+        record {
+          row = rest.row;
+          is = rest.is;
+          covering = rest.covering;
+          not_below = rest.not_below;
+          greatest = ((λ t. not_above t e rest.not_below), rest.greatest);
+          place = elim rest.place [
+            | inl is ↦ inl is
+            | inr p ↦ inr (record { index = suc p.index; here = p.here })
+          ];
+        }
       where
         not_above : {n : ℕ} → covers r key ≡ true → (covers r key && nat_lt best.low r.low) ≡ false → best.low ≤ n → r.low ≤ n
         not_above {n} t e h = grind (arith, nat_tests, t, e, h)
@@ -63,9 +77,9 @@ found_by (r ∷ rows) key = cases (covers r key) refl (found_by rows key)
 
     first : (o : Option Inner) → IsFrom rows key r o → FoundBy (r ∷ rows) key o
     first o h = subst (FoundBy (r ∷ rows) key) (sym h.is) (elim h.place [
-        | inl is ↦ record { index = 0; here = ap Some (sym is); covering = h.covering; greatest = ((λ t. h.not_below), h.greatest) }
-        | inr p ↦ record { index = suc p.index; here = p.here; covering = h.covering; greatest = ((λ t. h.not_below), h.greatest) }
-      ])
+      | inl is ↦ record { index = 0; here = ap Some (sym is); covering = h.covering; greatest = ((λ t. h.not_below), h.greatest) }
+      | inr p ↦ record { index = suc p.index; here = p.here; covering = h.covering; greatest = ((λ t. h.not_below), h.greatest) }
+    ])
 
     cases : (b : Bool) → covers r key ≡ b → FoundBy rows key (found rows key) → FoundBy (r ∷ rows) key (found_from (if b && true then Some r else None) rows key)
     cases true e rest = first (found_from (Some r) rows key) (from_some rows r key e)

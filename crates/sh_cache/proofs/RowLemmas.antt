@@ -1,12 +1,12 @@
 -- Rows by their low fences.
-use Rattle.std.proofs.Common.{◌≡◌, ◌≢◌, ℕ, zero, suc, ◌+◌, ◌-◌, ◌<◌, ◌≤◌, Bool, true, false, List, [], ◌∷◌, ◌++◌, length, drop, refl, ap, ◌∙◌, inl, inr, length-append, length-drop, arith}
+use Rattle.std.proofs.Common.{◌≡◌, ◌≢◌, ℕ, zero, suc, ◌<◌, ◌≤◌, Bool, true, false, List, [], ◌∷◌, ◌++◌, length, drop, refl, ap, ◌∙◌, inl, inr, length-append, length-drop, arith}
 use Rattle.std.proofs.lemmas.Bool.{cases_lt}
-use Rattle.std.specs.Prelude.{◌==◌, ◌&&◌, ◌||◌, nat_le, nat_lt, if◌then◌else◌, slice_get, slice_set, Option, Some, None}
-use Rattle.std.specs.List.{remove, AllByRecursion}
+use Rattle.std.specs.Prelude.{◌==◌, ◌||◌, nat_lt, if◌then◌else◌, slice_set}
+use Rattle.std.specs.List.{remove}
 use Rattle.std.proofs.lemmas.Bool.Decides.{nat_tests}
 use Rattle.sh_image.specs.Inner.{Inner}
-use Rattle.sh_cache.specs.Cached.{added, better, covers, forgotten, found, found_from, has_low, is_above, kept, replaced, AreApart, FoundBy, IsGreatest}
-use Rattle.sh_cache.specs.Places.{low_at, HasNone, IsPlace, IsCache}
+use Rattle.sh_cache.specs.Cached.{added, forgotten, has_low, kept, replaced, AreApart}
+use Rattle.sh_cache.specs.Places.{HasNone, IsPlace, IsCache}
 
 less_test : (a b : ℕ) → a < b → nat_lt a b ≡ true
 less_test a b h = grind (arith, nat_tests)
@@ -109,15 +109,15 @@ length_forgotten (r ∷ rows) low = cases (r.low == low) (length_forgotten rows 
 
 length_added : (room : ℕ) (rows : List Inner) (a : Inner) → length rows ≤ room → length (added room rows a) ≤ room
 length_added room rows a h = elim (cases_lt (length rows) room) [
-    | inl below ↦ rw (less_test (length rows) room below) (omega (arith, length-append rows (a ∷ [])))
-    | inr from ↦ rw (not_less_test (length rows) room from) (omega (arith, length-drop 1 (rows ++ a ∷ []), length-append rows (a ∷ [])))
-  ]
+  | inl below ↦ rw (less_test (length rows) room below) (omega (arith, length-append rows (a ∷ [])))
+  | inr from ↦ rw (not_less_test (length rows) room from) (omega (arith, length-drop 1 (rows ++ a ∷ []), length-append rows (a ∷ [])))
+]
 
 apart_added : (room : ℕ) (rows : List Inner) (a : Inner) → has_low rows a.low ≡ false → AreApart rows → AreApart (added room rows a)
 apart_added room rows a h all = elim (cases_lt (length rows) room) [
-    | inl below ↦ rw (less_test (length rows) room below) (apart_pushed rows a h all)
-    | inr from ↦ rw (not_less_test (length rows) room from) (apart_tail (rows ++ a ∷ []) (apart_pushed rows a h all))
-  ]
+  | inl below ↦ rw (less_test (length rows) room below) (apart_pushed rows a h all)
+  | inr from ↦ rw (not_less_test (length rows) room from) (apart_tail (rows ++ a ∷ []) (apart_pushed rows a h all))
+]
 
 -- a cache stays one
 pub cache_replaced : (room capacity : ℕ) (rows : List Inner) (a : Inner) → IsCache room capacity rows → IsCache room capacity (replaced rows a)

@@ -1,6 +1,5 @@
 -- Where the row with a low fence stands, and what a cache's parts keep to.
 use Rattle.std.specs.Prelude.{◌≡◌, ◌≢◌, ℕ, ◌<◌, ◌≤◌, List, [], length, slice_index_or}
-use Rattle.std.specs.Vec.{vec_capacity}
 use Rattle.sh_image.specs.Inner.{Inner}
 use Rattle.sh_cache.specs.Cached.{AreApart}
 

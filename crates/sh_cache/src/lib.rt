@@ -133,3 +133,58 @@ pub fn rows_are_exact()
     ensures found { (rows : List Inner) (key : ℕ) → FoundBy rows key (found rows key) }
     ensures forgotten { (rows : List Inner) (low : ℕ) → AreApart rows → has_low (forgotten rows low) low ≡ false }
 {}
+
+#[cfg(test)]
+mod tests {
+    use super::*;
+    use sh_base::ConfigParts;
+
+    // A setting whose seats cache so many rows.
+    fn setting(cached: u32) -> Config {
+        let parts = ConfigParts {
+            cached,
+            ..ConfigParts::default()
+        };
+        Config::new(parts).unwrap_or_default()
+    }
+
+    // The version of the row that is found, and 0 for none.
+    fn version(cache: &Cache, key: u64) -> u64 {
+        match cache.find(key) {
+            Some(row) => row.version(),
+            None => 0,
+        }
+    }
+
+    // The versions that are found for 15, 25 and 55: after rows from 10 and from 20 on are kept as versions 1 and 2;
+    // after another from 10 on and one from 50 on are kept as versions 3 and 4; after the one from 20 on is forgotten.
+    fn versions(alloc: Global, cached: u32) -> Result<[u64; 9], AllocError> {
+        let mut cache = Cache::new(alloc, &setting(cached))?;
+        let mut found = [0; 9];
+        cache.keep(InnerImage::new(1, 1, 10, 40, 0));
+        cache.keep(InnerImage::new(2, 1, 20, 30, 0));
+        found[0] = version(&cache, 15);
+        found[1] = version(&cache, 25);
+        found[2] = version(&cache, 55);
+        cache.keep(InnerImage::new(3, 1, 10, 40, 0));
+        cache.keep(InnerImage::new(4, 1, 50, 60, 0));
+        found[3] = version(&cache, 15);
+        found[4] = version(&cache, 25);
+        found[5] = version(&cache, 55);
+        cache.forget(20);
+        found[6] = version(&cache, 15);
+        found[7] = version(&cache, 25);
+        found[8] = version(&cache, 55);
+        Ok(found)
+    }
+
+    #[test]
+    fn the_oldest_row_makes_room(rt: HostRuntime) -> Result<(), AllocError> {
+        let alloc = rt.alloc();
+        assert_eq!(rt; versions(alloc, 0)?, [0; 9]);
+        assert_eq!(rt; versions(alloc, 1)?, [0, 2, 0, 0, 0, 4, 0, 0, 4]);
+        assert_eq!(rt; versions(alloc, 2)?, [1, 2, 0, 0, 2, 4, 0, 0, 4]);
+        assert_eq!(rt; versions(alloc, 3)?, [1, 2, 0, 3, 2, 4, 3, 3, 4]);
+        Ok(())
+    }
+}

@@ -1,7 +1,7 @@
 use Rattle.std.proofs.Common.{ap, sym, subst, ◌∙◌}
 use Rattle.std.specs.Vec.{vec_capacity}
 use Rattle.sh_cache.specs.Cached.{forgotten, Rows}
-use Rattle.sh_cache.specs.Places.{HasNone, IsPlace, IsCache}
+use Rattle.sh_cache.specs.Places.{HasNone, IsPlace}
 use Rattle.sh_cache.proofs.RowLemmas.{cache_forgotten, forgotten_is, forgotten_none}
 use Rattle.sh_cache.proofs.Cache.forget.Goals as goal
 

@@ -1,0 +1,86 @@
+-- The row that is found, row by row.
+use Rattle.std.proofs.Common.{◌≡◌, ℕ, suc, ◌+◌, ◌<◌, ◌≤◌, ◌⊎◌, Bool, true, false, List, [], ◌∷◌, length, get_or, drop, refl, ap, sym, subst, ◌∙◌, inl, inr, arith}
+use Rattle.std.specs.Prelude.{◌&&◌, nat_lt, if◌then◌else◌, slice_get, Option, Some, None}
+use Rattle.std.specs.List.{AllByRecursion}
+use Rattle.std.proofs.lemmas.Bool.Decides.{nat_tests}
+use Rattle.std.proofs.lemmas.List.{drop_more, drop_all}
+use Rattle.sh_image.specs.Inner.{Inner}
+use Rattle.sh_cache.specs.Cached.{better, covers, found, found_from, FoundBy}
+
+pub found_step : (rows : List Inner) (i : ℕ) (r : Inner) (best : Option Inner) (key : ℕ) → i < length rows → r ≡ get_or rows i r → found_from best (drop i rows) key ≡ found_from (better best r key) (drop (i + 1) rows) key
+found_step rows i r best key below is = ap (λ l. found_from best l key) (drop_more rows i r below) ∙ ap (λ x. found_from (better best x key) (drop (i + 1) rows) key) (sym is)
+
+pub found_end : (rows : List Inner) (i : ℕ) (best : Option Inner) (key : ℕ) → length rows ≤ i → found_from best (drop i rows) key ≡ best
+found_end rows i best key h = ap (λ l. found_from best l key) (drop_all i rows h)
+
+and_true : (a b : Bool) → (a && b) ≡ true → (a ≡ true) × (b ≡ true)
+and_true true true e = (refl, refl)
+and_true true false e = absurd (grind arith)
+and_true false b e = absurd (grind arith)
+
+record Place (rows : List Inner) (a : Inner) : Type 0 where
+  index : ℕ
+  here : slice_get rows index ≡ Some a
+
+-- what is found where a row that covers the key was found before
+record IsFrom (rows : List Inner) (key : ℕ) (best : Inner) (o : Option Inner) : Type 0 where
+  row : Inner
+  is : o ≡ Some row
+  covering : covers row key ≡ true
+  not_below : best.low ≤ row.low
+  greatest : AllByRecursion (λ (r : Inner). covers r key ≡ true → r.low ≤ row.low) rows
+  place : (row ≡ best) ⊎ Place rows row
+
+from_some : (rows : List Inner) (best : Inner) (key : ℕ) → covers best key ≡ true → IsFrom rows key best (found_from (Some best) rows key)
+from_some [] best key h = record { row = best; is = refl; covering = h; not_below = omega arith; greatest = tt; place = inl refl }
+from_some (r ∷ rows) best key h = cases (covers r key && nat_lt best.low r.low) refl (from_some rows r key) (from_some rows best key h)
+  where
+    cases : (b : Bool) → (covers r key && nat_lt best.low r.low) ≡ b → (covers r key ≡ true → IsFrom rows key r (found_from (Some r) rows key)) → IsFrom rows key best (found_from (Some best) rows key) → IsFrom (r ∷ rows) key best (found_from (if b then Some r else Some best) rows key)
+    cases true e here there =
+        let parts = and_true (covers r key) (nat_lt best.low r.low) e in
+        let rest = here parts.0 in
+        let above : best.low < r.low = grind (arith, nat_tests, parts.1) in
+        record {
+          row = rest.row;
+          is = rest.is;
+          covering = rest.covering;
+          not_below = omega (arith, rest.not_below);
+          greatest = ((λ t. rest.not_below), rest.greatest);
+          place = elim rest.place [
+            | inl is ↦ inr (record { index = 0; here = ap Some (sym is) })
+            | inr p ↦ inr (record { index = suc p.index; here = p.here })
+          ];
+        }
+    cases false e here rest =
+        record {
+          row = rest.row;
+          is = rest.is;
+          covering = rest.covering;
+          not_below = rest.not_below;
+          greatest = ((λ t. not_above t e rest.not_below), rest.greatest);
+          place = elim rest.place [
+            | inl is ↦ inl is
+            | inr p ↦ inr (record { index = suc p.index; here = p.here })
+          ];
+        }
+      where
+        not_above : {n : ℕ} → covers r key ≡ true → (covers r key && nat_lt best.low r.low) ≡ false → best.low ≤ n → r.low ≤ n
+        not_above {n} t e h = grind (arith, nat_tests, t, e, h)
+
+pub found_by : (rows : List Inner) (key : ℕ) → FoundBy rows key (found rows key)
+found_by [] key = tt
+found_by (r ∷ rows) key = cases (covers r key) refl (found_by rows key)
+  where
+    more : (o : Option Inner) → covers r key ≡ false → FoundBy rows key o → FoundBy (r ∷ rows) key o
+    more None e h = (e, h)
+    more (Some a) e h = record { index = suc h.index; here = h.here; covering = h.covering; greatest = ((λ t. absurd (grind (arith, t, e))), h.greatest) }
+
+    first : (o : Option Inner) → IsFrom rows key r o → FoundBy (r ∷ rows) key o
+    first o h = subst (FoundBy (r ∷ rows) key) (sym h.is) (elim h.place [
+      | inl is ↦ record { index = 0; here = ap Some (sym is); covering = h.covering; greatest = ((λ t. h.not_below), h.greatest) }
+      | inr p ↦ record { index = suc p.index; here = p.here; covering = h.covering; greatest = ((λ t. h.not_below), h.greatest) }
+    ])
+
+    cases : (b : Bool) → covers r key ≡ b → FoundBy rows key (found rows key) → FoundBy (r ∷ rows) key (found_from (if b && true then Some r else None) rows key)
+    cases true e rest = first (found_from (Some r) rows key) (from_some rows r key e)
+    cases false e rest = more (found rows key) e rest

@@ -1,0 +1,27 @@
+-- Where the row with a low fence stands, and what a cache's parts keep to.
+use Rattle.std.specs.Prelude.{◌≡◌, ◌≢◌, ℕ, ◌<◌, ◌≤◌, List, [], length, slice_index_or}
+use Rattle.sh_image.specs.Inner.{Inner}
+use Rattle.sh_cache.specs.Cached.{AreApart}
+
+-- what stands for a row that isn't there
+abbrev pub no_row : Inner
+no_row = record { version = 0; level = 0; low = 0; high = 0; next = 0; pairs = [] }
+
+abbrev pub low_at : List Inner → ℕ → ℕ
+low_at rows i = let r = slice_index_or rows i no_row in r.low
+
+-- the first row with this low fence stands there
+pub record IsPlace (rows : List Inner) (low at : ℕ) : Type 0 where
+  pub in_range : at < length rows
+  pub here : low_at rows at ≡ low
+  pub before : (i : ℕ) → i < at → low_at rows i ≢ low
+
+-- no row has this low fence
+abbrev pub HasNone : List Inner → ℕ → Type 0
+HasNone rows low = (i : ℕ) → i < length rows → low_at rows i ≢ low
+
+-- there is room for the rows, all of it reserved, and no two have one low fence
+pub record IsCache (room capacity : ℕ) (rows : List Inner) : Type 0 where
+  pub reserved : room ≤ capacity
+  pub within : length rows ≤ room
+  pub apart : AreApart rows

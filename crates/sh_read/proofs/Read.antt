@@ -1,0 +1,237 @@
+-- Each event keeps what a READ under way knows, and each load adds to it.
+use Rattle.std.proofs.Common.{◌≡◌, ◌≢◌, ◌⊎◌, ℕ, ◌+◌, ◌<◌, ◌≤◌, List, length, get_or, set, refl, sym, ap, ◌∙◌, inl, inr, arith}
+use Rattle.std.proofs.lemmas.Bool.{cases_lt, cases_eq}
+use Rattle.std.proofs.lemmas.List.{get_or-set_same, get_or-set_other, length-set}
+use Rattle.sh_base.specs.declared.config.ConfigParts.{ConfigParts}
+use Rattle.sh_base.specs.Setting.{node_size}
+use Rattle.sh_base.specs.Layout.{entry_at, rear_at, entry_rear_at}
+use Rattle.sh_base.proofs.LayoutLemmas.{entry_within, entry_size_is, node_size_is, rear_at_low}
+use Rattle.sh_read.specs.Moments.{Writing, Idle, Whole, One, word, IsWriting, IsMoment, Next, still, begin_whole, more_whole, end_whole, begin_one, more_one, end_one}
+use Rattle.sh_read.specs.Reading.{IsHead, IsIn, NotWhole, NotOne, IsCalm, FitsEntry, FitsRead}
+use Rattle.sh_read.proofs.Words.{entry_end, word_head, word_other, word_rear, word_front, word_first, rear_below, ended_head, ended_other}
+
+abbrev get_or_in : List ℕ → ℕ → ℕ
+get_or_in l o = get_or l o 0
+
+module _ (p : ConfigParts) (level : ℕ) where
+  -- which of two states is calm
+  calm_before : (s t : List ℕ) (w v : Writing) (got : List ℕ) → NotWhole w → get_or s 0 0 ≡ get_or t 0 0 → IsCalm p t v got → IsCalm p s w got
+  calm_before s t w v got n e c = record { none = n; same = c.same ∙ sym e }
+
+  -- the entry that was written has a greater version than the one that was loaded
+  ended_here : (s t : List ℕ) (j i from : ℕ) (got new : List ℕ) (done : ℕ) → ((o : ℕ) → get_or t o 0 ≡ word p s (One j new (3 + p.value_words)) o) → j ≡ i → IsWriting p level s (One j new done) → FitsEntry p s (One j new done) from got i → FitsEntry p t Idle from got i
+  ended_here s t j i from got new done ends here h f =
+      let front : get_or t (entry_at p i) 0 ≡ get_or new 0 0 = ap (λ k. get_or t (entry_at p k) 0) (sym here) ∙ ends (entry_at p j) ∙ word_front p level s j new (3 + p.value_words) (omega arith) in
+      let past : get_or got (entry_rear_at p i) 0 < get_or t (entry_at p i) 0 = omega (arith, f.version, front, h.1, ap (λ k. get_or s (entry_at p k) 0) here) in
+      record { version = omega arith; words = λ n e. absurd (omega arith) }
+
+  -- the others stand as before
+  ended_there : (s t : List ℕ) (j i from : ℕ) (got new : List ℕ) (done : ℕ) → ((o : ℕ) → get_or t o 0 ≡ word p s (One j new (3 + p.value_words)) o) → j ≢ i → FitsEntry p s (One j new done) from got i → FitsEntry p t Idle from got i
+  ended_there s t j i from got new done ends differ f =
+      let stays = λ (o : ℕ) (at : IsIn p i o). ended_other p level s i j new t o ends differ at in
+      let front = stays (entry_at p i) (record { low = omega arith; high = omega (arith, entry_size_is p) }) in
+      record {
+        version = omega (arith, f.version, front);
+        words = λ n e o at above. f.words differ (e ∙ front) o at above ∙ sym (stays o at);
+      }
+
+  -- ---- the events
+  pub FitsRead-next : (Was : List ℕ → Type 0) (s t : List ℕ) (w v : Writing) (from : ℕ) (got : List ℕ) → Next p s w t v → IsMoment p level s w → IsMoment p level t v → FitsRead p level Was s w from got → FitsRead p level Was t v from got
+  FitsRead-next Was s t w v from got still m m' r = r
+  FitsRead-next Was s t w v from got (begin_whole e) m m' r = record {
+    long = r.long;
+    begun = r.begun;
+    version = r.version;
+    head = λ c. absurd c.none;
+    part = λ l c. absurd c.none;
+    whole = λ l c. absurd c.none;
+  }
+  FitsRead-next Was s t w v from got (more_whole e) m m' r = record {
+    long = r.long;
+    begun = r.begun;
+    version = r.version;
+    head = λ c. absurd c.none;
+    part = λ l c. absurd c.none;
+    whole = λ l c. absurd c.none;
+  }
+  FitsRead-next Was s t w v from got (end_whole e) m m' r =
+      let past : get_or got (rear_at p) 0 < get_or t 0 0 = omega (arith, r.version, m.writing.1) in
+      record {
+        long = r.long;
+        begun = r.begun;
+        version = omega arith;
+        head = λ c. absurd (omega (arith, c.same));
+        part = λ l c. absurd (omega (arith, c.same));
+        whole = λ l c. absurd (omega (arith, c.same));
+      }
+  FitsRead-next Was s t w v from got (begin_one e) m m' r =
+      let calm = λ (c : IsCalm p t v got). calm_before s t w v got tt refl c in
+      record {
+        long = r.long;
+        begun = r.begun;
+        version = r.version;
+        head = λ c. r.head (calm c);
+        part = λ l c i h low high. let f = r.part l (calm c) i h low high in record { version = f.version; words = λ n. f.words tt };
+        whole = λ l c. r.whole l (calm c);
+      }
+  FitsRead-next Was s t w v from got (more_one e) m m' r =
+      let calm = λ (c : IsCalm p t v got). calm_before s t w v got tt refl c in
+      record {
+        long = r.long;
+        begun = r.begun;
+        version = r.version;
+        head = λ c. r.head (calm c);
+        part = λ l c i h low high. let f = r.part l (calm c) i h low high in record { version = f.version; words = f.words };
+        whole = λ l c. r.whole l (calm c);
+      }
+  FitsRead-next Was s t w v from got (end_one {new = new} {i = j} {done = done} e same) m m' r =
+      let more : done + 1 ≡ 3 + p.value_words = omega (arith, e) in
+      let ends : (o : ℕ) → get_or t o 0 ≡ word p s (One j new (3 + p.value_words)) o = λ o. same o ∙ ap (λ n. word p s (One j new n) o) more in
+      let first = ended_head p level s j new t 0 m.writing.0 m.writing.5 ends (inl (omega arith)) in
+      let calm = λ (c : IsCalm p t v got). calm_before s t w v got tt (sym first) c in
+      record {
+        long = r.long;
+        begun = r.begun;
+        version = omega (arith, r.version, first);
+        head = λ c o at above. r.head (calm c) o at above ∙ sym (ended_head p level s j new t o m.writing.0 m.writing.5 ends at);
+        part = λ l c i h low high. elim (cases_eq j i) [
+          | inl here ↦ ended_here s t j i from got new done ends here m.writing (r.part l (calm c) i h low high)
+          | inr differ ↦ ended_there s t j i from got new done ends differ (r.part l (calm c) i h low high)
+        ];
+        whole = λ l c. r.whole l (calm c);
+      }
+
+  -- an entry that is written has a greater front version
+  front_cases : (s : List ℕ) (w : Writing) (i : ℕ) → IsWriting p level s w → NotWhole w → NotOne i w ⊎ (get_or s (entry_at p i) 0 < word p s w (entry_at p i))
+  front_cases s Idle i h n = inl tt
+  front_cases s (Whole new done) i h n = absurd n
+  front_cases s (One j new done) i h n = elim (cases_eq j i) [
+    | inr differ ↦ inl differ
+    | inl e ↦ inr (omega (arith, h.1, word_front p level s j new done h.3, ap (λ k. get_or s (entry_at p k) 0) e, ap (λ k. word p s (One j new done) (entry_at p k)) e))
+  ]
+
+  -- ---- a load
+  module _ (Was : List ℕ → Type 0) (s : List ℕ) (w : Writing) (at : ℕ) (got : List ℕ) (m : IsMoment p level s w) (was : Was s) (r : FitsRead p level Was s w (at + 1) got) where
+    pub x : ℕ
+    x = word p s w at
+
+    pub new_got : List ℕ
+    new_got = set got at x
+
+    here : get_or new_got at 0 ≡ x
+    unfolding new_got
+    here = get_or-set_same got at x 0 (omega (arith, r.long, r.begun, node_size_is p))
+
+    there : (o : ℕ) → at < o → get_or new_got o 0 ≡ get_or got o 0
+    unfolding new_got
+    there o h = get_or-set_other got at o x 0 (λ e. omega arith)
+
+    calm_again : get_or new_got (rear_at p) 0 ≡ get_or got (rear_at p) 0 → IsCalm p s w new_got → IsCalm p s w got
+    calm_again e c = record { none = c.none; same = sym e ∙ c.same }
+
+    load_head : NotWhole w → IsCalm p s w got → (o : ℕ) → IsHead p level o → at ≤ o → get_or new_got o 0 ≡ get_or s o 0
+    unfolding x
+    load_head n c o h above = elim (cases_eq o at) [
+      | inl e ↦ ap (λ k. get_or new_got k 0) e ∙ here ∙ ap (word p s w) (sym e) ∙ word_head p level s w o m.writing n h
+      | inr ne ↦ there o (omega arith) ∙ r.head c o h (omega arith)
+    ]
+
+    rear_is : level ≡ 0 → (i : ℕ) → i < p.leaf → get_or s (entry_rear_at p i) 0 ≡ get_or s (entry_at p i) 0
+    rear_is = m.versioned.entries
+
+    -- the words of an entry that is loaded in part, one word more
+    load_words : (i : ℕ) → NotWhole w → NotOne i w → ((o : ℕ) → IsIn p i o → at + 1 ≤ o → get_or got o 0 ≡ get_or s o 0) → (o : ℕ) → IsIn p i o → at ≤ o → get_or new_got o 0 ≡ get_or s o 0
+    unfolding x
+    load_words i n k before o h above = elim (cases_eq o at) [
+      | inl e ↦ ap (λ k. get_or new_got k 0) e ∙ here ∙ ap (word p s w) (sym e) ∙ word_other p level s w i o m.writing n k h
+      | inr ne ↦ there o (omega arith) ∙ before o h (omega arith)
+    ]
+
+    load_part : level ≡ 0 → IsCalm p s w got → (i : ℕ) → i < p.leaf → entry_at p i < at → at ≤ entry_rear_at p i → FitsEntry p s w at new_got i
+    unfolding x
+    load_part l c i h low high = elim (cases_lt at (entry_rear_at p i)) [
+      | inl before ↦
+          let f = r.part l c i h (omega arith) (omega arith) in
+          let rear = there (entry_rear_at p i) before in
+          record { version = omega (arith, f.version, rear); words = λ n e. load_words i c.none n (f.words n (sym rear ∙ e)) }
+      | inr begins ↦
+          let same : at ≡ entry_rear_at p i = omega arith in
+          let rear : get_or new_got (entry_rear_at p i) 0 ≡ get_or s (entry_rear_at p i) 0 = ap (λ k. get_or new_got k 0) (sym same) ∙ here ∙ ap (word p s w) same ∙ word_rear p level s w i m.writing c.none in
+          record {
+            version = omega (arith, rear, rear_is l i h);
+            words = λ n e. load_words i c.none n (λ o at above. absurd (omega (arith, at.high, entry_end p level s i)));
+          }
+    ]
+
+    -- The load of an entry's front version: where it agrees with the rear one, the entry is the one that stands now.
+    pub load_front : level ≡ 0 → IsCalm p s w got → (i : ℕ) → i < p.leaf → at ≡ entry_at p i → get_or new_got (entry_rear_at p i) 0 ≡ get_or new_got (entry_at p i) 0 → (o : ℕ) → IsIn p i o → get_or new_got o 0 ≡ get_or s o 0
+    unfolding x
+    load_front l c i h same agree =
+        let past : at < entry_rear_at p i = omega arith in
+        let f = r.part l c i h (omega arith) (omega arith) in
+        let front : get_or new_got (entry_at p i) 0 ≡ word p s w (entry_at p i) = ap (λ k. get_or new_got k 0) (sym same) ∙ here ∙ ap (word p s w) same in
+        let rear = there (entry_rear_at p i) past in
+        elim (front_cases s w i m.writing c.none) [
+          | inl n ↦
+              let standing = word_other p level s w i (entry_at p i) m.writing c.none n (record { low = omega arith; high = omega (arith, entry_size_is p) }) in
+              λ o k. load_words i c.none n (f.words n (sym rear ∙ agree ∙ front ∙ standing)) o k (omega (arith, k.low))
+          | inr greater ↦ absurd (omega (arith, f.version, greater, rear, agree, front))
+        ]
+
+    load_whole : level ≡ 0 → IsCalm p s w got → (i : ℕ) → i < p.leaf → at ≤ entry_at p i → get_or new_got (entry_rear_at p i) 0 ≡ get_or new_got (entry_at p i) 0 → (b : List ℕ) × Was b × ((o : ℕ) → IsIn p i o → get_or new_got o 0 ≡ get_or b o 0)
+    load_whole l c i h low agree = elim (cases_lt at (entry_at p i)) [
+      | inl before ↦
+          let past : at < entry_rear_at p i = omega arith in
+          let seen = r.whole l c i h (omega arith) (sym (there (entry_rear_at p i) past) ∙ agree ∙ there (entry_at p i) before) in
+          (seen.0, seen.1, λ o k. there o (omega (arith, k.low)) ∙ seen.2 o k)
+      | inr ends ↦ let same : at ≡ entry_at p i = omega arith in (s, was, load_front l c i h same agree)
+    ]
+
+    -- a load adds the word that it found
+    pub FitsRead-load : FitsRead p level Was s w at (set got at (word p s w at))
+    unfolding new_got x
+    FitsRead-load =
+        let rear = there (rear_at p) (omega (arith, r.begun)) in
+        let calm = λ (c : IsCalm p s w new_got). calm_again rear c in
+        record {
+          long = length-set got at (word p s w at) ∙ r.long;
+          begun = omega (arith, r.begun);
+          version = omega (arith, r.version, rear);
+          head = λ c. load_head c.none (calm c);
+          part = λ l c. load_part l (calm c);
+          whole = λ l c. load_whole l (calm c);
+        }
+
+  -- the first load, of the rear version
+  pub FitsRead-begin : (Was : List ℕ → Type 0) (s : List ℕ) (w : Writing) (blank : List ℕ) → IsMoment p level s w → length blank ≡ node_size p → FitsRead p level Was s w (rear_at p) (set blank (rear_at p) (word p s w (rear_at p)))
+  FitsRead-begin Was s w blank m long =
+      let rear : get_or (set blank (rear_at p) (word p s w (rear_at p))) (rear_at p) 0 ≡ word p s w (rear_at p) = get_or-set_same blank (rear_at p) _ 0 (omega (arith, long, node_size_is p)) in
+      record {
+        long = length-set blank (rear_at p) (word p s w (rear_at p)) ∙ long;
+        begun = omega arith;
+        version = omega (arith, rear, rear_below p level s w m);
+        head = λ c o at above. elim at [
+          | inl low ↦ absurd (omega (arith, rear_at_low p))
+          | inr rest ↦ let e : o ≡ rear_at p = elim rest [ inl same ↦ same | inr inner ↦ omega (arith, inner.1) ] in ap (get_or_in (set blank (rear_at p) (word p s w (rear_at p)))) e ∙ rear ∙ word_head p level s w (rear_at p) m.writing c.none (inr (inl refl)) ∙ ap (get_or_in s) (sym e)
+        ];
+        part = λ l c i h low high. absurd (omega (arith, entry_within p i h));
+        whole = λ l c i h low. absurd (omega (arith, entry_within p i h));
+      }
+
+  -- A READ whose node versions agree when the front version is loaded: no node WRITE is under way, and what it loaded
+  -- of the words that only node WRITEs store is what stands.
+  pub accepted : (Was : List ℕ → Type 0) (s : List ℕ) (w : Writing) (got : List ℕ) → IsMoment p level s w → FitsRead p level Was s w 0 got → get_or got 0 0 ≡ word p s w 0 → get_or got 0 0 ≡ get_or got (rear_at p) 0 → IsCalm p s w got
+  accepted Was s Idle got m r last agree = record { none = tt; same = sym agree ∙ last }
+  accepted Was s (Whole new done) got m r last agree = absurd (omega (arith, r.version, last, agree, m.writing.1, word_first p level s new done m.writing.2))
+  accepted Was s (One i new done) got m r last agree = record { none = tt; same = sym agree ∙ last ∙ word_head p level s (One i new done) 0 m.writing tt (inl (omega arith)) }
+
+  -- what stood once stood once
+  pub FitsRead-weaker : (Was Now : List ℕ → Type 0) (s : List ℕ) (w : Writing) (from : ℕ) (got : List ℕ) → ((b : List ℕ) → Was b → Now b) → FitsRead p level Was s w from got → FitsRead p level Now s w from got
+  FitsRead-weaker Was Now s w from got h r = record {
+    long = r.long;
+    begun = r.begun;
+    version = r.version;
+    head = r.head;
+    part = r.part;
+    whole = λ l c i k low agree. let seen = r.whole l c i k low agree in (seen.0, h seen.0 seen.1, seen.2);
+  }

@@ -1,0 +1,80 @@
+-- What a WRITE under way leaves of a node's words.
+use Rattle.std.proofs.Common.{◌≡◌, ◌≢◌, ◌⊎◌, ℕ, ◌+◌, ◌-◌, ◌<◌, ◌≤◌, cond, ltb, leb, List, get_or, refl, ap, ◌∙◌, inl, inr, arith}
+use Rattle.std.specs.Prelude.{◌&&◌}
+use Rattle.std.proofs.lemmas.Bool.Decides.{nat_tests}
+use Rattle.std.proofs.lemmas.Bool.{cases_lt, cases_eq}
+use Rattle.sh_base.specs.declared.config.ConfigParts.{ConfigParts}
+use Rattle.sh_base.specs.Setting.{entry_size}
+use Rattle.sh_base.specs.Layout.{entry_at, rear_at, entry_rear_at}
+use Rattle.sh_base.proofs.LayoutLemmas.{entry_low, entry_apart, entry_within, entry_size_is}
+use Rattle.sh_read.specs.Moments.{Writing, Idle, Whole, One, word, IsWriting, IsMoment}
+use Rattle.sh_read.specs.Reading.{IsHead, IsIn, NotWhole, NotOne}
+
+pub stored : (n o x y : ℕ) → o < n → cond (ltb o n) x y ≡ x
+stored n o x y h = grind (arith, nat_tests)
+
+pub not_stored : (n o x y : ℕ) → n ≤ o → cond (ltb o n) x y ≡ y
+not_stored n o x y h = grind (arith, nat_tests)
+
+pub outside : (a n o x y : ℕ) → (o < a) ⊎ (a + n ≤ o) → cond (leb a o && ltb o (a + n)) x y ≡ y
+outside a n o x y h = grind (arith, nat_tests)
+
+pub inside : (a n o x y : ℕ) → a ≤ o → o < a + n → cond (leb a o && ltb o (a + n)) x y ≡ x
+inside a n o x y l h = grind (arith, nat_tests)
+
+module _ (p : ConfigParts) (level : ℕ) (s : List ℕ) where
+  pub entry_end : (i : ℕ) → entry_at p i + entry_size p ≡ entry_rear_at p i + 1
+  entry_end i = omega (arith, entry_size_is p)
+
+  -- an entry's WRITE leaves the words that only node WRITEs store
+  pub word_head : (w : Writing) (o : ℕ) → IsWriting p level s w → NotWhole w → IsHead p level o → word p s w o ≡ get_or s o 0
+  word_head Idle o h n at = refl
+  word_head (Whole new done) o h n at = absurd n
+  word_head (One i new done) o h n (inl low) = outside (entry_at p i) done o _ _ (inl (omega (arith, entry_low p i)))
+  word_head (One i new done) o h n (inr (inr inner)) = absurd (inner.0 h.5)
+  word_head (One i new done) o h n (inr (inl rear)) = outside (entry_at p i) done o _ _ (inr (omega (arith, entry_within p i h.0, h.4)))
+
+  -- and the words of the other entries
+  pub word_other : (w : Writing) (i o : ℕ) → IsWriting p level s w → NotWhole w → NotOne i w → IsIn p i o → word p s w o ≡ get_or s o 0
+  word_other Idle i o h n k at = refl
+  word_other (Whole new done) i o h n k at = absurd n
+  word_other (One j new done) i o h n k at = outside (entry_at p j) done o _ _ (elim (cases_lt i j) [
+    | inl lt ↦ inl (omega (arith, entry_apart p i j lt, at.high))
+    | inr ge ↦ let past : j < i = omega arith in inr (omega (arith, entry_apart p j i past, at.low, h.4, entry_size_is p))
+  ])
+
+  -- the rear version is stored last
+  pub word_rear : (w : Writing) (i : ℕ) → IsWriting p level s w → NotWhole w → word p s w (entry_rear_at p i) ≡ get_or s (entry_rear_at p i) 0
+  word_rear Idle i h n = refl
+  word_rear (Whole new done) i h n = absurd n
+  word_rear (One j new done) i h n = elim (cases_eq j i) [
+    | inl e ↦ outside (entry_at p j) done (entry_rear_at p i) _ _ (inr (omega (arith, h.4, ap (entry_at p) e)))
+    | inr differ ↦ word_other (One j new done) i (entry_rear_at p i) h n differ (record { low = omega arith; high = omega (arith, entry_end i) })
+  ]
+
+  -- the front version is stored first
+  pub word_front : (i : ℕ) (new : List ℕ) (done : ℕ) → 1 ≤ done → word p s (One i new done) (entry_at p i) ≡ get_or new 0 0
+  word_front i new done h =
+      let none : entry_at p i - entry_at p i ≡ 0 = omega arith in
+      inside (entry_at p i) done (entry_at p i) _ _ (omega arith) (omega arith) ∙ ap (λ o. get_or new o 0) none
+
+  pub rear_below : (w : Writing) → IsMoment p level s w → word p s w (rear_at p) ≤ get_or s 0 0
+  rear_below Idle m = omega (arith, m.versioned.node)
+  rear_below (Whole new done) m = omega (arith, m.versioned.node, not_stored done (rear_at p) (get_or new (rear_at p) 0) (get_or s (rear_at p) 0) m.writing.3)
+  rear_below (One i new done) m = omega (arith, m.versioned.node, word_head (One i new done) (rear_at p) m.writing tt (inr (inl refl)))
+
+  -- the first word that a node WRITE stores is its greater version
+  pub word_first : (new : List ℕ) (done : ℕ) → 1 ≤ done → word p s (Whole new done) 0 ≡ get_or new 0 0
+  word_first new done h = stored done 0 _ _ h
+
+  -- what stands when an entry's WRITE ends: the other words stay
+  pub ended_head : (i : ℕ) (new t : List ℕ) (o : ℕ) → i < p.leaf → level ≡ 0 → ((o : ℕ) → get_or t o 0 ≡ word p s (One i new (3 + p.value_words)) o) → IsHead p level o → get_or t o 0 ≡ get_or s o 0
+  ended_head i new t o h leaf same (inl low) = same o ∙ outside (entry_at p i) (3 + p.value_words) o _ _ (inl (omega (arith, entry_low p i)))
+  ended_head i new t o h leaf same (inr (inr inner)) = absurd (inner.0 leaf)
+  ended_head i new t o h leaf same (inr (inl rear)) = same o ∙ outside (entry_at p i) (3 + p.value_words) o _ _ (inr (omega (arith, entry_within p i h)))
+
+  pub ended_other : (i j : ℕ) (new t : List ℕ) (o : ℕ) → ((o : ℕ) → get_or t o 0 ≡ word p s (One j new (3 + p.value_words)) o) → j ≢ i → IsIn p i o → get_or t o 0 ≡ get_or s o 0
+  ended_other i j new t o same differ at = same o ∙ outside (entry_at p j) (3 + p.value_words) o _ _ (elim (cases_lt i j) [
+    | inl lt ↦ inl (omega (arith, entry_apart p i j lt, at.high))
+    | inr ge ↦ let past : j < i = omega arith in inr (omega (arith, entry_apart p j i past, at.low, entry_size_is p))
+  ])

@@ -1,0 +1,3 @@
+pub mod Puts
+pub mod Scenes
+pub mod Holds

@@ -1,3 +1,9 @@
 pub mod Puts
 pub mod Scenes
 pub mod Holds
+pub mod ChunkLemmas
+pub mod Own
+pub mod Posts
+pub mod Spelled
+pub mod Pigeons
+pub mod Roots

@@ -7,3 +7,4 @@ pub mod Posts
 pub mod Spelled
 pub mod Pigeons
 pub mod Roots
+pub mod Ends

@@ -16,6 +16,27 @@ use Rattle.sh_scene.specs.Scene.{Class, Undrawn, Reserved, Fresh, Linked, Post, 
 use Rattle.sh_scene.specs.Nodes.{level_in, low_in, high_in, next_in, IsLinked, LeadsTo, pairs_in, LeadDown, IsStandingLeaf, IsStandingInner, Body, Follows, Sits, IsUnderWay, Orderly}
 use Rattle.sh_scene.specs.Ground.{Ground}
 
+-- what one pair leads to is linked
+pub led_down : (s : Scene) (l n : ℕ) (pairs : List Pair) → LeadDown s l pairs → LeadsTo pairs n → (a : ℕ) × (s.class n ≡ Linked l a)
+led_down s l n [] h k = absurd k
+led_down s l n (x ∷ xs) h (inl q) = (x.separator, ap s.class (sym q) ∙ h.0)
+led_down s l n (x ∷ xs) h (inr q) = led_down s l n xs h.1 q
+
+-- a node that joined pairs lead to
+pub leads_join : (n : ℕ) (xs ys : List Pair) → LeadsTo (xs ++ ys) n → LeadsTo xs n ⊎ LeadsTo ys n
+leads_join n [] ys h = inr h
+leads_join n (x ∷ xs) ys (inl e) = inl (inl e)
+leads_join n (x ∷ xs) ys (inr h) = elim (leads_join n xs ys h) [ inl z ↦ inl (inr z) | inr z ↦ inr z ]
+
+pub leads_left : (n : ℕ) (xs ys : List Pair) → LeadsTo xs n → LeadsTo (xs ++ ys) n
+leads_left n [] ys h = absurd h
+leads_left n (x ∷ xs) ys (inl e) = inl e
+leads_left n (x ∷ xs) ys (inr h) = inr (leads_left n xs ys h)
+
+pub leads_right : (n : ℕ) (xs ys : List Pair) → LeadsTo ys n → LeadsTo (xs ++ ys) n
+leads_right n [] ys h = h
+leads_right n (x ∷ xs) ys h = inr (leads_right n xs ys h)
+
 -- the links of s are t's
 abbrev pub Links : Scene → Scene → Type 0
 Links s t = (n level low : ℕ) → s.class n ≡ Linked level low → t.class n ≡ Linked level low
@@ -129,11 +150,7 @@ module _ (p : ConfigParts) (words : List ℕ) (s : Scene) (set : IsSetting p) (g
         | inr ne ↦ subst (IsWriting p l (s.node n)) (sym (writes_else n i d m w ne)) tt
       ]
 
-  -- what one pair leads to is linked
+module _ (p : ConfigParts) (words : List ℕ) (s : Scene) (g : Ground p words s) where
+  -- what a linked node's pair leads to is linked
   pub child_linked : (parent l b n : ℕ) → s.class parent ≡ Linked (suc l) b → LeadsTo (pairs_in (s.node parent)) n → (a : ℕ) × (s.class n ≡ Linked l a)
-  child_linked parent l b n e k = go (pairs_in (s.node parent)) (g.sits parent (suc l) b e).body.children k
-    where
-      go : (pairs : List Pair) → LeadDown s l pairs → LeadsTo pairs n → (a : ℕ) × (s.class n ≡ Linked l a)
-      go [] h k = absurd k
-      go (x ∷ xs) h (inl q) = (x.separator, ap s.class (sym q) ∙ h.0)
-      go (x ∷ xs) h (inr q) = go xs h.1 q
+  child_linked parent l b n e k = led_down s l n (pairs_in (s.node parent)) (g.sits parent (suc l) b e).body.children k

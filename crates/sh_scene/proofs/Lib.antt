@@ -8,3 +8,4 @@ pub mod Spelled
 pub mod Pigeons
 pub mod Roots
 pub mod Ends
+pub mod StoreLemmas

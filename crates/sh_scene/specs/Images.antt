@@ -1,9 +1,14 @@
 -- What the new image of a linked node, or its two halves, are to the node, its neighbours and its parent.
-use Rattle.std.specs.Prelude.{◌≡◌, ◌≢◌, ◌⊎◌, ◌↔◌, ℕ, suc, ◌<◌, List}
+use Rattle.std.specs.Prelude.{◌≡◌, ◌≢◌, ◌⊎◌, ◌↔◌, ℕ, suc, ◌+◌, ◌<◌, List, [], ◌∷◌, slice_set}
 use Rattle.sh_image.specs.declared.inner.Pair.{Pair}
 use Rattle.sh_scene.specs.Scene.{Class, Linked, Post, Posted, Owner, Seat, Scene}
 use Rattle.sh_scene.specs.Nodes.{level_in, low_in, high_in, next_in, IsLinked, LeadsTo}
 use Rattle.sh_scene.specs.Change.{IsPostOf}
+
+-- words with others stored from an offset on
+abbrev pub patched : List ℕ → (offset : ℕ) → List ℕ → List ℕ
+patched ws offset [] = ws
+patched ws offset (x ∷ new) = patched (slice_set ws offset x) (offset + 1) new
 
 -- an image of the same level, fences and next node
 pub record IsOver (node image : List ℕ) : Type 0 where

@@ -9,3 +9,4 @@ pub mod Pigeons
 pub mod Roots
 pub mod Ends
 pub mod StoreLemmas
+pub mod EntryWords

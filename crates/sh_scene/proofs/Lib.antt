@@ -10,3 +10,4 @@ pub mod Roots
 pub mod Ends
 pub mod StoreLemmas
 pub mod EntryWords
+pub mod LeafEnds

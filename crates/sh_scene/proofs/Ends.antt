@@ -1,25 +1,24 @@
 -- The last store of a WRITE of a linked node: over the same fences, or as a split, on any level.
-use Rattle.std.proofs.Common.{◌≡◌, ◌≢◌, ◌⊎◌, ℕ, zero, suc, ◌+◌, ◌<◌, ◌≤◌, List, [], ◌∷◌, ◌++◌, length, set, refl, ap, sym, ◌∙◌, subst, ⊎_elim, inl, inr, arith}
+use Rattle.std.proofs.Common.{◌≡◌, ◌≢◌, ◌⊎◌, ℕ, suc, ◌<◌, ◌≤◌, List, ◌++◌, length, set, refl, ap, sym, ◌∙◌, subst, ⊎_elim, inl, inr, arith}
 use Rattle.std.specs.Prelude.{◌-◌, ◌^◌, ◌↔◌}
 use mathlib.Core.Logic.{dite}
 use native.Mathlib.Decide.{ℕ_discrete}
 use Rattle.sh_base.specs.declared.config.ConfigParts.{ConfigParts}
-use Rattle.sh_base.specs.Setting.{node_size, IsNode}
+use Rattle.sh_base.specs.Setting.{node_size}
 use Rattle.sh_base.specs.Layout.{lock_of}
 use Rattle.sh_base.specs.Places.{Site, Own, Root, Counter, Lock, Node, address, IsSite}
 use Rattle.sh_map.specs.declared.log.Entry.{Entry}
 use Rattle.sh_map.specs.Log.{IsLegal}
-use Rattle.sh_image.specs.declared.inner.Pair.{Pair}
 use Rattle.sh_read.specs.Moments.{Writing, Idle, word, Next, still}
-use Rattle.sh_scene.specs.Scene.{Class, Undrawn, Fresh, Linked, Post, Posted, Pending, Skipped, Owner, Seat, Hold, Nobody, Held, Writes, Owns, hold_word, Scene, put, writing_of, writing, shown, Shows}
+use Rattle.sh_scene.specs.Scene.{Class, Undrawn, Fresh, Linked, Post, Posted, Pending, Owner, Seat, Hold, Held, Writes, Owns, hold_word, Scene, put, writing_of, writing, shown}
 use Rattle.sh_scene.specs.Nodes.{level_in, low_in, high_in, next_in, IsLinked, LeadsTo, pairs_in, Body, Follows, Sits, AreApart, Orderly}
 use Rattle.sh_scene.specs.Ground.{Ground, HasParent}
-use Rattle.sh_scene.specs.Change.{IsPostOf, HasNoneOf, ChangeFor, Change}
+use Rattle.sh_scene.specs.Change.{IsPostOf, HasNoneOf, Change}
 use Rattle.sh_scene.specs.Stores.{Ends}
 use Rattle.sh_scene.specs.Acts.{ended}
 use Rattle.sh_scene.specs.Images.{IsOver, IsHalved, PostsOver}
 use Rattle.sh_scene.proofs.Puts.{put_here, put_else, put_case, shows_store}
-use Rattle.sh_scene.proofs.Scenes.{Links, linked_is, fresh_linked, fresh_is, undrawn_fresh, is_linked, links_on, follows_on, sits_on, orderly_on, child_linked, led_down, leads_join, leads_left, leads_right}
+use Rattle.sh_scene.proofs.Scenes.{Links, linked_is, fresh_linked, fresh_is, undrawn_fresh, links_on, follows_on, sits_on, orderly_on, child_linked, led_down, leads_join, leads_left, leads_right}
 use Rattle.sh_scene.proofs.Holds.{IsWriter, none_else}
 use Rattle.sh_scene.proofs.Posts.{pending_of, posted_of}
 

@@ -1,17 +1,16 @@
 -- An entry in its leaf's words, and the leaf with another entry stored.
-use Rattle.std.proofs.Common.{◌≡◌, ◌≢◌, ◌⊎◌, ℕ, zero, suc, ◌+◌, ◌-◌, ◌<◌, ◌≤◌, List, [], ◌∷◌, ◌++◌, length, get_or, set, take, drop, refl, sym, ap, ◌∙◌, subst, inl, inr, arith, length-set, length-append, get_or-set_same, get_or-set_other}
+use Rattle.std.proofs.Common.{◌≡◌, ◌≢◌, ◌⊎◌, ℕ, zero, suc, ◌+◌, ◌<◌, ◌≤◌, List, [], ◌∷◌, length, get_or, set, take, drop, sym, ap, ◌∙◌, subst, inl, inr, arith, length-set, get_or-set_same, get_or-set_other}
 use Rattle.std.specs.List.{AllByRecursion}
 use Rattle.std.proofs.lemmas.Bool.{cases_lt, cases_eq}
 use Rattle.std.proofs.lemmas.Grind.{same_number_lists}
 use Rattle.std.proofs.lemmas.List.{same_lists, length-take-le, length-drop, get_or-take, get_or-drop, get_or_append_left, get_or-append-add}
 use Rattle.sh_base.specs.declared.config.ConfigParts.{ConfigParts}
-use Rattle.sh_base.specs.Setting.{entry_size, node_size}
+use Rattle.sh_base.specs.Setting.{node_size}
 use Rattle.sh_base.specs.Layout.{entry_at, entry_rear_at, rear_at}
-use Rattle.sh_base.proofs.LayoutLemmas.{node_size_is, entry_within, entry_high, entry_low, entry_apart, entry_size_is, rear_at_low}
+use Rattle.sh_base.proofs.LayoutLemmas.{node_size_is, entry_within, entry_high, entry_low, entry_apart, entry_size_is}
 use Rattle.sh_image.specs.declared.leaf.LeafEntry.{LeafEntry}
 use Rattle.sh_image.specs.Entries.{entry_words}
-use Rattle.sh_image.specs.Leaf.{Leaf, IsEntry, IsLeaf, leaf_in, Spells}
-use Rattle.sh_image.specs.Seen.{HasWholeEntries}
+use Rattle.sh_image.specs.Leaf.{IsEntry, IsLeaf, leaf_in, Spells}
 use Rattle.sh_image.proofs.EntriesLemmas.{length-entries_in, length-entry_words}
 use Rattle.sh_image.proofs.ReadLemmas.{entry_read, words_from_untorn, header_spelled}
 use Rattle.sh_image.proofs.UntornLemmas.{untorn_spelled}

@@ -3,12 +3,12 @@ use Rattle.std.proofs.Common.{◌≡◌, ◌≢◌, ℕ, ◌+◌, ◌<◌, ◌�
 use mathlib.Core.Logic.{dite}
 use native.Mathlib.Decide.{ℕ_discrete}
 use Rattle.sh_base.specs.declared.config.ConfigParts.{ConfigParts}
-use Rattle.sh_base.specs.Setting.{node_size, all_locks, IsSetting}
+use Rattle.sh_base.specs.Setting.{all_locks}
 use Rattle.sh_base.specs.Layout.{lock_of, compute_of}
 use Rattle.sh_base.specs.Places.{Site, Own, Root, Counter, Lock, Node, address, IsSite}
 use Rattle.sh_read.specs.Moments.{Writing, Idle, word, Next, still}
-use Rattle.sh_scene.specs.Scene.{Linked, Owner, Seat, Hold, Nobody, Held, Writes, Owns, owner_word, hold_word, Scene, put, writing_of, shown, Shows}
-use Rattle.sh_scene.specs.Nodes.{IsUnderWay, Orderly}
+use Rattle.sh_scene.specs.Scene.{Linked, Owner, Seat, Hold, Nobody, Held, Writes, Owns, owner_word, hold_word, Scene, writing_of, shown, Shows}
+use Rattle.sh_scene.specs.Nodes.{Orderly}
 use Rattle.sh_scene.specs.Ground.{Ground}
 use Rattle.sh_scene.specs.Change.{ChangeFor, Change}
 use Rattle.sh_scene.specs.Stores.{GoesOn}

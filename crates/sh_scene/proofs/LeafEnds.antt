@@ -1,9 +1,9 @@
 -- A leaf's WRITE ends, and its entry comes into the log.
-use Rattle.std.proofs.Common.{◌≡◌, ◌≢◌, ◌⊎◌, ℕ, zero, suc, ◌+◌, ◌<◌, ◌≤◌, Option, Some, None, List, [], ◌∷◌, ◌++◌, length, get_or, set, refl, ap, sym, ◌∙◌, subst, ⊎_elim, inl, inr, arith}
-use Rattle.std.specs.Prelude.{◌-◌, ◌^◌, ◌↔◌}
-use Rattle.std.proofs.lemmas.Bool.{cases_eq, cases_lt}
+use Rattle.std.proofs.Common.{◌≡◌, ◌≢◌, ℕ, zero, suc, ◌+◌, ◌<◌, ◌≤◌, List, [], ◌∷◌, ◌++◌, length, get_or, set, refl, ap, sym, ◌∙◌, subst, ⊎_elim, inl, inr, arith}
+use Rattle.std.specs.Prelude.{◌^◌}
+use Rattle.std.proofs.lemmas.Bool.{cases_eq}
 use Rattle.sh_base.specs.declared.config.ConfigParts.{ConfigParts}
-use Rattle.sh_base.specs.Setting.{node_size, last_version, nodes, IsSetting}
+use Rattle.sh_base.specs.Setting.{last_version}
 use Rattle.sh_base.specs.Layout.{lock_of, entry_at, entry_rear_at, rear_at}
 use Rattle.sh_base.specs.Places.{Node, address}
 use Rattle.sh_map.specs.declared.log.Change.{Change as MapChange}
@@ -24,17 +24,17 @@ use Rattle.sh_edit.proofs.HeldLemmas.{get-map_of_entries}
 use Rattle.sh_edit.proofs.SplitLemmas.{sides}
 use Rattle.sh_edit.proofs.HalvesLemmas.{left_once, right_once, separator_within, left_lawful, right_lawful}
 use Rattle.sh_read.specs.Moments.{Writing, Whole, One}
-use Rattle.sh_scene.specs.Scene.{Fresh, Linked, Post, Posted, Pending, Owner, Seat, Hold, Writes, Scene, put}
-use Rattle.sh_scene.specs.Nodes.{low_in, high_in, IsLinked, LeadsTo, pairs_in, entries_of, IsStandingLeaf, Body, AreApart}
+use Rattle.sh_scene.specs.Scene.{Fresh, Linked, Pending, Seat, Writes, Scene, put}
+use Rattle.sh_scene.specs.Nodes.{low_in, high_in, pairs_in, entries_of, IsStandingLeaf, Body}
 use Rattle.sh_scene.specs.Ground.{Ground}
-use Rattle.sh_scene.specs.Change.{IsPostOf, HasNoneOf, Change}
+use Rattle.sh_scene.specs.Change.{HasNoneOf, Change}
 use Rattle.sh_scene.specs.Stores.{Ends}
 use Rattle.sh_scene.specs.Acts.{ended}
 use Rattle.sh_scene.specs.Images.{IsOver, IsHalved, PostsOver, patched}
 use Rattle.sh_scene.proofs.Scenes.{Links, inner_on, fresh_linked}
 use Rattle.sh_scene.proofs.Puts.{put_else}
 use Rattle.sh_scene.proofs.Holds.{IsWriter, writer_writes}
-use Rattle.sh_scene.proofs.Spelled.{leaf_is, leaf_long, leaf_stands}
+use Rattle.sh_scene.proofs.Spelled.{leaf_long, leaf_stands}
 use Rattle.sh_scene.proofs.StoreLemmas.{whole_ends, one_ends, patched_word, length-patched}
 use Rattle.sh_scene.proofs.EntryWords.{entries_patched, leaf_patched, spelled_patched}
 use Rattle.sh_scene.proofs.Ends.{over_end, split_end}

@@ -11,3 +11,4 @@ pub mod Ends
 pub mod StoreLemmas
 pub mod EntryWords
 pub mod LeafEnds
+pub mod InnerEnds

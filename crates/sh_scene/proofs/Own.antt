@@ -1,21 +1,19 @@
 -- A seat's own nodes: a store into one, and a chunk that is drawn.
 use Rattle.std.proofs.Common.{◌≡◌, ◌≢◌, ◌⊎◌, ℕ, suc, ◌+◌, ◌<◌, ◌≤◌, Bool, true, false, List, [], length, set, refl, ap, sym, ◌∙◌, subst, ⊎_elim, inl, inr, arith, append-nil, length-set, get_or-set_same, get_or-set_other}
 use Rattle.std.specs.Prelude.{if◌then◌else◌}
-use mathlib.Core.Logic.{dite}
-use native.Mathlib.Decide.{ℕ_discrete}
 use Rattle.sh_base.specs.declared.config.ConfigParts.{ConfigParts}
 use Rattle.sh_base.specs.Setting.{node_size, IsNode}
 use Rattle.sh_base.specs.Layout.{lock_of}
 use Rattle.sh_base.specs.Places.{Site, Own, Root, Counter, Lock, Node, address, IsSite}
 use Rattle.sh_read.specs.Moments.{Writing, Idle, word, Next, still}
-use Rattle.sh_scene.specs.Scene.{Class, Undrawn, Fresh, Linked, Posted, Owner, Seat, Hold, Nobody, Held, Writes, Scene, put, writing_of, writing, shown, Shows}
-use Rattle.sh_scene.specs.Nodes.{high_in, IsLinked, LeadsTo, pairs_in, AreApart, Orderly}
+use Rattle.sh_scene.specs.Scene.{Class, Undrawn, Fresh, Linked, Seat, Hold, Nobody, Held, Writes, Scene, put, writing_of, writing, shown}
+use Rattle.sh_scene.specs.Nodes.{high_in, LeadsTo, pairs_in, Orderly}
 use Rattle.sh_scene.specs.Ground.{Ground, IsInChunk, HasParent}
-use Rattle.sh_scene.specs.Change.{ChangeFor, Change}
+use Rattle.sh_scene.specs.Change.{Change}
 use Rattle.sh_scene.specs.Acts.{in_chunk, filled, counted, drawn}
 use Rattle.sh_scene.proofs.Puts.{put_here, put_else, put_case, shows_store}
-use Rattle.sh_scene.proofs.Scenes.{Links, linked_is, fresh_linked, fresh_is, undrawn_fresh, undrawn_linked, links_on, writes_else, body_on, sits_on, orderly_on}
-use Rattle.sh_scene.proofs.ChunkLemmas.{chunk_node, chunk_once, in_chunk_is, is_in_chunk}
+use Rattle.sh_scene.proofs.Scenes.{Links, fresh_linked, fresh_is, undrawn_fresh, undrawn_linked, links_on, writes_else, body_on, sits_on, orderly_on}
+use Rattle.sh_scene.proofs.ChunkLemmas.{chunk_node, chunk_once, in_chunk_is}
 
 module _ (p : ConfigParts) (words : List ℕ) (s : Scene) (g : Ground p words s) where
   not_linked : (r j n l a : ℕ) → s.class r ≡ Fresh j → s.class n ≡ Linked l a → n ≢ r

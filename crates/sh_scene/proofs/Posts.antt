@@ -1,12 +1,12 @@
 -- A post is skipped.
-use Rattle.std.proofs.Common.{◌≡◌, ◌≢◌, ◌⊎◌, ℕ, suc, ◌<◌, List, [], refl, ap, sym, ◌∙◌, ⊎_elim, inl, inr, arith, append-nil}
+use Rattle.std.proofs.Common.{◌≡◌, ◌⊎◌, ℕ, ◌<◌, List, [], refl, ap, sym, ◌∙◌, ⊎_elim, inl, inr, arith, append-nil}
 use mathlib.Core.Logic.{dite}
 use native.Mathlib.Decide.{ℕ_discrete}
 use Rattle.sh_base.specs.declared.config.ConfigParts.{ConfigParts}
 use Rattle.sh_read.specs.Moments.{still}
-use Rattle.sh_scene.specs.Scene.{Linked, Post, Posted, Pending, Skipped, Owner, Seat, Scene, put, shown, Shows}
+use Rattle.sh_scene.specs.Scene.{Linked, Post, Posted, Pending, Skipped, Seat, Scene, shown}
 use Rattle.sh_scene.specs.Ground.{Ground, HasParent}
-use Rattle.sh_scene.specs.Change.{IsPostOf, ChangeFor, Change}
+use Rattle.sh_scene.specs.Change.{IsPostOf, Change}
 use Rattle.sh_scene.specs.Acts.{skipped}
 use Rattle.sh_scene.proofs.Puts.{put_else, put_case, shows_same}
 use Rattle.sh_scene.proofs.Scenes.{linked_is, is_linked, body_on, sits_on, orderly_on}

@@ -1,9 +1,8 @@
 -- Functions that are changed at one number, and what a store leaves of the words that are shown.
-use Rattle.std.proofs.Common.{◌≡◌, ◌≢◌, ℕ, ◌+◌, ◌<◌, ◌≤◌, List, length, get_or, set, refl, ap, sym, ◌∙◌, subst, arith, length-set, get_or-set_same, get_or-set_other, ne_eqb, eq-eqb}
+use Rattle.std.proofs.Common.{◌≡◌, ◌≢◌, ℕ, ◌<◌, List, length, get_or, set, refl, ap, sym, ◌∙◌, subst, arith, length-set, get_or-set_same, get_or-set_other, ne_eqb, eq-eqb}
 use mathlib.Core.Logic.{dite}
 use native.Mathlib.Decide.{ℕ_discrete}
 use Rattle.sh_base.specs.declared.config.ConfigParts.{ConfigParts}
-use Rattle.sh_base.specs.Setting.{pool_words}
 use Rattle.sh_base.specs.Places.{Site, address, IsSite}
 use Rattle.sh_base.proofs.PlacesLemmas.{are_places_apart}
 use Rattle.sh_scene.specs.Scene.{put, Shows}

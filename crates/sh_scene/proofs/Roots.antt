@@ -1,21 +1,21 @@
 -- A new root is hung in.
 use Rattle.std.proofs.Common.{◌≡◌, ◌≢◌, ◌⊎◌, ℕ, zero, suc, ◌+◌, ◌-◌, ◌<◌, ◌≤◌, List, [], ◌∷◌, set, refl, ap, sym, ◌∙◌, subst, ⊎_elim, inl, inr, arith, append-nil}
 use Rattle.std.specs.Prelude.{◌^◌}
-use Rattle.std.proofs.lemmas.Bool.{cases_lt, cases_eq}
+use Rattle.std.proofs.lemmas.Bool.{cases_lt}
 use mathlib.Core.Logic.{dite}
 use native.Mathlib.Decide.{ℕ_discrete}
 use Rattle.sh_base.specs.declared.config.ConfigParts.{ConfigParts}
 use Rattle.sh_base.specs.Setting.{nodes, IsNode, IsSetting}
 use Rattle.sh_base.specs.Places.{Site, Own, Root, Counter, Lock, Node, address, IsSite}
 use Rattle.sh_image.specs.declared.inner.Pair.{Pair}
-use Rattle.sh_image.specs.Inner.{Inner, inner_words, IsInner, AreSeparators, separator_at}
+use Rattle.sh_image.specs.Inner.{Inner, inner_words, IsInner, AreSeparators}
 use Rattle.sh_edit.specs.Pairing.{root_over}
 use Rattle.sh_edit.proofs.RiseLemmas.{root_lawful}
 use Rattle.sh_read.specs.Moments.{still}
-use Rattle.sh_scene.specs.Scene.{Class, Fresh, Linked, Post, Posted, Pending, Skipped, Seat, Scene, put, writing, shown, Shows}
+use Rattle.sh_scene.specs.Scene.{Fresh, Linked, Posted, Pending, Seat, Scene, shown}
 use Rattle.sh_scene.specs.Nodes.{level_in, low_in, high_in, next_in, IsLinked, LeadsTo, LeadDown, pairs_in, Body, Follows, Sits}
 use Rattle.sh_scene.specs.Ground.{Ground, HasParent}
-use Rattle.sh_scene.specs.Change.{ChangeFor, Change}
+use Rattle.sh_scene.specs.Change.{Change}
 use Rattle.sh_scene.specs.Acts.{grown}
 use Rattle.sh_scene.proofs.Puts.{put_here, put_else, put_case, shows_store}
 use Rattle.sh_scene.proofs.Scenes.{Links, linked_is, fresh_linked, fresh_is, undrawn_fresh, links_on, body_on, sits_on, orderly_on}

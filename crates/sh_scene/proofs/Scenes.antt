@@ -1,19 +1,17 @@
 -- What a scene keeps where its nodes' links only grow.
-use Rattle.std.proofs.Common.{◌≡◌, ◌≢◌, ◌⊎◌, ℕ, zero, suc, ◌+◌, ◌<◌, ◌≤◌, List, [], ◌∷◌, ◌++◌, refl, ap, sym, ◌∙◌, subst, ⊎_elim, inl, inr, arith, append-nil, ne_eqb, eq-eqb}
+use Rattle.std.proofs.Common.{◌≡◌, ◌≢◌, ◌⊎◌, ℕ, zero, suc, ◌<◌, ◌≤◌, List, [], ◌∷◌, ◌++◌, refl, ap, sym, ◌∙◌, subst, inl, inr, arith, ne_eqb, eq-eqb}
 use Rattle.std.specs.Prelude.{◌-◌, ◌^◌}
-use Rattle.std.specs.List.{AllByRecursion}
 use Rattle.sh_base.specs.declared.config.ConfigParts.{ConfigParts}
-use Rattle.sh_base.specs.Setting.{IsNode, IsSetting}
+use Rattle.sh_base.specs.Setting.{IsSetting}
 use Rattle.sh_base.specs.Layout.{lock_of}
 use Rattle.sh_map.specs.declared.log.Entry.{Entry}
 use Rattle.sh_image.specs.declared.inner.Pair.{Pair}
 use Rattle.sh_image.specs.Leaf.{leaf_in}
 use Rattle.sh_image.specs.Inner.{inner_in}
-use Rattle.sh_image.specs.Seen.{IsUntorn}
 use Rattle.sh_image.proofs.UntornLemmas.{untorn_spelled, untorn_inner}
 use Rattle.sh_read.specs.Moments.{Writing, Idle, IsWriting, IsVersioned, IsMoment}
-use Rattle.sh_scene.specs.Scene.{Class, Undrawn, Reserved, Fresh, Linked, Post, Posted, Pending, Skipped, Owner, Seat, Hold, Nobody, Held, Writes, Owns, Scene, writing_of, writing}
-use Rattle.sh_scene.specs.Nodes.{level_in, low_in, high_in, next_in, IsLinked, LeadsTo, pairs_in, LeadDown, IsStandingLeaf, IsStandingInner, Body, Follows, Sits, IsUnderWay, Orderly}
+use Rattle.sh_scene.specs.Scene.{Class, Undrawn, Reserved, Fresh, Linked, Seat, Hold, Nobody, Held, Writes, Scene, writing_of, writing}
+use Rattle.sh_scene.specs.Nodes.{level_in, low_in, high_in, next_in, IsLinked, LeadsTo, pairs_in, LeadDown, IsStandingLeaf, IsStandingInner, Body, Follows, Sits, Orderly}
 use Rattle.sh_scene.specs.Ground.{Ground}
 
 -- what one pair leads to is linked

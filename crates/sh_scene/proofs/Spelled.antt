@@ -1,5 +1,5 @@
 -- Words of a leaf or an inner node, as nodes that stand.
-use Rattle.std.proofs.Common.{◌≡◌, ◌≢◌, ◌⊎◌, ℕ, suc, ◌<◌, ◌≤◌, Option, List, length, refl, ap, sym, ◌∙◌, subst, inl, inr, arith}
+use Rattle.std.proofs.Common.{◌≡◌, ◌≢◌, ℕ, ◌<◌, ◌≤◌, List, length, sym, subst}
 use Rattle.sh_base.specs.declared.config.ConfigParts.{ConfigParts}
 use Rattle.sh_base.specs.Setting.{node_size}
 use Rattle.sh_map.specs.declared.log.Entry.{Entry}
@@ -11,7 +11,7 @@ use Rattle.sh_image.proofs.LeafLemmas.{spelled_one, values_of, length-leaf_words
 use Rattle.sh_image.proofs.InnerLemmas.{inner_spelled_one, length-inner_words}
 use Rattle.sh_edit.specs.Held.{held, HasKeysOnce}
 use Rattle.sh_scene.specs.Scene.{Scene}
-use Rattle.sh_scene.specs.Nodes.{LeadDown, LeadsTo, pairs_in, entries_of, IsStandingLeaf, IsStandingInner}
+use Rattle.sh_scene.specs.Nodes.{LeadDown, IsStandingLeaf, IsStandingInner}
 
 module _ (p : ConfigParts) where
   pub leaf_is : (ws : List ℕ) (a : Leaf) → ws ≡ leaf_words a → IsLeaf p a → leaf_in p ws ≡ a

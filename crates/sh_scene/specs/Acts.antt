@@ -3,7 +3,7 @@ use Rattle.std.specs.Prelude.{ℕ, suc, ◌+◌, ◌&&◌, if◌then◌else◌, 
 use Rattle.sh_base.specs.declared.config.ConfigParts.{ConfigParts}
 use Rattle.sh_base.specs.Layout.{lock_of, first_node}
 use Rattle.sh_map.specs.declared.log.Entry.{Entry}
-use Rattle.sh_scene.specs.Scene.{Class, Fresh, Linked, Post, Posted, Skipped, Owner, Seat, Hold, Held, Scene, put}
+use Rattle.sh_scene.specs.Scene.{Class, Fresh, Linked, Post, Posted, Skipped, Seat, Hold, Held, Scene, put}
 
 -- a lock has another holder, or its holder's WRITE went on
 abbrev pub with_hold : Scene → (lock : ℕ) → Hold → Scene

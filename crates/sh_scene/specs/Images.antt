@@ -1,7 +1,7 @@
 -- What the new image of a linked node, or its two halves, are to the node, its neighbours and its parent.
 use Rattle.std.specs.Prelude.{◌≡◌, ◌≢◌, ◌⊎◌, ◌↔◌, ℕ, suc, ◌+◌, ◌<◌, List, [], ◌∷◌, slice_set}
 use Rattle.sh_image.specs.declared.inner.Pair.{Pair}
-use Rattle.sh_scene.specs.Scene.{Class, Linked, Post, Posted, Owner, Seat, Scene}
+use Rattle.sh_scene.specs.Scene.{Linked, Post, Posted, Seat, Scene}
 use Rattle.sh_scene.specs.Nodes.{level_in, low_in, high_in, next_in, IsLinked, LeadsTo}
 use Rattle.sh_scene.specs.Change.{IsPostOf}
 

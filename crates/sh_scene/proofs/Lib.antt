@@ -7,8 +7,3 @@ pub mod Posts
 pub mod Spelled
 pub mod Pigeons
 pub mod Roots
-pub mod Ends
-pub mod StoreLemmas
-pub mod EntryWords
-pub mod LeafEnds
-pub mod InnerEnds

@@ -9,7 +9,7 @@ use Rattle.sh_base.proofs.LayoutLemmas.{node_size_is, entry_within, entry_size_i
 use Rattle.sh_read.specs.Moments.{Idle, Whole, One, word, IsVersioned, IsWriting, begin_whole, more_whole, end_whole, begin_one, more_one, end_one}
 use Rattle.sh_read.proofs.Words.{stored, not_stored, inside, outside}
 use Rattle.sh_scene.specs.Stores.{GoesOn, Ends}
-use Rattle.sh_scene.specs.Images.{patched}
+use Rattle.sh_ends.specs.Images.{patched}
 
 module _ (p : ConfigParts) (level : ℕ) (node new : List ℕ) where
   whole_other : (done o : ℕ) → o ≢ done → word p node (Whole new done) o ≡ word p node (Whole new (done + 1)) o

@@ -16,7 +16,7 @@ use Rattle.sh_scene.specs.Ground.{Ground, HasParent}
 use Rattle.sh_scene.specs.Change.{IsPostOf, HasNoneOf, Change}
 use Rattle.sh_scene.specs.Stores.{Ends}
 use Rattle.sh_scene.specs.Acts.{ended}
-use Rattle.sh_scene.specs.Images.{IsOver, IsHalved, PostsOver}
+use Rattle.sh_ends.specs.Images.{IsOver, IsHalved, PostsOver}
 use Rattle.sh_scene.proofs.Puts.{put_here, put_else, put_case, shows_store}
 use Rattle.sh_scene.proofs.Scenes.{Links, linked_is, fresh_linked, fresh_is, undrawn_fresh, links_on, follows_on, sits_on, orderly_on, child_linked, led_down, leads_join, leads_left, leads_right}
 use Rattle.sh_scene.proofs.Holds.{IsWriter, none_else}

@@ -30,14 +30,14 @@ use Rattle.sh_scene.specs.Ground.{Ground}
 use Rattle.sh_scene.specs.Change.{HasNoneOf, Change}
 use Rattle.sh_scene.specs.Stores.{Ends}
 use Rattle.sh_scene.specs.Acts.{ended}
-use Rattle.sh_scene.specs.Images.{IsOver, IsHalved, PostsOver, patched}
+use Rattle.sh_ends.specs.Images.{IsOver, IsHalved, PostsOver, patched}
 use Rattle.sh_scene.proofs.Scenes.{Links, inner_on, fresh_linked}
 use Rattle.sh_scene.proofs.Puts.{put_else}
 use Rattle.sh_scene.proofs.Holds.{IsWriter, writer_writes}
 use Rattle.sh_scene.proofs.Spelled.{leaf_long, leaf_stands}
-use Rattle.sh_scene.proofs.StoreLemmas.{whole_ends, one_ends, patched_word, length-patched}
-use Rattle.sh_scene.proofs.EntryWords.{entries_patched, leaf_patched, spelled_patched}
-use Rattle.sh_scene.proofs.Ends.{over_end, split_end}
+use Rattle.sh_ends.proofs.StoreLemmas.{whole_ends, one_ends, patched_word, length-patched}
+use Rattle.sh_ends.proofs.EntryWords.{entries_patched, leaf_patched, spelled_patched}
+use Rattle.sh_ends.proofs.Ends.{over_end, split_end}
 
 -- two maps that agree at a key agree there after the same change
 changed_alike : (m n : Map) (c : MapChange) (q : ℕ) → get m q ≡ get n q → get (changed m c) q ≡ get (changed n c) q
@@ -136,7 +136,7 @@ module _ (p : ConfigParts) (words : List ℕ) (s : Scene) (g : Ground p words s)
       }
     where
       patched_level : (j : ℕ) (x : LeafEntry) → get_or (patched (s.node n) (entry_at p j) (entry_words x)) 1 0 ≡ get_or (s.node n) 1 0
-      patched_level j x = Rattle.sh_scene.proofs.StoreLemmas.patched_outside (s.node n) (entry_at p j) (entry_words x) 1 (inl (omega (arith, Rattle.sh_base.proofs.LayoutLemmas.entry_low p j)))
+      patched_level j x = Rattle.sh_ends.proofs.StoreLemmas.patched_outside (s.node n) (entry_at p j) (entry_words x) 1 (inl (omega (arith, Rattle.sh_base.proofs.LayoutLemmas.entry_low p j)))
 
   -- the whole leaf was written
   pub rewritten_end : (b : Leaf) → s.hold (lock_of p n) ≡ Writes i d n (Whole (leaf_words b) (rear_at p)) → IsLeaf p b → b.low ≡ leaf.low → b.high ≡ leaf.high → b.next ≡ leaf.next

@@ -16,8 +16,8 @@ use Rattle.sh_image.proofs.ReadLemmas.{entry_read, words_from_untorn, header_spe
 use Rattle.sh_image.proofs.UntornLemmas.{untorn_spelled}
 use Rattle.sh_read.specs.Reading.{IsIn}
 use Rattle.sh_scene.specs.Nodes.{entries_of}
-use Rattle.sh_scene.specs.Images.{patched}
-use Rattle.sh_scene.proofs.StoreLemmas.{length-patched, patched_inside, patched_outside}
+use Rattle.sh_ends.specs.Images.{patched}
+use Rattle.sh_ends.proofs.StoreLemmas.{length-patched, patched_inside, patched_outside}
 
 same_take : (n at : ℕ) (a b : List ℕ) → at + n ≤ length a → at + n ≤ length b → ((o : ℕ) → o < n → get_or a (at + o) 0 ≡ get_or b (at + o) 0) → take n (drop at a) ≡ take n (drop at b)
 same_take n at a b long_a long_b same =

@@ -21,14 +21,14 @@ use Rattle.sh_scene.specs.Nodes.{low_in, high_in, LeadsTo, LeadDown, pairs_in, I
 use Rattle.sh_scene.specs.Ground.{Ground}
 use Rattle.sh_scene.specs.Change.{Change}
 use Rattle.sh_scene.specs.Acts.{ended}
-use Rattle.sh_scene.specs.Images.{PostsOver}
+use Rattle.sh_ends.specs.Images.{PostsOver}
 use Rattle.sh_scene.proofs.Puts.{put_else, put_case}
 use Rattle.sh_scene.proofs.Scenes.{Links, lead_on, body_on, fresh_linked}
 use Rattle.sh_scene.proofs.Holds.{writer_writes}
 use Rattle.sh_scene.proofs.Posts.{posted_of, pending_of}
 use Rattle.sh_scene.proofs.Spelled.{inner_is, inner_long, inner_stands}
-use Rattle.sh_scene.proofs.StoreLemmas.{whole_ends}
-use Rattle.sh_scene.proofs.Ends.{over_end, split_end}
+use Rattle.sh_ends.proofs.StoreLemmas.{whole_ends}
+use Rattle.sh_ends.proofs.Ends.{over_end, split_end}
 
 all_with : (P : Pair → Type 0) (xs : List Pair) (new : Pair) → P new → AllByRecursion P xs → AllByRecursion P (pairs_with xs new)
 all_with P [] new q h = (q, tt)

@@ -1,0 +1,5 @@
+pub mod StoreLemmas
+pub mod EntryWords
+pub mod Ends
+pub mod LeafEnds
+pub mod InnerEnds

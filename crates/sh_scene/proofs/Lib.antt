@@ -7,3 +7,5 @@ pub mod Posts
 pub mod Spelled
 pub mod Pigeons
 pub mod Roots
+pub mod Late
+pub mod Events

@@ -4,3 +4,4 @@ pub mod Ground
 pub mod Change
 pub mod Stores
 pub mod Acts
+pub mod Counters

@@ -129,10 +129,10 @@ module _ (p : ConfigParts) (words : List ℕ) (s : Scene) (g : Ground p words s)
   same_log = sym (append-nil s.log)
 
   -- the pair was added
-  pub pair_end : s.hold (lock_of p n) ≡ Writes i d n (Whole (inner_words p (with_pair inner x)) (rear_at p)) → length inner.pairs < 2 * p.leaf → inner.version < last_version p
+  pair_at : s.hold (lock_of p n) ≡ Writes i d n (Whole (inner_words p (with_pair inner x)) (rear_at p)) → length inner.pairs < 2 * p.leaf → inner.version < last_version p
       → let t : Scene = ended p s n i d (inner_words p (with_pair inner x)) s.class (put s.post x.child Posted) [] in
       Change p i s t × Ground p (set words (address p (Node n (rear_at p))) (get_or (inner_words p (with_pair inner x)) (rear_at p) 0)) t
-  pair_end e room version =
+  pair_at e room version =
       let b : Inner = with_pair inner x in
       let t : Scene = ended p s n i d (inner_words p b) s.class (put s.post x.child Posted) [] in
       let lawful : IsInner p b = with_lawful p inner x stands.spells.lawful room new lo hi real version in
@@ -145,13 +145,13 @@ module _ (p : ConfigParts) (words : List ℕ) (s : Scene) (g : Ground p words s)
       (λ m k c ne f body. body_on p s t (λ n l a z. z) same_log k (s.node m) body)
 
   -- the node was split: the left half was written, the right one before
-  pub inner_split_end : (r : ℕ) → s.hold (lock_of p n) ≡ Writes i d n (Whole (inner_words p (left_inner p.leaf inner x r)) (rear_at p)) → s.class r ≡ Fresh i → s.node r ≡ inner_words p (right_inner p.leaf inner x)
+  split_at : (r : ℕ) → s.hold (lock_of p n) ≡ Writes i d n (Whole (inner_words p (left_inner p.leaf inner x r)) (rear_at p)) → s.class r ≡ Fresh i → s.node r ≡ inner_words p (right_inner p.leaf inner x)
       → length inner.pairs ≡ 2 * p.leaf → inner.version < last_version p
       → let sep : ℕ = middle_of p.leaf inner.pairs x in
       let image : List ℕ = inner_words p (left_inner p.leaf inner x r) in
       let t : Scene = ended p s n i d image (put s.class r (Linked (suc l) sep)) (put (put s.post x.child Posted) r (Pending i)) [] in
       Change p i s t × Ground p (set words (address p (Node n (rear_at p))) (get_or image (rear_at p) 0)) t
-  inner_split_end r e fresh is full version =
+  split_at r e fresh is full version =
       let left : Inner = left_inner p.leaf inner x r in
       let right : Inner = right_inner p.leaf inner x in
       let sep : ℕ = middle_of p.leaf inner.pairs x in
@@ -174,3 +174,24 @@ module _ (p : ConfigParts) (words : List ℕ) (s : Scene) (g : Ground p words s)
       (inner_stands p t l (inner_words p left) left refl left_ok (lead_on p s t on l (take p.leaf (pairs_with inner.pairs x)) (all_take (λ (y : Pair). s.class y.child ≡ Linked l y.separator) p.leaf (pairs_with inner.pairs x) all)))
       (inner_stands p t l (inner_words p right) right refl right_ok (lead_on p s t on l (drop p.leaf (pairs_with inner.pairs x)) (all_drop (λ (y : Pair). s.class y.child ≡ Linked l y.separator) p.leaf (pairs_with inner.pairs x) all)))
       (λ m k c ne f body. body_on p s t on same_log k (s.node m) body)
+
+  -- both, of the node as it was read
+  pub pair_end : (b : Inner) → b ≡ inner → s.hold (lock_of p n) ≡ Writes i d n (Whole (inner_words p (with_pair b x)) (rear_at p)) → length b.pairs < 2 * p.leaf → b.version < last_version p
+      → let t : Scene = ended p s n i d (inner_words p (with_pair b x)) s.class (put s.post x.child Posted) [] in
+      Change p i s t × Ground p (set words (address p (Node n (rear_at p))) (get_or (inner_words p (with_pair b x)) (rear_at p) 0)) t
+  pair_end b same = subst (λ (b : Inner). s.hold (lock_of p n) ≡ Writes i d n (Whole (inner_words p (with_pair b x)) (rear_at p)) → length b.pairs < 2 * p.leaf → b.version < last_version p
+      → let t : Scene = ended p s n i d (inner_words p (with_pair b x)) s.class (put s.post x.child Posted) [] in
+      Change p i s t × Ground p (set words (address p (Node n (rear_at p))) (get_or (inner_words p (with_pair b x)) (rear_at p) 0)) t) (sym same) pair_at
+
+  pub inner_split_end : (b : Inner) → b ≡ inner → (r : ℕ) → s.hold (lock_of p n) ≡ Writes i d n (Whole (inner_words p (left_inner p.leaf b x r)) (rear_at p)) → s.class r ≡ Fresh i → s.node r ≡ inner_words p (right_inner p.leaf b x)
+      → length b.pairs ≡ 2 * p.leaf → b.version < last_version p
+      → let sep : ℕ = middle_of p.leaf b.pairs x in
+      let image : List ℕ = inner_words p (left_inner p.leaf b x r) in
+      let t : Scene = ended p s n i d image (put s.class r (Linked (suc l) sep)) (put (put s.post x.child Posted) r (Pending i)) [] in
+      Change p i s t × Ground p (set words (address p (Node n (rear_at p))) (get_or image (rear_at p) 0)) t
+  inner_split_end b same r = subst (λ (b : Inner). s.hold (lock_of p n) ≡ Writes i d n (Whole (inner_words p (left_inner p.leaf b x r)) (rear_at p)) → s.class r ≡ Fresh i → s.node r ≡ inner_words p (right_inner p.leaf b x)
+      → length b.pairs ≡ 2 * p.leaf → b.version < last_version p
+      → let sep : ℕ = middle_of p.leaf b.pairs x in
+      let image : List ℕ = inner_words p (left_inner p.leaf b x r) in
+      let t : Scene = ended p s n i d image (put s.class r (Linked (suc l) sep)) (put (put s.post x.child Posted) r (Pending i)) [] in
+      Change p i s t × Ground p (set words (address p (Node n (rear_at p))) (get_or image (rear_at p) 0)) t) (sym same) (split_at r)

@@ -25,7 +25,7 @@ use Rattle.sh_edit.proofs.SplitLemmas.{sides}
 use Rattle.sh_edit.proofs.HalvesLemmas.{left_once, right_once, separator_within, left_lawful, right_lawful}
 use Rattle.sh_read.specs.Moments.{Writing, Whole, One}
 use Rattle.sh_scene.specs.Scene.{Fresh, Linked, Pending, Seat, Writes, Scene, put}
-use Rattle.sh_scene.specs.Nodes.{low_in, high_in, pairs_in, entries_of, IsStandingLeaf, Body}
+use Rattle.sh_scene.specs.Nodes.{low_in, high_in, pairs_in, entries_of, IsStandingLeaf, Body, Orderly}
 use Rattle.sh_scene.specs.Ground.{Ground}
 use Rattle.sh_scene.specs.Change.{HasNoneOf, Change}
 use Rattle.sh_scene.specs.Stores.{Ends}
@@ -103,6 +103,10 @@ module _ (p : ConfigParts) (words : List ℕ) (s : Scene) (g : Ground p words s)
       split_end p words s g i d n 0 a image w at x (entry ∷ []) link k bound e mades legal r sep right fresh is halved s.post (none_new (pairs_in image ++ pairs_in right)) left_body right_body
       (others (ended p s n i d image (put s.class r (Linked 0 sep)) (put s.post r (Pending i)) (entry ∷ [])) refl (λ m l b f. put_else s.class r (Linked 0 sep) m (λ q. fresh_linked i l b (sym fresh ∙ ap s.class (sym q) ∙ f)) ∙ f))
 
+-- a writer's handovers
+pub bound_of : (p : ConfigParts) (words : List ℕ) (s : Scene) → Ground p words s → (i d n : ℕ) (w : Writing) → s.hold (lock_of p n) ≡ Writes i d n w → d ≤ p.bound
+bound_of p words s g i d n w e = let o : Orderly p s (lock_of p n) (Writes i d n w) = subst (Orderly p s (lock_of p n)) e (g.orderly (lock_of p n)) in o.0
+
 -- What the last store of a leaf's WRITE is, by how the leaf changes.
 module _ (p : ConfigParts) (words : List ℕ) (s : Scene) (g : Ground p words s) (i d n a : ℕ) (entry : Entry)
     (link : s.class n ≡ Linked 0 a) (bound : d ≤ p.bound)
@@ -150,13 +154,13 @@ module _ (p : ConfigParts) (words : List ℕ) (s : Scene) (g : Ground p words s)
       (leaf_stands p (s.log ++ entry ∷ []) (leaf_words b) b refl lawful once (λ q nz ge less. map_changed s.log entry leaf.entries b.entries q nz (ap (λ (m : Map). get m q) map) (stands.map q nz (omega (arith, ge, low)) (omega (arith, less, high)))))
 
   -- the left half was written, the right one before
-  pub leaf_split_end : (key : ℕ) (value : List ℕ) (r : ℕ) → entry.change ≡ Put key value → s.hold (lock_of p n) ≡ Writes i d n (Whole (leaf_words (left_half leaf key value r)) (rear_at p)) → s.class r ≡ Fresh i → s.node r ≡ leaf_words (right_half leaf key value)
+  split_at : (key : ℕ) (value : List ℕ) (r : ℕ) → entry.change ≡ Put key value → s.hold (lock_of p n) ≡ Writes i d n (Whole (leaf_words (left_half leaf key value r)) (rear_at p)) → s.class r ≡ Fresh i → s.node r ≡ leaf_words (right_half leaf key value)
       → IsSplit leaf key → length value ≡ p.value_words → leaf.version < last_version p
       → let sep : ℕ = separator_of leaf.entries key value in
       let image : List ℕ = leaf_words (left_half leaf key value r) in
       let t : Scene = ended p s n i d image (put s.class r (Linked 0 sep)) (put s.post r (Pending i)) (entry ∷ []) in
       Change p i s t × Ground p (set words (address p (Node n (rear_at p))) (get_or image (rear_at p) 0)) t
-  leaf_split_end key value r put_is e fresh is full words_are version =
+  split_at key value r put_is e fresh is full words_are version =
       let left : Leaf = left_half leaf key value r in
       let right : Leaf = right_half leaf key value in
       let sep : ℕ = separator_of leaf.entries key value in
@@ -177,3 +181,16 @@ module _ (p : ConfigParts) (words : List ℕ) (s : Scene) (g : Ground p words s)
       record { above = within.0; below = within.1; level = sym old.level_is; low = refl; high = refl; next = refl; right_level = sym old.level_is; right_low = refl; right_high = refl; right_next = refl }
       (leaf_stands p (s.log ++ entry ∷ []) (leaf_words left) left refl left_ok (left_once leaf key value r nz) (λ q nq ge less. map_changed s.log entry leaf.entries left.entries q nq (((side q).0 less).0 ∙ change (map_of_entries leaf.entries) q) (stands.map q nq ge (omega (arith, less, within.1)))))
       (leaf_stands p (s.log ++ entry ∷ []) (leaf_words right) right refl right_ok (right_once leaf key value r nz) (λ q nq ge less. map_changed s.log entry leaf.entries right.entries q nq (((side q).1 ge).1 ∙ change (map_of_entries leaf.entries) q) (stands.map q nq (omega (arith, ge, within.0)) less)))
+
+  pub leaf_split_end : (b : Leaf) → b ≡ leaf → (key : ℕ) (value : List ℕ) (r : ℕ) → entry.change ≡ Put key value → s.hold (lock_of p n) ≡ Writes i d n (Whole (leaf_words (left_half b key value r)) (rear_at p)) → s.class r ≡ Fresh i → s.node r ≡ leaf_words (right_half b key value)
+      → IsSplit b key → length value ≡ p.value_words → b.version < last_version p
+      → let sep : ℕ = separator_of b.entries key value in
+      let image : List ℕ = leaf_words (left_half b key value r) in
+      let t : Scene = ended p s n i d image (put s.class r (Linked 0 sep)) (put s.post r (Pending i)) (entry ∷ []) in
+      Change p i s t × Ground p (set words (address p (Node n (rear_at p))) (get_or image (rear_at p) 0)) t
+  leaf_split_end b same key value r put_is = subst (λ (b : Leaf). s.hold (lock_of p n) ≡ Writes i d n (Whole (leaf_words (left_half b key value r)) (rear_at p)) → s.class r ≡ Fresh i → s.node r ≡ leaf_words (right_half b key value)
+      → IsSplit b key → length value ≡ p.value_words → b.version < last_version p
+      → let sep : ℕ = separator_of b.entries key value in
+      let image : List ℕ = leaf_words (left_half b key value r) in
+      let t : Scene = ended p s n i d image (put s.class r (Linked 0 sep)) (put s.post r (Pending i)) (entry ∷ []) in
+      Change p i s t × Ground p (set words (address p (Node n (rear_at p))) (get_or image (rear_at p) 0)) t) (sym same) (split_at key value r put_is)

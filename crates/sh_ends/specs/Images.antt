@@ -1,7 +1,9 @@
 -- What the new image of a linked node, or its two halves, are to the node, its neighbours and its parent.
-use Rattle.std.specs.Prelude.{◌≡◌, ◌≢◌, ◌⊎◌, ◌↔◌, ℕ, suc, ◌+◌, ◌<◌, List, [], ◌∷◌, slice_set}
+use Rattle.std.specs.Prelude.{◌≡◌, ◌≢◌, ◌⊎◌, ◌↔◌, ℕ, suc, ◌+◌, ◌<◌, ◌≤◌, List, [], ◌∷◌, slice_set}
+use Rattle.sh_map.specs.declared.log.Entry.{Entry}
+use Rattle.sh_map.specs.Log.{key_of, map_of, IsNext}
 use Rattle.sh_image.specs.declared.inner.Pair.{Pair}
-use Rattle.sh_scene.specs.Scene.{Linked, Post, Posted, Seat, Scene}
+use Rattle.sh_scene.specs.Scene.{Linked, Post, Posted, Pending, Seat, Scene}
 use Rattle.sh_scene.specs.Nodes.{level_in, low_in, high_in, next_in, IsLinked, LeadsTo}
 use Rattle.sh_scene.specs.Change.{IsPostOf}
 
@@ -39,3 +41,19 @@ pub record PostsOver (s : Scene) (seat level : ℕ) (old new : List Pair) (post 
   pub outside : (n : ℕ) → IsLinked (s.class n) ⊎ (post n ≡ Posted)
   pub kids : (l n : ℕ) → level ≡ suc l → LeadsTo new n → post n ≡ Posted
   pub keeps : (l n : ℕ) → level ≡ suc l → LeadsTo old n → LeadsTo new n
+
+-- a seat's entry that a WRITE of the leaf brings into the log: it fits the log's map, and its key is the leaf's
+pub record IsEntryOf (s : Scene) (seat n low : ℕ) (entry : Entry) : Type 0 where
+  pub linked : s.class n ≡ Linked 0 low
+  pub by : entry.seat ≡ seat
+  pub fits : IsNext (map_of s.log) entry
+  pub from : low_in (s.node n) ≤ key_of entry.change
+  pub below : key_of entry.change < high_in (s.node n)
+
+-- a pair that a seat's WRITE of an inner node posts: its child is of the level below, and the seat is to post it
+pub record IsPairOf (s : Scene) (seat n level low : ℕ) (x : Pair) : Type 0 where
+  pub linked : s.class n ≡ Linked (suc level) low
+  pub child : s.class x.child ≡ Linked level x.separator
+  pub mine : s.post x.child ≡ Pending seat
+  pub from : low_in (s.node n) ≤ x.separator
+  pub below : x.separator < high_in (s.node n)

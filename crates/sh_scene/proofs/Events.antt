@@ -1,5 +1,5 @@
 -- What an event leaves of the words, by the word that it finds.
-use Rattle.std.proofs.Common.{◌≡◌, ◌≢◌, ℕ, ◌+◌, ◌<◌, ◌≤◌, List, get_or, set, refl, ap, sym, ◌∙◌, subst, arith, ne_eqb, eq-eqb}
+use Rattle.std.proofs.Common.{◌≡◌, ◌≢◌, ℕ, ◌+◌, ◌<◌, List, get_or, set, refl, ap, sym, ◌∙◌, arith, ne_eqb, eq-eqb}
 use Rattle.std.specs.Prelude.{◌^◌, ◌%◌}
 use Rattle.std.proofs.Math.Nat.{mod-eq_of_lt}
 use Rattle.sh_base.specs.declared.config.ConfigParts.{ConfigParts}
@@ -8,7 +8,7 @@ use Rattle.sh_base.specs.Setting.{all_locks}
 use Rattle.sh_base.specs.Layout.{lock_word}
 use Rattle.sh_base.specs.Places.{Lock}
 use Rattle.sh_base.specs.Memory.{apply}
-use Rattle.sh_scene.specs.Scene.{Owner, Seat, Right, Hold, Nobody, Held, Writes, hold_word, Scene}
+use Rattle.sh_scene.specs.Scene.{Seat, Right, Hold, Nobody, Held, Writes, hold_word, Scene}
 use Rattle.sh_scene.specs.Ground.{Ground}
 
 pub exchanged : (words : List ℕ) (at old new : ℕ) → get_or words at 0 ≡ old → apply words (Exchange at old new) ≡ set words at new

@@ -1,10 +1,10 @@
 -- A counter that seats raise after they have found it below a limit doesn't pass the limit by more than the seats.
-use Rattle.std.proofs.Common.{◌≡◌, ◌≢◌, ℕ, zero, suc, ◌+◌, ◌<◌, ◌≤◌, Bool, true, false, List, refl, ap, sym, ◌∙◌, subst, arith}
+use Rattle.std.proofs.Common.{◌≡◌, ◌≢◌, ℕ, zero, suc, ◌+◌, ◌<◌, ◌≤◌, Bool, true, false, refl, ap, sym, ◌∙◌, subst, arith}
 use mathlib.Core.Logic.{dite}
 use native.Mathlib.Decide.{ℕ_discrete, dec_le}
 use native.Mathlib.Nat.{lt_of_not-le}
 use Rattle.sh_scene.specs.Scene.{put}
-use Rattle.sh_scene.specs.Counters.{one_where, count, IsAmong, Bounded}
+use Rattle.sh_scene.specs.Counters.{one_where, count, Bounded}
 use Rattle.sh_scene.proofs.Puts.{put_here, put_else}
 
 one_le : (b : Bool) → one_where b ≤ 1

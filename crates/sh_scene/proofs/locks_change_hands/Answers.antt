@@ -1,6 +1,6 @@
 use Rattle.std.proofs.Common.{ℕ, List, sym, subst, ◌∙◌}
 use Rattle.sh_base.specs.Places.{Lock}
-use Rattle.sh_scene.specs.Scene.{Nobody, Held, Seat, hold_word}
+use Rattle.sh_scene.specs.Scene.{Held, Seat, hold_word}
 use Rattle.sh_scene.specs.Ground.{Ground}
 use Rattle.sh_scene.specs.Change.{Change}
 use Rattle.sh_scene.specs.Acts.{with_hold}

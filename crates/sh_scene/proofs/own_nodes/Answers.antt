@@ -1,7 +1,6 @@
 use Rattle.std.proofs.Common.{ℕ, ◌+◌, ◌*◌, ◌<◌, ◌≤◌, List, sym, subst, arith}
 use Rattle.std.specs.Prelude.{◌^◌}
 use Rattle.std.proofs.lemmas.Nat.{mul-le}
-use Rattle.sh_base.specs.Setting.{all_seats}
 use Rattle.sh_base.specs.Places.{Counter}
 use Rattle.sh_scene.specs.Ground.{Ground}
 use Rattle.sh_scene.specs.Change.{Change}
@@ -9,7 +8,7 @@ use Rattle.sh_scene.specs.Acts.{counted, drawn}
 use Rattle.sh_scene.specs.Counters.{IsAmong}
 use Rattle.sh_scene.proofs.Own.{fresh_act, spent_act, draw_act}
 use Rattle.sh_scene.proofs.Events.{added}
-use Rattle.sh_scene.proofs.Late.{bounded, finds_below, raises}
+use Rattle.sh_scene.proofs.Late.{bounded, raises}
 use Rattle.sh_scene.proofs.own_nodes.Goals as goal
 
 pub returns-clause-filled : goal.returns-clause-filled

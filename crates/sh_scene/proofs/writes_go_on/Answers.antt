@@ -1,6 +1,5 @@
-use Rattle.std.proofs.Common.{ℕ, ◌≤◌, List, sym, subst}
+use Rattle.std.proofs.Common.{◌≤◌, subst}
 use Rattle.sh_base.specs.Layout.{lock_of}
-use Rattle.sh_scene.specs.Scene.{Hold}
 use Rattle.sh_scene.specs.Nodes.{Orderly}
 use Rattle.sh_scene.proofs.Scenes.{moment_of}
 use Rattle.sh_scene.proofs.Holds.{writer_held, writer_writes, go_act}

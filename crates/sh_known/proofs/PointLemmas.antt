@@ -49,10 +49,13 @@ module _ (p : ConfigParts) (log : List Entry) (first : ℕ) where
           let es : List LeafEntry = entries_of p s in
           let below : i < length es = omega (arith, lt, length-entries_of p s) in
           let rules : IsEntry p (low_in s) (high_in s) (entry_of p s i) = all_at (IsEntry p (low_in s) (high_in s)) es i no_entry part.spells.lawful.entries below in
-          record { rules = rules; had = λ nz. elim rules.within [
-            | inl z ↦ absurd (nz z.0)
-            | inr z ↦ had_now log first (entry_of p s i).key (Some (entry_of p s i).value) since (sym (part.map (entry_of p s i).key nz z.0 z.2) ∙ held_at es (entry_of p s i).key i (first_with es (entry_of p s i).key i part.once nz below refl))
-          ] };
+          record {
+            rules = rules;
+            had = λ nz. elim rules.within [
+              | inl z ↦ absurd (nz z.0)
+              | inr z ↦ had_now log first (entry_of p s i).key (Some (entry_of p s i).value) since (sym (part.map (entry_of p s i).key nz z.0 z.2) ∙ held_at es (entry_of p s i).key i (first_with es (entry_of p s i).key i part.once nz below refl))
+            ];
+          };
     }
 
     -- a key that no entry of the leaf has is absent now

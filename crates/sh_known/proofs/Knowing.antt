@@ -1,26 +1,25 @@
 -- What a READ of a leaf knows begins with its first load, is kept by each event, and grows by each load.
-use Rattle.std.proofs.Common.{◌≡◌, ◌≢◌, ◌⊎◌, ℕ, zero, suc, ◌+◌, ◌<◌, ◌≤◌, List, [], ◌∷◌, ◌++◌, length, length-append, get_or, set, drop, Option, Some, None, refl, sym, ap, ◌∙◌, subst, inl, inr, arith}
-use Rattle.std.proofs.lemmas.Bool.{cases_eq, cases_lt}
+use Rattle.std.proofs.Common.{◌≡◌, ◌≢◌, ◌⊎◌, ℕ, zero, suc, ◌+◌, ◌<◌, ◌≤◌, List, ◌++◌, length, length-append, get_or, set, None, refl, sym, ap, ◌∙◌, subst, inl, inr, arith}
+use Rattle.std.proofs.lemmas.Bool.{cases_eq}
 use Rattle.std.proofs.lemmas.Grind.{same_number_lists}
 use Rattle.std.proofs.lemmas.List.{get_or-set_same, get_or-set_other}
 use Rattle.sh_base.specs.declared.config.ConfigParts.{ConfigParts}
 use Rattle.sh_base.specs.Setting.{node_size}
 use Rattle.sh_base.specs.Layout.{entry_at, entry_rear_at, rear_at}
-use Rattle.sh_base.proofs.LayoutLemmas.{entry_within, entry_apart, entry_high, entry_low, entry_size_is, node_size_is, rear_at_low}
+use Rattle.sh_base.proofs.LayoutLemmas.{entry_within, entry_apart, entry_size_is, node_size_is}
 use Rattle.sh_map.specs.declared.log.Entry.{Entry}
 use Rattle.sh_image.specs.declared.leaf.LeafEntry.{LeafEntry}
-use Rattle.sh_image.specs.Leaf.{Leaf, IsEntry, IsLeaf, leaf_in, Spells}
+use Rattle.sh_image.specs.Leaf.{IsEntry, IsLeaf, leaf_in}
 use Rattle.sh_image.specs.Seen.{IsUntorn}
 use Rattle.sh_image.proofs.ReadLemmas.{words_from_untorn, header_spelled}
-use Rattle.sh_edit.specs.Held.{held, HasKeysOnce, key_at, no_entry}
-use Rattle.sh_edit.specs.Placing.{HasNone}
+use Rattle.sh_edit.specs.Held.{key_at, no_entry}
 use Rattle.sh_read.specs.Moments.{Writing, Idle, Whole, One, word, IsWriting, IsMoment, Next, still, begin_whole, more_whole, end_whole, begin_one, more_one, end_one}
-use Rattle.sh_read.specs.Reading.{IsHead, IsIn, NotWhole, NotOne, IsCalm, FitsRead}
+use Rattle.sh_read.specs.Reading.{IsIn, NotWhole, NotOne, IsCalm, FitsRead}
 use Rattle.sh_read.proofs.Words.{ended_head, ended_other, word_other, word_front}
-use Rattle.sh_read.proofs.Read.{FitsRead-next, FitsRead-load, FitsRead-begin, FitsRead-weaker, accepted}
+use Rattle.sh_read.proofs.Read.{FitsRead-next, FitsRead-load, FitsRead-begin, accepted}
 use Rattle.sh_scene.specs.Nodes.{low_in, high_in, next_in, entries_of, IsStandingLeaf}
 use Rattle.sh_ends.proofs.EntryWords.{same_entry, length-entries_of}
-use Rattle.sh_known.specs.Points.{entry_of, HadAt, IsGoodEntry, IsGoodNode, FitsKey, LoadedFrom, Agree, IsReadLeaf}
+use Rattle.sh_known.specs.Points.{entry_of, HadAt, IsGoodEntry, IsGoodNode, FitsKey, LoadedFrom, IsReadLeaf}
 use Rattle.sh_known.specs.Knows.{Knows}
 use Rattle.sh_known.proofs.KeyLemmas.{key_weaker, key_begin, key_same, key_load, key_written, key_end}
 use Rattle.sh_known.proofs.PointLemmas.{from_each, HadAt-more, good_on, good_now, absent_now, replied}

@@ -1,3 +1,4 @@
 pub mod KeyLemmas
 pub mod PointLemmas
 pub mod Knowing
+pub mod Known

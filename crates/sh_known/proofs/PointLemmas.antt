@@ -1,5 +1,5 @@
 -- The facts on points are true of what stands, and stay true as the log grows.
-use Rattle.std.proofs.Common.{◌≡◌, ◌≢◌, ◌⊎◌, ℕ, zero, suc, ◌+◌, ◌<◌, ◌≤◌, List, [], ◌∷◌, ◌++◌, length, length-append, get_or, drop, take, Option, Some, None, refl, sym, ap, ◌∙◌, subst, inl, inr, arith}
+use Rattle.std.proofs.Common.{◌≡◌, ◌≢◌, ℕ, zero, suc, ◌<◌, ◌≤◌, List, [], ◌∷◌, ◌++◌, length, length-append, get_or, Option, Some, None, refl, sym, ap, ◌∙◌, subst, inl, inr, arith}
 use Rattle.std.specs.List.{AllByRecursion}
 use Rattle.std.proofs.lemmas.List.{take-append-le}
 use Rattle.sh_base.specs.declared.config.ConfigParts.{ConfigParts}
@@ -10,12 +10,11 @@ use Rattle.sh_map.specs.Log.{map_of, map_at}
 use Rattle.sh_map.proofs.LogLemmas.{map_at-length}
 use Rattle.sh_image.specs.declared.leaf.LeafEntry.{LeafEntry}
 use Rattle.sh_image.specs.Leaf.{IsEntry}
-use Rattle.sh_edit.specs.Held.{held, key_at, HasKeysOnce, no_entry}
-use Rattle.sh_edit.specs.Placing.{IsFirstWith, HasNone}
+use Rattle.sh_edit.specs.Held.{held, no_entry}
+use Rattle.sh_edit.specs.Placing.{HasNone}
 use Rattle.sh_edit.proofs.HeldLemmas.{held_at, held_none}
-use Rattle.sh_read.specs.Reading.{IsIn}
 use Rattle.sh_scene.specs.Nodes.{low_in, high_in, entries_of, IsStandingLeaf}
-use Rattle.sh_ends.proofs.EntryWords.{same_entry, length-entries_of}
+use Rattle.sh_ends.proofs.EntryWords.{length-entries_of}
 use Rattle.sh_known.specs.Points.{entry_of, HadAt, IsGoodEntry, IsGoodNode}
 use Rattle.sh_known.proofs.KeyLemmas.{first_with, first_or_none}
 

@@ -1,6 +1,6 @@
 -- The tree that the words of a pool hold while no node is being written: its levels, its map, and its unposted nodes.
-use Rattle.std.specs.Prelude.{◌≡◌, ℕ, ◌+◌, ◌-◌, ◌^◌, List, [], ◌∷◌, drop, length, map, not, true, slice_index}
-use Rattle.std.specs.List.{concat, count_by, flat_map, AllByRecursion}
+use Rattle.std.specs.Prelude.{◌≡◌, ℕ, ◌+◌, ◌-◌, ◌^◌, List, [], ◌∷◌, drop, length, map, true, slice_index}
+use Rattle.std.specs.List.{concat, flat_map, AllByRecursion}
 use Rattle.std.specs.FinMap.{from_entries}
 use Rattle.sh_base.specs.declared.config.ConfigParts.{ConfigParts}
 use Rattle.sh_base.specs.Setting.{IsNode}
@@ -9,7 +9,7 @@ use Rattle.sh_map.specs.Map.{Map}
 use Rattle.sh_image.specs.declared.inner.Image.TheVariants.{Leaf, Inner}
 use Rattle.sh_image.specs.declared.inner.Pair.{Pair}
 use Rattle.sh_edit.specs.Held.{pairs_of, HasKeysOnce}
-use Rattle.sh_tree.specs.Lists.{first_of, is_in, AreDifferent}
+use Rattle.sh_tree.specs.Lists.{first_of, is_in, outside, AreDifferent}
 use Rattle.sh_tree.specs.Nodes.{NodeIn, leaf_at, inner_at, low_at, high_at, next_at}
 
 -- The nodes of a level whose keys lie from low on: each begins where the one before ends and is named by it, and the
@@ -74,7 +74,7 @@ children_of p words nodes = flat_map (λ n. map (λ x. x.child) (inner_at p word
 -- a level that names these
 abbrev pub unnamed_from : ConfigParts → List ℕ → (named : List ℕ) → List (List ℕ) → ℕ
 unnamed_from p words named [] = 0
-unnamed_from p words named (chain ∷ below) = count_by (λ n. not (is_in named n)) (drop 1 chain) + unnamed_from p words (children_of p words chain) below
+unnamed_from p words named (chain ∷ below) = outside named (drop 1 chain) + unnamed_from p words (children_of p words chain) below
 
 -- how many nodes of a tree aren't the first of their level and aren't named by a node of the level above
 abbrev pub unposted_in : ConfigParts → List ℕ → List (List ℕ) → ℕ

@@ -1,5 +1,5 @@
 -- The last store of a WRITE of a linked node: over the same fences, or as a split, on any level.
-use Rattle.std.proofs.Common.{◌≡◌, ◌≢◌, ◌⊎◌, ℕ, suc, ◌<◌, ◌≤◌, List, ◌++◌, length, set, refl, ap, sym, ◌∙◌, subst, ⊎_elim, inl, inr, arith}
+use Rattle.std.proofs.Common.{◌≡◌, ◌≢◌, ◌⊎◌, None, ℕ, suc, ◌<◌, ◌≤◌, List, ◌++◌, length, set, refl, ap, sym, ◌∙◌, subst, ⊎_elim, inl, inr, arith}
 use Rattle.std.specs.Prelude.{◌-◌, ◌^◌, ◌↔◌}
 use mathlib.Core.Logic.{dite}
 use native.Mathlib.Decide.{ℕ_discrete}
@@ -8,7 +8,8 @@ use Rattle.sh_base.specs.Setting.{node_size}
 use Rattle.sh_base.specs.Layout.{lock_of}
 use Rattle.sh_base.specs.Places.{Site, Own, Root, Counter, Lock, Node, address, IsSite}
 use Rattle.sh_map.specs.declared.log.Entry.{Entry}
-use Rattle.sh_map.specs.Log.{IsLegal}
+use Rattle.sh_map.specs.Map.{get}
+use Rattle.sh_map.specs.Log.{map_of, IsLegal}
 use Rattle.sh_read.specs.Moments.{Writing, Idle, word, Next, still}
 use Rattle.sh_scene.specs.Scene.{Class, Undrawn, Fresh, Linked, Post, Posted, Pending, Owner, Seat, Hold, Held, Writes, Owns, hold_word, Scene, put, writing_of, writing, shown}
 use Rattle.sh_scene.specs.Nodes.{level_in, low_in, high_in, next_in, IsLinked, LeadsTo, pairs_in, Body, Follows, Sits, AreApart, Orderly}
@@ -24,7 +25,7 @@ use Rattle.sh_scene.proofs.Posts.{pending_of, posted_of}
 
 module _ (p : ConfigParts) (words : List ℕ) (s : Scene) (g : Ground p words s) (i d n lv a : ℕ) (image : List ℕ) (w : Writing) (at x : ℕ) (more : List Entry)
     (link : s.class n ≡ Linked lv a) (k : IsWriter p (s.hold (lock_of p n)) i d n w) (bound : d ≤ p.bound) (e : Ends p (s.node n) w image at x)
-    (mades : (j : ℕ) → Seat j ≢ Seat i → HasNoneOf j more) (legal : IsLegal (s.log ++ more)) where
+    (mades : (j : ℕ) → Seat j ≢ Seat i → HasNoneOf j more) (legal : IsLegal (s.log ++ more)) (bare : (key : ℕ) → (key ≡ 0) ⊎ (2 ^ 64 - 1 ≤ key) → get (map_of (s.log ++ more)) key ≡ None) where
   old : Sits p s n lv a
   old = g.sits n lv a link
 
@@ -78,6 +79,7 @@ module _ (p : ConfigParts) (words : List ℕ) (s : Scene) (g : Ground p words s)
           children = children;
           posted = posted;
           legal = legal;
+          bare = bare;
         },
       )
     where

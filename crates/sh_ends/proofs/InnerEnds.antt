@@ -1,5 +1,6 @@
 -- An inner node's WRITE ends: a pair was added, or the node was split at one.
-use Rattle.std.proofs.Common.{◌≡◌, ◌⊎◌, ℕ, zero, suc, ◌*◌, ◌<◌, ◌≤◌, List, [], ◌∷◌, ◌++◌, length, take, drop, get_or, set, refl, ap, sym, ◌∙◌, subst, ⊎_elim, inl, inr, arith, append-nil}
+use Rattle.std.specs.Prelude.{◌-◌, ◌^◌}
+use Rattle.std.proofs.Common.{◌≡◌, ◌⊎◌, None, ℕ, zero, suc, ◌*◌, ◌<◌, ◌≤◌, List, [], ◌∷◌, ◌++◌, length, take, drop, get_or, set, refl, ap, sym, ◌∙◌, subst, ⊎_elim, inl, inr, arith, append-nil}
 use Rattle.std.specs.List.{AllByRecursion}
 use Rattle.std.proofs.lemmas.Bool.{cases_lt}
 use Rattle.std.proofs.lemmas.List.{take-append-drop}
@@ -9,7 +10,9 @@ use Rattle.sh_base.specs.declared.config.ConfigParts.{ConfigParts}
 use Rattle.sh_base.specs.Setting.{last_version, IsSetting}
 use Rattle.sh_base.specs.Layout.{lock_of, rear_at}
 use Rattle.sh_base.specs.Places.{Node, address}
-use Rattle.sh_map.specs.Log.{IsLegal}
+use Rattle.sh_map.specs.declared.log.Entry.{Entry}
+use Rattle.sh_map.specs.Map.{get}
+use Rattle.sh_map.specs.Log.{map_of, IsLegal}
 use Rattle.sh_image.specs.declared.inner.Pair.{Pair}
 use Rattle.sh_image.specs.Inner.{Inner, IsInner, inner_in, inner_words, HasChild}
 use Rattle.sh_edit.specs.Pairing.{pairs_with, with_pair, middle_of, left_inner, right_inner, IsNew}
@@ -138,7 +141,7 @@ module _ (p : ConfigParts) (words : List ℕ) (s : Scene) (g : Ground p words s)
       let lawful : IsInner p b = with_lawful p inner x stands.spells.lawful room new lo hi real version in
       let pairs : pairs_in (inner_words p b) ≡ pairs_with inner.pairs x = ap (λ (c : Inner). c.pairs) (inner_is p (inner_words p b) b refl lawful) in
       over_end p words s g i d n (suc l) a (inner_words p b) (Whole (inner_words p b) (rear_at p)) (rear_at p) (get_or (inner_words p b) (rear_at p) 0) [] link (writer_writes p (s.hold (lock_of p n)) i d n _ e) bound
-      (whole_ends p (suc l) (s.node n) (inner_words p b) (inner_long p b ok.ranged.value_words.0 lawful)) (λ j ne. tt) (subst IsLegal same_log g.legal) (put s.post x.child Posted)
+      (whole_ends p (suc l) (s.node n) (inner_words p b) (inner_long p b ok.ranged.value_words.0 lawful)) (λ j ne. tt) (subst IsLegal same_log g.legal) (subst (λ (log : List Entry). (key : ℕ) → (key ≡ 0) ⊎ (2 ^ 64 - 1 ≤ key) → get (map_of log) key ≡ None) same_log g.bare) (put s.post x.child Posted)
       (subst (λ (xs : List Pair). PostsOver s i (suc l) inner.pairs xs (put s.post x.child Posted)) (sym pairs) posts)
       record { level = refl; low = refl; high = refl; next = refl }
       (inner_stands p t l (inner_words p b) b refl lawful (all_with (λ (y : Pair). s.class y.child ≡ Linked l y.separator) inner.pairs x child stands.children))
@@ -167,7 +170,7 @@ module _ (p : ConfigParts) (words : List ℕ) (s : Scene) (g : Ground p words s)
       let right_pairs : pairs_in (inner_words p right) ≡ drop p.leaf (pairs_with inner.pairs x) = ap (λ (c : Inner). c.pairs) (inner_is p (inner_words p right) right refl right_ok) in
       let joined : pairs_in (inner_words p left) ++ pairs_in (inner_words p right) ≡ pairs_with inner.pairs x = (λ z. left_pairs z ++ right_pairs z) ∙ take-append-drop p.leaf (pairs_with inner.pairs x) in
       split_end p words s g i d n (suc l) a (inner_words p left) (Whole (inner_words p left) (rear_at p)) (rear_at p) (get_or (inner_words p left) (rear_at p) 0) [] link (writer_writes p (s.hold (lock_of p n)) i d n _ e) bound
-      (whole_ends p (suc l) (s.node n) (inner_words p left) (inner_long p left ok.ranged.value_words.0 left_ok)) (λ j ne. tt) (subst IsLegal same_log g.legal) r sep (inner_words p right) fresh is
+      (whole_ends p (suc l) (s.node n) (inner_words p left) (inner_long p left ok.ranged.value_words.0 left_ok)) (λ j ne. tt) (subst IsLegal same_log g.legal) (subst (λ (log : List Entry). (key : ℕ) → (key ≡ 0) ⊎ (2 ^ 64 - 1 ≤ key) → get (map_of log) key ≡ None) same_log g.bare) r sep (inner_words p right) fresh is
       record { above = within.0; below = within.1; level = refl; low = refl; high = refl; next = refl; right_level = refl; right_low = refl; right_high = refl; right_next = refl }
       (put s.post x.child Posted)
       (subst (λ (xs : List Pair). PostsOver s i (suc l) inner.pairs xs (put s.post x.child Posted)) (sym joined) posts)

@@ -1,5 +1,6 @@
 -- A leaf's WRITE ends, and its entry comes into the log.
-use Rattle.std.proofs.Common.{◌≡◌, ◌≢◌, ℕ, zero, suc, ◌+◌, ◌<◌, ◌≤◌, List, [], ◌∷◌, ◌++◌, length, get_or, set, refl, ap, sym, ◌∙◌, subst, ⊎_elim, inl, inr, arith}
+use Rattle.std.specs.Prelude.{◌-◌, ◌^◌}
+use Rattle.std.proofs.Common.{None, ◌⊎◌, ◌≡◌, ◌≢◌, ℕ, zero, suc, ◌+◌, ◌<◌, ◌≤◌, List, [], ◌∷◌, ◌++◌, length, get_or, set, refl, ap, sym, ◌∙◌, subst, ⊎_elim, inl, inr, arith}
 use Rattle.std.specs.Prelude.{◌^◌}
 use Rattle.std.proofs.lemmas.Bool.{cases_eq}
 use Rattle.sh_base.specs.declared.config.ConfigParts.{ConfigParts}
@@ -65,12 +66,15 @@ leaf_else p log entry ws away h = record {
 
 module _ (p : ConfigParts) (words : List ℕ) (s : Scene) (g : Ground p words s) (i d n a : ℕ) (image : List ℕ) (w : Writing) (at x : ℕ) (entry : Entry)
     (link : s.class n ≡ Linked 0 a) (k : IsWriter p (s.hold (lock_of p n)) i d n w) (bound : d ≤ p.bound) (e : Ends p (s.node n) w image at x)
-    (by : entry.seat ≡ i) (next : IsNext (map_of s.log) entry) (lo : low_in (s.node n) ≤ key_of entry.change) (hi : key_of entry.change < high_in (s.node n)) where
+    (by : entry.seat ≡ i) (next : IsNext (map_of s.log) entry) (some : 1 ≤ key_of entry.change) (lo : low_in (s.node n) ≤ key_of entry.change) (hi : key_of entry.change < high_in (s.node n)) where
   mades : (j : ℕ) → Seat j ≢ Seat i → HasNoneOf j (entry ∷ [])
   mades j ne = ((λ q. ne (ap Seat (sym q ∙ by))), tt)
 
   legal : IsLegal (s.log ++ entry ∷ [])
   legal = IsLegal-push s.log entry g.legal next
+
+  bare : (key : ℕ) → (key ≡ 0) ⊎ (2 ^ 64 - 1 ≤ key) → get (map_of (s.log ++ entry ∷ [])) key ≡ None
+  bare key out = ap (λ (m : Map). get m key) (map_of-push s.log entry) ∙ changed_other (map_of s.log) entry.change key (λ z. ⊎_elim (λ (e : key ≡ 0). omega (arith, e, z, some)) (λ (le : 2 ^ 64 - 1 ≤ key). omega (arith, le, z, hi, (g.sits n 0 a link).past)) out) ∙ g.bare key out
 
   old_low : low_in (s.node n) ≡ a
   old_low = (g.sits n 0 a link).low_is
@@ -95,12 +99,12 @@ module _ (p : ConfigParts) (words : List ℕ) (s : Scene) (g : Ground p words s)
 
   pub leaf_end : IsOver (s.node n) image → IsStandingLeaf p (s.log ++ entry ∷ []) image
       → Change p i s (ended p s n i d image s.class s.post (entry ∷ [])) × Ground p (set words (address p (Node n at)) x) (ended p s n i d image s.class s.post (entry ∷ []))
-  leaf_end over body = over_end p words s g i d n 0 a image w at x (entry ∷ []) link k bound e mades legal s.post (none_new (pairs_in image)) over body (others (ended p s n i d image s.class s.post (entry ∷ [])) refl (λ m l b f. f))
+  leaf_end over body = over_end p words s g i d n 0 a image w at x (entry ∷ []) link k bound e mades legal bare s.post (none_new (pairs_in image)) over body (others (ended p s n i d image s.class s.post (entry ∷ [])) refl (λ m l b f. f))
 
   pub leaf_split : (r sep : ℕ) (right : List ℕ) → s.class r ≡ Fresh i → s.node r ≡ right → IsHalved (s.node n) image right r sep → IsStandingLeaf p (s.log ++ entry ∷ []) image → IsStandingLeaf p (s.log ++ entry ∷ []) right
       → Change p i s (ended p s n i d image (put s.class r (Linked 0 sep)) (put s.post r (Pending i)) (entry ∷ [])) × Ground p (set words (address p (Node n at)) x) (ended p s n i d image (put s.class r (Linked 0 sep)) (put s.post r (Pending i)) (entry ∷ []))
   leaf_split r sep right fresh is halved left_body right_body =
-      split_end p words s g i d n 0 a image w at x (entry ∷ []) link k bound e mades legal r sep right fresh is halved s.post (none_new (pairs_in image ++ pairs_in right)) left_body right_body
+      split_end p words s g i d n 0 a image w at x (entry ∷ []) link k bound e mades legal bare r sep right fresh is halved s.post (none_new (pairs_in image ++ pairs_in right)) left_body right_body
       (others (ended p s n i d image (put s.class r (Linked 0 sep)) (put s.post r (Pending i)) (entry ∷ [])) refl (λ m l b f. put_else s.class r (Linked 0 sep) m (λ q. fresh_linked i l b (sym fresh ∙ ap s.class (sym q) ∙ f)) ∙ f))
 
 -- a writer's handovers
@@ -110,7 +114,7 @@ bound_of p words s g i d n w e = let o : Orderly p s (lock_of p n) (Writes i d n
 -- What the last store of a leaf's WRITE is, by how the leaf changes.
 module _ (p : ConfigParts) (words : List ℕ) (s : Scene) (g : Ground p words s) (i d n a : ℕ) (entry : Entry)
     (link : s.class n ≡ Linked 0 a) (bound : d ≤ p.bound)
-    (by : entry.seat ≡ i) (next : IsNext (map_of s.log) entry) (lo : low_in (s.node n) ≤ key_of entry.change) (hi : key_of entry.change < high_in (s.node n)) where
+    (by : entry.seat ≡ i) (next : IsNext (map_of s.log) entry) (some : 1 ≤ key_of entry.change) (lo : low_in (s.node n) ≤ key_of entry.change) (hi : key_of entry.change < high_in (s.node n)) where
   abbrev leaf : Leaf
   leaf = leaf_in p (s.node n)
 
@@ -130,7 +134,7 @@ module _ (p : ConfigParts) (words : List ℕ) (s : Scene) (g : Ground p words s)
       let is = leaf_patched p node j x (g.long n) lt good.value in
       leaf_end p words s g i d n a image (One j (entry_words x) (2 + p.value_words)) (entry_rear_at p j) (get_or (entry_words x) (2 + p.value_words) 0) entry link (writer_writes p (s.hold (lock_of p n)) i d n _ e) bound
       (one_ends p 0 node (entry_words x) j image lt (length-patched node (entry_at p j) (entry_words x) ∙ g.long n) (patched_word p node j (entry_words x) lt (g.long n) size))
-      by next lo hi
+      by next some lo hi
       record { level = patched_level j x; low = ap (λ (b : Leaf). b.low) is; high = ap (λ (b : Leaf). b.high) is; next = ap (λ (b : Leaf). b.next) is }
       record {
         spells = spelled_patched p node j x (g.long n) lt good.value stands.spells good;
@@ -149,7 +153,7 @@ module _ (p : ConfigParts) (words : List ℕ) (s : Scene) (g : Ground p words s)
       Change p i s t × Ground p (set words (address p (Node n (rear_at p))) (get_or (leaf_words b) (rear_at p) 0)) t
   rewritten_end b e lawful low high after once map =
       leaf_end p words s g i d n a (leaf_words b) (Whole (leaf_words b) (rear_at p)) (rear_at p) (get_or (leaf_words b) (rear_at p) 0) entry link (writer_writes p (s.hold (lock_of p n)) i d n _ e) bound
-      (whole_ends p 0 (s.node n) (leaf_words b) (leaf_long p b lawful)) by next lo hi
+      (whole_ends p 0 (s.node n) (leaf_words b) (leaf_long p b lawful)) by next some lo hi
       record { level = sym (g.sits n 0 a link).level_is; low = low; high = high; next = after }
       (leaf_stands p (s.log ++ entry ∷ []) (leaf_words b) b refl lawful once (λ q nz ge less. map_changed s.log entry leaf.entries b.entries q nz (ap (λ (m : Map). get m q) map) (stands.map q nz (omega (arith, ge, low)) (omega (arith, less, high)))))
 
@@ -177,7 +181,7 @@ module _ (p : ConfigParts) (words : List ℕ) (s : Scene) (g : Ground p words s)
       let side = sides leaf key value r full.some nz full.lacks full.full full.once in
       let change : (m : Map) (q : ℕ) → get (map.put m key value) q ≡ get (changed m entry.change) q = λ m q. ap (λ (c : MapChange). get (changed m c) q) (sym put_is) in
       leaf_split p words s g i d n a (leaf_words left) (Whole (leaf_words left) (rear_at p)) (rear_at p) (get_or (leaf_words left) (rear_at p) 0) entry link (writer_writes p (s.hold (lock_of p n)) i d n _ e) bound
-      (whole_ends p 0 (s.node n) (leaf_words left) (leaf_long p left left_ok)) by next lo hi r sep (leaf_words right) fresh is
+      (whole_ends p 0 (s.node n) (leaf_words left) (leaf_long p left left_ok)) by next some lo hi r sep (leaf_words right) fresh is
       record { above = within.0; below = within.1; level = sym old.level_is; low = refl; high = refl; next = refl; right_level = sym old.level_is; right_low = refl; right_high = refl; right_next = refl }
       (leaf_stands p (s.log ++ entry ∷ []) (leaf_words left) left refl left_ok (left_once leaf key value r nz) (λ q nq ge less. map_changed s.log entry leaf.entries left.entries q nq (((side q).0 less).0 ∙ change (map_of_entries leaf.entries) q) (stands.map q nq ge (omega (arith, less, within.1)))))
       (leaf_stands p (s.log ++ entry ∷ []) (leaf_words right) right refl right_ok (right_once leaf key value r nz) (λ q nq ge less. map_changed s.log entry leaf.entries right.entries q nq (((side q).1 ge).1 ∙ change (map_of_entries leaf.entries) q) (stands.map q nq (omega (arith, ge, within.0)) less)))

@@ -47,6 +47,7 @@ pub record IsEntryOf (s : Scene) (seat n low : ℕ) (entry : Entry) : Type 0 whe
   pub linked : s.class n ≡ Linked 0 low
   pub by : entry.seat ≡ seat
   pub fits : IsNext (map_of s.log) entry
+  pub key : 1 ≤ key_of entry.change
   pub from : low_in (s.node n) ≤ key_of entry.change
   pub below : key_of entry.change < high_in (s.node n)
 

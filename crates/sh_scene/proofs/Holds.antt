@@ -82,6 +82,7 @@ module _ (p : ConfigParts) (words : List ℕ) (s : Scene) (g : Ground p words s)
           children = g.children;
           posted = λ n k a e z. let u = g.posted n k a e z in elim u [ inl q ↦ inl q | inr h ↦ inr record { parent = h.parent; low = h.low; linked = h.linked; leads = h.leads } ];
           legal = g.legal;
+          bare = g.bare;
         },
       )
 

@@ -61,6 +61,7 @@ module _ (p : ConfigParts) (words : List ℕ) (s : Scene) (g : Ground p words s)
           children = λ q l b n f h. g.children q l b n f (subst (λ (zs : List ℕ). LeadsTo (pairs_in zs) n) (stays q (suc l) b f) h);
           posted = λ n l a f q. ⊎_elim (λ z. inl z) (λ (z : HasParent s l n). inr record { parent = z.parent; low = z.low; linked = z.linked; leads = subst (λ (zs : List ℕ). LeadsTo (pairs_in zs) n) (sym (stays z.parent (suc l) z.low z.linked)) z.leads }) (g.posted n l a f q);
           legal = g.legal;
+          bare = g.bare;
         },
       )
     where
@@ -121,6 +122,7 @@ module _ (p : ConfigParts) (words : List ℕ) (s : Scene) (g : Ground p words s)
           children = λ q l b n e h. g.children q l b n (from q (suc l) b e) h;
           posted = λ n l a e q. ⊎_elim (λ z. inl z) (λ (z : HasParent s l n). inr record { parent = z.parent; low = z.low; linked = on z.parent (suc l) z.low z.linked; leads = z.leads }) (g.posted n l a (from n l a e) q);
           legal = g.legal;
+          bare = g.bare;
         },
       )
     where

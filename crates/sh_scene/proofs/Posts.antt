@@ -67,6 +67,7 @@ module _ (p : ConfigParts) (words : List ℕ) (s : Scene) (g : Ground p words s)
           posted = λ m k b e. put_case (λ z. z ≡ Posted → (b ≡ 0) ⊎ HasParent t k m) s.post n (Skipped i) m (λ q z. absurd (skipped_posted i z))
               (λ q z. ⊎_elim (λ v. inl v) (λ (h : HasParent s k m). inr record { parent = h.parent; low = h.low; linked = h.linked; leads = h.leads }) (g.posted m k b e z));
           legal = g.legal;
+          bare = g.bare;
         },
       )
     where

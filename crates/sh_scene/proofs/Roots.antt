@@ -125,6 +125,7 @@ module _ (p : ConfigParts) (words : List ℕ) (s : Scene) (g : Ground p words s)
               (λ (v : m ≡ r). let w = linked_is k b (suc h) 0 (sym f ∙ ap t.class v ∙ r_is) in inl w.1)
               (λ (ne : m ≢ r). ⊎_elim (λ (v : b ≡ 0). inl v) (λ (u : HasParent s k m). inr record { parent = u.parent; low = u.low; linked = on u.parent (suc k) u.low u.linked; leads = u.leads }) (g.posted m k b (from m k b ne f) z)));
           legal = g.legal;
+          bare = g.bare;
         },
       )
     where

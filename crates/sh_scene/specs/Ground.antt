@@ -1,9 +1,10 @@
 -- All that holds of the words in memory at each moment, whoever the clients are.
-use Rattle.std.specs.Prelude.{◌≡◌, ◌≢◌, ◌⊎◌, ℕ, suc, ◌+◌, ◌<◌, ◌≤◌, List, length}
+use Rattle.std.specs.Prelude.{◌≡◌, ◌≢◌, ◌⊎◌, ℕ, suc, ◌+◌, ◌-◌, ◌^◌, ◌<◌, ◌≤◌, List, length, None}
 use Rattle.sh_base.specs.declared.config.ConfigParts.{ConfigParts}
 use Rattle.sh_base.specs.Setting.{node_size, IsNode}
 use Rattle.sh_base.specs.Layout.{first_node}
-use Rattle.sh_map.specs.Log.{IsLegal}
+use Rattle.sh_map.specs.Map.{get}
+use Rattle.sh_map.specs.Log.{map_of, IsLegal}
 use Rattle.sh_scene.specs.Scene.{Undrawn, Fresh, Linked, Posted, Scene, shown, Shows}
 use Rattle.sh_scene.specs.Nodes.{IsLinked, LeadsTo, pairs_in, Sits, AreApart, Orderly}
 
@@ -21,7 +22,7 @@ pub record HasParent (s : Scene) (level n : ℕ) : Type 0 where
 
 -- The words show the scene. Each linked node sits in its level; two of a level are apart. The root is the first node of
 -- the top level. A chunk's nodes are undrawn up to its draw. A posted node is the first of its level or has a parent, and
--- no other node is either.
+-- no other node is either. The log's map has keys alone: neither 0 nor the greatest word.
 pub record Ground (p : ConfigParts) (words : List ℕ) (s : Scene) : Type 0 where
   pub shows : Shows p words (shown p s)
   pub long : (n : ℕ) → length (s.node n) ≡ node_size p
@@ -37,3 +38,4 @@ pub record Ground (p : ConfigParts) (words : List ℕ) (s : Scene) : Type 0 wher
   pub children : (parent level low n : ℕ) → s.class parent ≡ Linked (suc level) low → LeadsTo (pairs_in (s.node parent)) n → s.post n ≡ Posted
   pub posted : (n level low : ℕ) → s.class n ≡ Linked level low → s.post n ≡ Posted → (low ≡ 0) ⊎ HasParent s level n
   pub legal : IsLegal s.log
+  pub bare : (key : ℕ) → (key ≡ 0) ⊎ (2 ^ 64 - 1 ≤ key) → get (map_of s.log) key ≡ None

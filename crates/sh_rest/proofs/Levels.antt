@@ -1,12 +1,12 @@
 -- A level of the tree as a list, and the levels from one down.
-use Rattle.std.proofs.Common.{◌≡◌, ◌≢◌, ◌⊎◌, ℕ, zero, suc, ◌+◌, ◌<◌, ◌≤◌, Bool, true, false, List, [], ◌∷◌, ◌++◌, length, map, get_or, refl, ap, sym, ◌∙◌, subst, ⊎_elim, inl, inr, arith}
+use Rattle.std.proofs.Common.{◌≡◌, ◌≢◌, ◌⊎◌, ℕ, zero, suc, ◌+◌, ◌<◌, ◌≤◌, Bool, true, false, List, [], ◌∷◌, ◌++◌, length, map, refl, ap, sym, ◌∙◌, subst, ⊎_elim, inl, inr, arith}
 use Rattle.std.specs.Prelude.{◌-◌, ◌^◌, ◌↔◌, if◌then◌else◌}
-use Rattle.std.specs.List.{concat, AllByRecursion}
+use Rattle.std.specs.List.{AllByRecursion}
 use Rattle.std.proofs.lemmas.Grind.{same_number_lists}
 use mathlib.Core.Logic.{dite}
 use native.Mathlib.Decide.{ℕ_discrete}
 use Rattle.sh_base.specs.declared.config.ConfigParts.{ConfigParts}
-use Rattle.sh_base.specs.Setting.{node_size, IsNode}
+use Rattle.sh_base.specs.Setting.{node_size}
 use Rattle.sh_base.specs.Layout.{node_part}
 use Rattle.sh_base.specs.Places.{Node}
 use Rattle.sh_base.proofs.LayoutLemmas.{part_word, length_part}
@@ -15,14 +15,14 @@ use Rattle.sh_image.specs.Leaf.{leaf_in, Spells}
 use Rattle.sh_image.specs.Inner.{inner_in, SpellsInner}
 use Rattle.sh_edit.specs.Held.{HasKeysOnce}
 use Rattle.sh_tree.specs.Lists.{first_of, is_in, outside, AreDifferent}
-use Rattle.sh_tree.specs.Nodes.{leaf_at, inner_at, low_at, high_at, next_at}
-use Rattle.sh_tree.specs.Tree.{IsChain, IsLeafOf, IsInnerOf, IsChildIn, AreLevels, leaves_of, children_of, unnamed_from}
-use Rattle.sh_tree.proofs.ListLemmas.{in_head, in_tail, in_more, in_cases, in_front, in_behind}
+use Rattle.sh_tree.specs.Nodes.{inner_at}
+use Rattle.sh_tree.specs.Tree.{IsChain, IsLeafOf, IsInnerOf, IsChildIn, children_of}
+use Rattle.sh_tree.proofs.ListLemmas.{in_head, in_more, in_cases, in_front, in_behind}
 use Rattle.sh_read.specs.Moments.{Writing, word}
-use Rattle.sh_scene.specs.Scene.{Class, Linked, Post, Posted, Pending, Skipped, Scene, writing}
-use Rattle.sh_scene.specs.Nodes.{low_in, high_in, next_in, level_in, IsLinked, LeadsTo, LeadDown, pairs_in, Body, Follows, Sits}
+use Rattle.sh_scene.specs.Scene.{Linked, Post, Posted, Pending, Skipped, Scene}
+use Rattle.sh_scene.specs.Nodes.{low_in, high_in, next_in, level_in, LeadsTo, LeadDown, pairs_in}
 use Rattle.sh_scene.specs.Ground.{Ground, HasParent}
-use Rattle.sh_scene.proofs.Scenes.{linked_is, is_linked}
+use Rattle.sh_scene.proofs.Scenes.{linked_is}
 use Rattle.sh_scene.proofs.Roots.{first_at}
 use Rattle.sh_rest.specs.Rest.{IsAtRest, is_posted, unposted}
 
@@ -116,7 +116,7 @@ module _ (p : ConfigParts) (words : List ℕ) (s : Scene) (g : Ground p words s)
       let r = level_from many u.0 l 0 u.1 (omega arith) in
       (u.0, r.0, r.1)
 
-  leaf_of : (ns : List ℕ) → IsLevel 0 0 ns → AllByRecursion (IsLeafOf p words) ns
+  pub leaf_of : (ns : List ℕ) → IsLevel 0 0 ns → AllByRecursion (IsLeafOf p words) ns
   leaf_of ns h = all_from (IsLeafOf p words) ns (λ n k.
       let u = h.members n k in
       let body = (g.sits n 0 u.0 u.1).body in
@@ -130,7 +130,7 @@ module _ (p : ConfigParts) (words : List ℕ) (s : Scene) (g : Ground p words s)
     child_of l below h xs d.1,
   )
 
-  inner_of : (l : ℕ) (below ns : List ℕ) → IsLevel l 0 below → IsLevel (suc l) 0 ns → AllByRecursion (IsInnerOf p words (suc l) below) ns
+  pub inner_of : (l : ℕ) (below ns : List ℕ) → IsLevel l 0 below → IsLevel (suc l) 0 ns → AllByRecursion (IsInnerOf p words (suc l) below) ns
   inner_of l below ns h k = all_from (IsInnerOf p words (suc l) below) ns (λ n w.
       let u = k.members n w in
       let z = g.sits n (suc l) u.0 u.1 in
@@ -181,13 +181,13 @@ module _ (p : ConfigParts) (words : List ℕ) (s : Scene) (g : Ground p words s)
   abbrev pub NamesLevel : ℕ → List ℕ → Type 0
   NamesLevel l names = (n b : ℕ) → s.class n ≡ Linked l b → b ≢ 0 → (is_in names n ≡ true) ↔ (s.post n ≡ Posted)
 
-  none_named : (n b : ℕ) → s.class n ≡ Linked s.height b → b ≢ 0 → (false ≡ true) ↔ (s.post n ≡ Posted)
+  pub none_named : (n b : ℕ) → s.class n ≡ Linked s.height b → b ≢ 0 → (false ≡ true) ↔ (s.post n ≡ Posted)
   none_named n b e nz = ((λ q. absurd (nothing q)), λ q. absurd (⊎_elim (λ (z : b ≡ 0). nz z) (λ (u : HasParent s s.height n). let le = g.heights u.parent (suc s.height) u.low u.linked in omega (arith, le)) (g.posted n s.height b e q)))
     where
       nothing : false ≡ true → ⊥
       nothing q = cc
 
-  children_named : (l : ℕ) (ns : List ℕ) → IsLevel (suc l) 0 ns → NamesLevel l (children_of p words ns)
+  pub children_named : (l : ℕ) (ns : List ℕ) → IsLevel (suc l) 0 ns → NamesLevel l (children_of p words ns)
   children_named l ns h n b e nz = (
     (λ w. let r = names l ns n (λ m k. let u = h.members m k in (u.0, u.1)) w in let u = h.members r.0 r.1 in g.children r.0 l u.0 n u.1 r.2),
     (λ q. ⊎_elim (λ (z : b ≡ 0). absurd (nz z)) (λ (u : HasParent s l n). named l ns u.parent n u.low u.linked (h.all u.parent u.low u.linked (omega arith)) u.leads) (g.posted n l b e q)),
@@ -206,7 +206,7 @@ module _ (p : ConfigParts) (words : List ℕ) (s : Scene) (g : Ground p words s)
       go true h = absurd (let q = h.0 refl in cc)
       go false h = refl
 
-  counted : (l : ℕ) (names ns : List ℕ) → NamesLevel l names → ((n : ℕ) → is_in ns n ≡ true → (b : ℕ) × (s.class n ≡ Linked l b) × (b ≢ 0)) → outside names ns ≡ unposted s ns
+  pub counted : (l : ℕ) (names ns : List ℕ) → NamesLevel l names → ((n : ℕ) → is_in ns n ≡ true → (b : ℕ) × (s.class n ≡ Linked l b) × (b ≢ 0)) → outside names ns ≡ unposted s ns
   counted l names [] h members = refl
   counted l names (n ∷ ns) h members =
       let u = members n (in_head n ns) in

@@ -55,13 +55,15 @@ unposted_join s (x ∷ xs) ys = go (is_posted (s.post x)) (unposted_join s xs ys
 posted_first : (s : Scene) (n : ℕ) (ns : List ℕ) → s.post n ≡ Posted → unposted s (n ∷ ns) ≡ unposted s ns
 posted_first s n ns e = ap (λ (x : Post). if is_posted x then unposted s ns else unposted s ns + 1) e
 
-module _ (p : ConfigParts) (words : List ℕ) (s : Scene) (g : Ground p words s) (rest : IsAtRest p s) where
-  only : (m n l a : ℕ) → s.class m ≡ Linked l a → s.class n ≡ Linked l a → m ≡ n
+module _ (p : ConfigParts) (words : List ℕ) (s : Scene) (g : Ground p words s) where
+  -- a level and a low fence name one node
+  pub only : (m n l a : ℕ) → s.class m ≡ Linked l a → s.class n ≡ Linked l a → m ≡ n
   only m n l a e f = dite (ℕ_discrete m n) (λ q. q) (λ ne.
       let y = g.sits m l a e in
       let z = g.sits n l a f in
       absurd (⊎_elim (λ (le : high_in (s.node m) ≤ a). omega (arith, le, y.fences)) (λ (le : high_in (s.node n) ≤ a). omega (arith, le, z.fences)) (g.apart m n l a a e f ne)))
 
+module _ (p : ConfigParts) (words : List ℕ) (s : Scene) (g : Ground p words s) (rest : IsAtRest p s) where
   -- ---- the levels from one down
   pub record Down (l : ℕ) (chain : List ℕ) (below : List (List ℕ)) : Type 0 where
     pub here : IsLevel p words s g rest l 0 chain
@@ -84,7 +86,7 @@ module _ (p : ConfigParts) (words : List ℕ) (s : Scene) (g : Ground p words s)
         u.1,
         λ z.
             let e : s.class m ≡ Linked l 0 = u.1 ∙ ap (λ (y : ℕ). Linked l y) z in
-            nothing (sym h.different.0 ∙ ap (is_in ns) (only n m l 0 h.first e) ∙ k),
+            nothing (sym h.different.0 ∙ ap (is_in ns) (only p words s g n m l 0 h.first e) ∙ k),
       )
 
   count_level : (l n : ℕ) (ns : List ℕ) (below : List (List ℕ)) (names : List ℕ) → IsLevel p words s g rest l 0 (n ∷ ns) → NamesLevel p words s g rest l names → unnamed_from p words (children_of p words (n ∷ ns)) below ≡ unposted s (concat below) → unnamed_from p words names ((n ∷ ns) ∷ below) ≡ unposted s (concat ((n ∷ ns) ∷ below))
@@ -195,7 +197,7 @@ module _ (p : ConfigParts) (words : List ℕ) (s : Scene) (g : Ground p words s)
       let all : List (List ℕ) = d.0 ∷ d.1 in
       record {
         levels = all;
-        tree = record { root = g.shows.each Root tt ∙ sym (only (first_of d.0) s.root s.height 0 d.2.here.first g.root); lawful = d.2.lawful; apart = d.2.different };
+        tree = record { root = g.shows.each Root tt ∙ sym (only p words s g (first_of d.0) s.root s.height 0 d.2.here.first g.root); lawful = d.2.lawful; apart = d.2.different };
         linked = λ n. (
           (λ k. let u = d.2.members n k in is_linked s n u.0 u.1 u.2),
           (λ h. let u = of_class n (s.class n) refl h in d.2.all n u.0 u.1 u.2 (g.heights n u.0 u.1 u.2)),

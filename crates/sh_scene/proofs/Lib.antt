@@ -1,11 +1,9 @@
 pub mod Puts
 pub mod Scenes
 pub mod Holds
-pub mod ChunkLemmas
-pub mod Own
 pub mod Posts
 pub mod Spelled
 pub mod Pigeons
 pub mod Roots
-pub mod Late
 pub mod Events
+pub mod Joins

@@ -4,4 +4,3 @@ pub mod Ground
 pub mod Change
 pub mod Stores
 pub mod Acts
-pub mod Counters

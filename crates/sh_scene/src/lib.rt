@@ -1,12 +1,12 @@
 //! What stands in memory, who holds what, which node number is what, and one law for each thing that can happen to it.
 #![tactic(auto)]
 
-ghost use Rattle.std.specs.Prelude.{◌≡◌, ◌≢◌, ◌+◌, ◌-◌, ◌<◌, ◌≤◌, ◌^◌, ℕ, suc, List, slice_index, slice_set};
+ghost use Rattle.std.specs.Prelude.{◌≡◌, ◌≢◌, ◌+◌, ◌-◌, ◌<◌, ◌≤◌, ◌^◌, ℕ, suc, List, slice_index};
 ghost use Rattle.sh_base.specs.Parts.{parts_of};
-ghost use Rattle.sh_base.specs.Setting.{all_locks, all_seats, nodes, node_size};
-ghost use Rattle.sh_base.specs.Layout.{root_word, counter_word, lock_word, node_word, lock_of, compute_of};
+ghost use Rattle.sh_base.specs.Setting.{all_locks, nodes};
+ghost use Rattle.sh_base.specs.Layout.{root_word, lock_word, node_word, lock_of, compute_of};
 ghost use Rattle.sh_base.specs.Memory.{apply};
-ghost use Rattle.sh_base.specs.declared.event.Event.TheVariants.{Store, Exchange, Add};
+ghost use Rattle.sh_base.specs.declared.event.Event.TheVariants.{Store, Exchange};
 ghost use Rattle.sh_image.specs.Inner.{inner_words};
 ghost use Rattle.sh_edit.specs.Pairing.{root_over};
 ghost use Rattle.sh_read.specs.Moments.{IsMoment, Writing, Idle};
@@ -14,8 +14,7 @@ ghost use Rattle.sh_scene.specs.Scene.{Scene, Nobody, Held, Writes, Seat, Owner,
 ghost use Rattle.sh_scene.specs.Ground.{Ground};
 ghost use Rattle.sh_scene.specs.Change.{Change, ChangeFor};
 ghost use Rattle.sh_scene.specs.Stores.{GoesOn};
-ghost use Rattle.sh_scene.specs.Acts.{with_hold, filled, counted, drawn, skipped, grown};
-ghost use Rattle.sh_scene.specs.Counters.{Bounded, IsAmong};
+ghost use Rattle.sh_scene.specs.Acts.{with_hold, skipped, grown};
 
 use sh_base::Config;
 
@@ -38,19 +37,6 @@ pub fn writes_go_on(cfg: &Config)
     ensures goes_on { (words : List ℕ) (s : Scene) (seat depth n level low offset word : ℕ) (w v : Writing) → Ground (parts_of cfg.now) words s → s.class n ≡ Linked level low → s.hold (lock_of (parts_of cfg.now) n) ≡ Writes seat depth n w → GoesOn (parts_of cfg.now) level (s.node n) w v offset word → Change (parts_of cfg.now) seat s (with_hold s (lock_of (parts_of cfg.now) n) (Writes seat depth n v)) × Ground (parts_of cfg.now) (apply words (Store (node_word (parts_of cfg.now) n + offset) word)) (with_hold s (lock_of (parts_of cfg.now) n) (Writes seat depth n v)) }
 {}
 
-/// A seat stores what it likes into a node of its own: no READ of a linked node and no other seat meets it. An add on a
-/// server's counter that finds less than the limit draws that chunk, whose nodes become the seat's own. One that finds
-/// the limit reached counts on, and no more. Where the seats that add found the counter below the limit before, it
-/// passes the limit by no more than there are seats.
-pub fn own_nodes(cfg: &Config)
-    ensures filled { (words : List ℕ) (s : Scene) (seat n offset word : ℕ) → Ground (parts_of cfg.now) words s → s.class n ≡ Fresh seat → offset < node_size (parts_of cfg.now) → Change (parts_of cfg.now) seat s (filled s n offset word) × Ground (parts_of cfg.now) (apply words (Store (node_word (parts_of cfg.now) n + offset) word)) (filled s n offset word) }
-    ensures drawn { (words : List ℕ) (s : Scene) (seat server : ℕ) → Ground (parts_of cfg.now) words s → server < (parts_of cfg.now).servers → s.counter server < (parts_of cfg.now).chunks → Change (parts_of cfg.now) seat s (drawn (parts_of cfg.now) s server seat) × Ground (parts_of cfg.now) (apply words (Add (counter_word (parts_of cfg.now) server))) (drawn (parts_of cfg.now) s server seat) }
-    ensures spent { (words : List ℕ) (s : Scene) (seat server : ℕ) → Ground (parts_of cfg.now) words s → server < (parts_of cfg.now).servers → s.counter server ≤ (parts_of cfg.now).chunks + all_seats (parts_of cfg.now) → Change (parts_of cfg.now) seat s (counted s server) × Ground (parts_of cfg.now) (apply words (Add (counter_word (parts_of cfg.now) server))) (counted s server) }
-    ensures bounded { (limit seats counter : ℕ) (wants : List ℕ) → Bounded limit seats counter (λ i. IsAmong i wants) → counter ≤ limit + seats }
-    ensures found_below { (limit seats counter seat : ℕ) (wants now : List ℕ) → Bounded limit seats counter (λ i. IsAmong i wants) → counter < limit → ((j : ℕ) → j ≢ seat → IsAmong j now → IsAmong j wants) → Bounded limit seats counter (λ i. IsAmong i now) }
-    ensures raised { (limit seats counter seat : ℕ) (wants now : List ℕ) → Bounded limit seats counter (λ i. IsAmong i wants) → seat < seats → IsAmong seat wants → (IsAmong seat now → ⊥) → ((j : ℕ) → j ≢ seat → IsAmong j now → IsAmong j wants) → Bounded limit seats (counter + 1) (λ i. IsAmong i now) }
-{}
-
 /// A seat skips the post of a node that it was to post. Or it posts it by a new root, a node of its own, written before:
 /// the exchange of the root word that finds the old root hangs it in, and one that finds another changes nothing. There
 /// are fewer levels than nodes as long as a seat has a node of its own, so a new root's level is a level.
@@ -59,4 +45,12 @@ pub fn posts_and_roots(cfg: &Config)
     ensures level { (words : List ℕ) (s : Scene) (seat n : ℕ) → Ground (parts_of cfg.now) words s → s.class n ≡ Fresh seat → s.height + 1 < nodes (parts_of cfg.now) }
     ensures grown { (words : List ℕ) (s : Scene) (seat root n child separator : ℕ) → Ground (parts_of cfg.now) words s → s.root ≡ n → s.class child ≡ Linked s.height separator → 0 < separator → separator < 2 ^ 64 - 1 → s.post child ≡ Pending seat → s.class root ≡ Fresh seat → s.node root ≡ inner_words (parts_of cfg.now) (root_over (suc s.height) n separator child) → Change (parts_of cfg.now) seat s (grown s root child) × Ground (parts_of cfg.now) (apply words (Exchange root_word n root)) (grown s root child) }
     ensures lost { (words : List ℕ) (s : Scene) (n root : ℕ) → Ground (parts_of cfg.now) words s → s.root ≢ n → apply words (Exchange root_word n root) ≡ words }
+{}
+
+/// Two acts of a seat in one turn are one change to the others, where one of the two leaves the nodes and their WRITEs,
+/// as each act does but a store into a node; and nothing done is one.
+pub fn acts_join(cfg: &Config)
+    ensures none { (s : Scene) (seat : ℕ) → Change (parts_of cfg.now) seat s s }
+    ensures after { (s t u : Scene) (seat : ℕ) → Change (parts_of cfg.now) seat s t → Change (parts_of cfg.now) seat t u → ((n : ℕ) → u.node n ≡ t.node n) → ((n : ℕ) → writing (parts_of cfg.now) u n ≡ writing (parts_of cfg.now) t n) → Change (parts_of cfg.now) seat s u }
+    ensures before { (s t u : Scene) (seat : ℕ) → Change (parts_of cfg.now) seat s t → Change (parts_of cfg.now) seat t u → ((n : ℕ) → t.node n ≡ s.node n) → ((n : ℕ) → writing (parts_of cfg.now) t n ≡ writing (parts_of cfg.now) s n) → Change (parts_of cfg.now) seat s u }
 {}

@@ -13,7 +13,7 @@ use Rattle.sh_scene.specs.Change.{Change}
 use Rattle.sh_scene.specs.Acts.{in_chunk, filled, counted, drawn}
 use Rattle.sh_scene.proofs.Puts.{put_here, put_else, put_case, shows_store}
 use Rattle.sh_scene.proofs.Scenes.{Links, fresh_linked, fresh_is, undrawn_fresh, undrawn_linked, links_on, writes_else, body_on, sits_on, orderly_on}
-use Rattle.sh_scene.proofs.ChunkLemmas.{chunk_node, chunk_once, in_chunk_is}
+use Rattle.sh_own.proofs.ChunkLemmas.{chunk_node, chunk_once, in_chunk_is}
 
 module _ (p : ConfigParts) (words : List ℕ) (s : Scene) (g : Ground p words s) where
   not_linked : (r j n l a : ℕ) → s.class r ≡ Fresh j → s.class n ≡ Linked l a → n ≢ r

@@ -5,11 +5,11 @@ use Rattle.sh_base.specs.Places.{Counter}
 use Rattle.sh_scene.specs.Ground.{Ground}
 use Rattle.sh_scene.specs.Change.{Change}
 use Rattle.sh_scene.specs.Acts.{counted, drawn}
-use Rattle.sh_scene.specs.Counters.{IsAmong}
-use Rattle.sh_scene.proofs.Own.{fresh_act, spent_act, draw_act}
+use Rattle.sh_own.specs.Counters.{IsAmong}
+use Rattle.sh_own.proofs.Own.{fresh_act, spent_act, draw_act}
 use Rattle.sh_scene.proofs.Events.{added}
-use Rattle.sh_scene.proofs.Late.{bounded, raises}
-use Rattle.sh_scene.proofs.own_nodes.Goals as goal
+use Rattle.sh_own.proofs.Late.{bounded, raises}
+use Rattle.sh_own.proofs.own_nodes.Goals as goal
 
 pub returns-clause-filled : goal.returns-clause-filled
 returns-clause-filled c = λ words s seat n offset word g e lt. fresh_act c.args.cfg.now.parts words s g seat n offset word e lt

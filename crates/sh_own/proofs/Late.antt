@@ -4,7 +4,7 @@ use mathlib.Core.Logic.{dite}
 use native.Mathlib.Decide.{ℕ_discrete, dec_le}
 use native.Mathlib.Nat.{lt_of_not-le}
 use Rattle.sh_scene.specs.Scene.{put}
-use Rattle.sh_scene.specs.Counters.{one_where, count, Bounded}
+use Rattle.sh_own.specs.Counters.{one_where, count, Bounded}
 use Rattle.sh_scene.proofs.Puts.{put_here, put_else}
 
 one_le : (b : Bool) → one_where b ≤ 1

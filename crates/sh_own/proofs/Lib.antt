@@ -1,0 +1,3 @@
+pub mod ChunkLemmas
+pub mod Own
+pub mod Late

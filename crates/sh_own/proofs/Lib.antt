@@ -1,3 +1,4 @@
 pub mod ChunkLemmas
 pub mod Own
 pub mod Late
+pub mod LaidLemmas

@@ -12,6 +12,7 @@ ghost use Rattle.sh_scene.specs.Ground.{Ground};
 ghost use Rattle.sh_scene.specs.Change.{Change};
 ghost use Rattle.sh_scene.specs.Acts.{filled, counted, drawn};
 ghost use Rattle.sh_own.specs.Counters.{Bounded, IsAmong};
+ghost use Rattle.sh_own.specs.Laid.{AreLaid, laid_scene};
 
 use sh_base::Config;
 
@@ -26,4 +27,11 @@ pub fn own_nodes(cfg: &Config)
     ensures bounded { (limit seats counter : ℕ) (wants : List ℕ) → Bounded limit seats counter (λ i. IsAmong i wants) → counter ≤ limit + seats }
     ensures found_below { (limit seats counter seat : ℕ) (wants now : List ℕ) → Bounded limit seats counter (λ i. IsAmong i wants) → counter < limit → ((j : ℕ) → j ≢ seat → IsAmong j now → IsAmong j wants) → Bounded limit seats counter (λ i. IsAmong i now) }
     ensures raised { (limit seats counter seat : ℕ) (wants now : List ℕ) → Bounded limit seats counter (λ i. IsAmong i wants) → seat < seats → IsAmong seat wants → (IsAmong seat now → ⊥) → ((j : ℕ) → j ≢ seat → IsAmong j now → IsAmong j wants) → Bounded limit seats (counter + 1) (λ i. IsAmong i now) }
+{}
+
+/// A laid pool has a scene: node 1 is the only linked node, the root and the leaf of all keys, and the log is empty. No
+/// seat is late yet with a counter that is at most at its limit.
+pub fn laid_pool(cfg: &Config)
+    ensures scene { (words : List ℕ) → AreLaid (parts_of cfg.now) words → Ground (parts_of cfg.now) words (laid_scene (parts_of cfg.now)) }
+    ensures bounded { (limit seats counter : ℕ) (wants : List ℕ) → counter ≤ limit → Bounded limit seats counter (λ i. IsAmong i wants) }
 {}

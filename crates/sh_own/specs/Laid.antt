@@ -1,0 +1,33 @@
+-- The scene of a laid pool.
+use Rattle.std.specs.Prelude.{◌≡◌, ◌≢◌, ℕ, ◌-◌, ◌^◌, if◌then◌else◌, List, [], length, replicate, slice_index}
+use Rattle.sh_base.specs.declared.config.ConfigParts.{ConfigParts}
+use Rattle.sh_base.specs.Setting.{node_size, pool_words}
+use Rattle.sh_base.specs.Layout.{root_word, counter_word, node_part}
+use Rattle.sh_base.specs.Places.{Site, Root, Counter, Node, address, IsSite}
+use Rattle.sh_image.specs.Leaf.{Leaf, leaf_words, empty_entry}
+use Rattle.sh_scene.specs.Scene.{Class, Undrawn, Reserved, Linked, Posted, Nobody, Scene, put}
+use Rattle.sh_scene.specs.Acts.{in_chunk}
+
+-- the empty leaf of all keys
+abbrev pub blank_leaf : ConfigParts → Leaf
+blank_leaf p = record { version = 0; low = 0; high = 2 ^ 64 - 1; next = 0; entries = replicate p.leaf (empty_entry p) }
+
+-- The words of a laid pool: node 1 is the root and the empty leaf of all keys, the first chunk of server 0 is drawn, and
+-- every other word is 0.
+pub record AreLaid (p : ConfigParts) (words : List ℕ) : Type 0 where
+  pub long : length words ≡ pool_words p
+  pub leaf : node_part p words 1 ≡ leaf_words (blank_leaf p)
+  pub root : slice_index words root_word ≡ 1
+  pub counter : slice_index words (counter_word p 0) ≡ 1
+  pub zeros : (a : Site) → IsSite p a → a ≢ Root → a ≢ Counter 0 → ((o : ℕ) → a ≢ Node 1 o) → slice_index words (address p a) ≡ 0
+
+-- node 1 is linked, the other nodes of its chunk are never used, and no other node is drawn
+abbrev pub laid_class : ConfigParts → ℕ → Class
+laid_class p = put (λ n. if in_chunk p 0 0 n then Reserved else Undrawn) 1 (Linked 0 0)
+
+-- no chunk of a server was drawn
+abbrev pub none_drawn : ℕ → ℕ
+none_drawn server = 0
+
+abbrev pub laid_scene : ConfigParts → Scene
+laid_scene p = record { node = put (λ n. replicate (node_size p) 0) 1 (leaf_words (blank_leaf p)); class = laid_class p; post = λ n. Posted; hold = λ lock. Nobody; counter = put none_drawn 0 1; root = 1; height = 0; log = [] }

@@ -9,13 +9,15 @@ ghost use Rattle.sh_base.specs.Memory.{apply};
 ghost use Rattle.sh_base.specs.declared.event.Event.TheVariants.{Store};
 ghost use Rattle.sh_map.specs.declared.log.Change.TheVariants.{Put};
 ghost use Rattle.sh_map.specs.declared.log.Entry.{Entry};
+ghost use Rattle.sh_map.specs.Map.{put as put_key, del};
 ghost use Rattle.sh_map.specs.Log.{changed};
 ghost use Rattle.sh_image.specs.declared.leaf.LeafEntry.{LeafEntry};
 ghost use Rattle.sh_image.specs.declared.inner.Pair.{Pair};
 ghost use Rattle.sh_image.specs.Entries.{entry_words};
 ghost use Rattle.sh_image.specs.Leaf.{Leaf, IsEntry, IsLeaf, leaf_in, leaf_words};
 ghost use Rattle.sh_image.specs.Inner.{Inner, IsInner, inner_in, inner_words};
-ghost use Rattle.sh_edit.specs.Held.{map_of_entries, HasKeysOnce};
+ghost use Rattle.sh_edit.specs.Held.{key_at, map_of_entries, HasKeysOnce};
+ghost use Rattle.sh_edit.specs.Placing.{IsFirstWith, HasNone};
 ghost use Rattle.sh_edit.specs.Splitting.{left_half, right_half, separator_of, IsSplit};
 ghost use Rattle.sh_edit.specs.Pairing.{with_pair, middle_of, left_inner, right_inner, IsNew};
 ghost use Rattle.sh_read.specs.Moments.{Idle, Whole, One, IsVersioned, IsWriting};
@@ -39,6 +41,16 @@ pub fn writes_rise(cfg: &Config)
     ensures whole_goes_on { (level done : ℕ) (node new : List ℕ) → IsWriting (parts_of cfg.now) level node (Whole new done) → done < rear_at (parts_of cfg.now) → GoesOn (parts_of cfg.now) level node (Whole new done) (Whole new (done + 1)) done (slice_index new done) }
     ensures one_begins { (i : ℕ) (node new : List ℕ) → i < (parts_of cfg.now).leaf → slice_index node (entry_at (parts_of cfg.now) i) < slice_index new 0 → slice_index new (2 + (parts_of cfg.now).value_words) ≡ slice_index new 0 → GoesOn (parts_of cfg.now) 0 node Idle (One i new 1) (entry_at (parts_of cfg.now) i) (slice_index new 0) }
     ensures one_goes_on { (i done : ℕ) (node new : List ℕ) → IsWriting (parts_of cfg.now) 0 node (One i new done) → done < 2 + (parts_of cfg.now).value_words → GoesOn (parts_of cfg.now) 0 node (One i new done) (One i new (done + 1)) (entry_at (parts_of cfg.now) i + done) (slice_index new done) }
+{}
+
+/// A leaf's entries with another at an index. Where that entry is the first with its key, or none has the key and it is
+/// the first empty one, it is the put; where it is emptied, the delete. No key stands twice then, where no other entry
+/// has the new one.
+pub fn entries_change()
+    ensures over { (es : List LeafEntry) (i : ℕ) (x : LeafEntry) → x.key ≢ 0 → IsFirstWith es x.key i → map_of_entries (slice_set es i x) ≡ put_key (map_of_entries es) x.key x.value }
+    ensures new { (es : List LeafEntry) (i : ℕ) (x : LeafEntry) → x.key ≢ 0 → HasNone es x.key → IsFirstWith es 0 i → map_of_entries (slice_set es i x) ≡ put_key (map_of_entries es) x.key x.value }
+    ensures removed { (es : List LeafEntry) (i key : ℕ) (x : LeafEntry) → x.key ≡ 0 → key ≢ 0 → HasKeysOnce es → IsFirstWith es key i → map_of_entries (slice_set es i x) ≡ del (map_of_entries es) key }
+    ensures once { (es : List LeafEntry) (i : ℕ) (x : LeafEntry) → i < length es → HasKeysOnce es → ((j : ℕ) → j < length es → j ≢ i → key_at es j ≡ x.key → x.key ≡ 0) → HasKeysOnce (slice_set es i x) }
 {}
 
 /// The last store of a leaf's WRITE brings the update's entry into the log, and the leaf has the log's map between its

@@ -3,3 +3,4 @@ pub mod EntryWords
 pub mod Ends
 pub mod LeafEnds
 pub mod InnerEnds
+pub mod Broken

@@ -4,7 +4,7 @@
 ghost use Rattle.std.specs.Prelude.{◌≡◌, ◌≢◌, ◌+◌, ◌*◌, ◌<◌, ◌≤◌, ℕ, suc, List, [], ◌∷◌, length, slice_index, slice_set};
 ghost use Rattle.sh_base.specs.Parts.{parts_of};
 ghost use Rattle.sh_base.specs.Setting.{last_version};
-ghost use Rattle.sh_base.specs.Layout.{node_word, entry_at, entry_rear_at, rear_at, lock_of};
+ghost use Rattle.sh_base.specs.Layout.{node_word, entry_at, entry_rear_at, rear_at, lock_of, lock_word};
 ghost use Rattle.sh_base.specs.Memory.{apply};
 ghost use Rattle.sh_base.specs.declared.event.Event.TheVariants.{Store};
 ghost use Rattle.sh_map.specs.declared.log.Change.TheVariants.{Put};
@@ -21,12 +21,12 @@ ghost use Rattle.sh_edit.specs.Placing.{IsFirstWith, HasNone};
 ghost use Rattle.sh_edit.specs.Splitting.{left_half, right_half, separator_of, IsSplit};
 ghost use Rattle.sh_edit.specs.Pairing.{with_pair, middle_of, left_inner, right_inner, IsNew};
 ghost use Rattle.sh_read.specs.Moments.{Idle, Whole, One, IsVersioned, IsWriting};
-ghost use Rattle.sh_scene.specs.Scene.{Scene, Writes, Linked, Fresh, Posted, Pending, put};
+ghost use Rattle.sh_scene.specs.Scene.{Scene, Nobody, Writes, Linked, Fresh, Posted, Pending, put};
 ghost use Rattle.sh_scene.specs.Nodes.{entries_of, pairs_in};
 ghost use Rattle.sh_scene.specs.Ground.{Ground};
 ghost use Rattle.sh_scene.specs.Change.{Change};
 ghost use Rattle.sh_scene.specs.Stores.{GoesOn};
-ghost use Rattle.sh_scene.specs.Acts.{ended};
+ghost use Rattle.sh_scene.specs.Acts.{ended, with_hold};
 ghost use Rattle.sh_ends.specs.Images.{patched, IsEntryOf, IsPairOf};
 
 use sh_base::Config;
@@ -72,4 +72,14 @@ pub fn inner_writes_end(cfg: &Config)
     ensures new { (words : List ℕ) (s : Scene) (seat n level low : ℕ) (x : Pair) → Ground (parts_of cfg.now) words s → IsPairOf s seat n level low x → IsNew (pairs_in (s.node n)) x.separator }
     ensures pair { (words : List ℕ) (s : Scene) (seat depth n level low : ℕ) (x : Pair) (a : Inner) → Ground (parts_of cfg.now) words s → IsPairOf s seat n level low x → a ≡ inner_in (s.node n) → s.hold (lock_of (parts_of cfg.now) n) ≡ Writes seat depth n (Whole (inner_words (parts_of cfg.now) (with_pair a x)) (rear_at (parts_of cfg.now))) → length a.pairs < 2 * (parts_of cfg.now).leaf → a.version < last_version (parts_of cfg.now) → Change (parts_of cfg.now) seat s (ended (parts_of cfg.now) s n seat depth (inner_words (parts_of cfg.now) (with_pair a x)) s.class (put s.post x.child Posted) []) × Ground (parts_of cfg.now) (apply words (Store (node_word (parts_of cfg.now) n + rear_at (parts_of cfg.now)) (slice_index (inner_words (parts_of cfg.now) (with_pair a x)) (rear_at (parts_of cfg.now))))) (ended (parts_of cfg.now) s n seat depth (inner_words (parts_of cfg.now) (with_pair a x)) s.class (put s.post x.child Posted) []) }
     ensures split { (words : List ℕ) (s : Scene) (seat depth n level low r : ℕ) (x : Pair) (a : Inner) → Ground (parts_of cfg.now) words s → IsPairOf s seat n level low x → a ≡ inner_in (s.node n) → s.hold (lock_of (parts_of cfg.now) n) ≡ Writes seat depth n (Whole (inner_words (parts_of cfg.now) (left_inner (parts_of cfg.now).leaf a x r)) (rear_at (parts_of cfg.now))) → s.class r ≡ Fresh seat → s.node r ≡ inner_words (parts_of cfg.now) (right_inner (parts_of cfg.now).leaf a x) → length a.pairs ≡ 2 * (parts_of cfg.now).leaf → a.version < last_version (parts_of cfg.now) → Change (parts_of cfg.now) seat s (ended (parts_of cfg.now) s n seat depth (inner_words (parts_of cfg.now) (left_inner (parts_of cfg.now).leaf a x r)) (put s.class r (Linked (suc level) (middle_of (parts_of cfg.now).leaf a.pairs x))) (put (put s.post x.child Posted) r (Pending seat)) []) × Ground (parts_of cfg.now) (apply words (Store (node_word (parts_of cfg.now) n + rear_at (parts_of cfg.now)) (slice_index (inner_words (parts_of cfg.now) (left_inner (parts_of cfg.now).leaf a x r)) (rear_at (parts_of cfg.now))))) (ended (parts_of cfg.now) s n seat depth (inner_words (parts_of cfg.now) (left_inner (parts_of cfg.now).leaf a x r)) (put s.class r (Linked (suc level) (middle_of (parts_of cfg.now).leaf a.pairs x))) (put (put s.post x.child Posted) r (Pending seat)) []) }
+{}
+
+/// What the order of the stores is for: these leave words that show no such scene. A lock is given back before the last
+/// store of the WRITE under it. A node's WRITE stores its rear version first. The right half of a split is linked before
+/// its words are written. A node that is hung in behind another stays its seat's own.
+pub fn orders_that_break(cfg: &Config)
+    ensures early_unlock { (words : List ℕ) (s : Scene) (seat depth n level low : ℕ) (new : List ℕ) → Ground (parts_of cfg.now) words s → s.class n ≡ Linked level low → s.hold (lock_of (parts_of cfg.now) n) ≡ Writes seat depth n (Whole new 1) → slice_index (s.node n) 0 < slice_index new 0 → Ground (parts_of cfg.now) (apply words (Store (lock_word (parts_of cfg.now) (lock_of (parts_of cfg.now) n)) 0)) (with_hold s (lock_of (parts_of cfg.now) n) Nobody) → ⊥ }
+    ensures rear_first { (level : ℕ) (node new : List ℕ) → IsVersioned (parts_of cfg.now) level node → IsVersioned (parts_of cfg.now) level new → slice_index node 0 < slice_index new 0 → GoesOn (parts_of cfg.now) level node Idle (Whole new 1) (rear_at (parts_of cfg.now)) (slice_index new (rear_at (parts_of cfg.now))) → ⊥ }
+    ensures unwritten_half { (words now : List ℕ) (s : Scene) (seat depth n r separator : ℕ) (image : List ℕ) (more : List Entry) → Ground (parts_of cfg.now) words s → r ≢ n → slice_index (s.node r) 2 ≢ separator → Ground (parts_of cfg.now) now (ended (parts_of cfg.now) s n seat depth image (put s.class r (Linked 0 separator)) (put s.post r (Pending seat)) more) → ⊥ }
+    ensures kept_number { (words now : List ℕ) (s : Scene) (seat depth n level low r : ℕ) (image : List ℕ) (more : List Entry) → Ground (parts_of cfg.now) words s → s.class n ≡ Linked level low → s.class r ≡ Fresh seat → slice_index image 4 ≡ r → Ground (parts_of cfg.now) now (ended (parts_of cfg.now) s n seat depth image s.class (put s.post r (Pending seat)) more) → ⊥ }
 {}

@@ -2,3 +2,4 @@ pub mod KeyLemmas
 pub mod PointLemmas
 pub mod Knowing
 pub mod Known
+pub mod Fed

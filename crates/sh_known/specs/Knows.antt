@@ -1,6 +1,7 @@
 -- What a READ of a linked node knows while it is under way.
-use Rattle.std.specs.Prelude.{◌≢◌, ℕ, zero, suc, ◌<◌, ◌≤◌, List, length, None}
+use Rattle.std.specs.Prelude.{◌≢◌, ℕ, zero, suc, ◌-◌, ◌<◌, ◌≤◌, List, ◌++◌, length, replicate, None}
 use Rattle.sh_base.specs.declared.config.ConfigParts.{ConfigParts}
+use Rattle.sh_base.specs.Setting.{node_size}
 use Rattle.sh_map.specs.declared.log.Entry.{Entry}
 use Rattle.sh_edit.specs.Held.{key_at}
 use Rattle.sh_read.specs.Moments.{Writing}
@@ -25,3 +26,14 @@ Anything ws = Unit {0}
 abbrev pub IsKnown : ConfigParts → List Entry → (first level : ℕ) → List ℕ → Writing → (from : ℕ) → List ℕ → Type 0
 IsKnown p log first zero s w from got = Knows p log first s w from got
 IsKnown p log first (suc level) s w from got = FitsRead p (suc level) Anything s w from got
+
+-- the words that a READ was fed, of which the last one came first: where they begin in the node, and each in its place
+abbrev pub fed_from : ConfigParts → List ℕ → ℕ
+fed_from p fed = node_size p - length fed
+
+abbrev pub fed_words : ConfigParts → List ℕ → List ℕ
+fed_words p fed = replicate (fed_from p fed) 0 ++ fed
+
+-- a READ of a linked node of a level, by the words that it was fed
+abbrev pub IsFed : ConfigParts → List Entry → (first level : ℕ) → List ℕ → Writing → (fed : List ℕ) → Type 0
+IsFed p log first level s w fed = IsKnown p log first level s w (fed_from p fed) (fed_words p fed)

@@ -1,7 +1,7 @@
 //! What a READ of a node in the tree knows while it is under way, and what it has found where it is accepted.
 #![tactic(auto)]
 
-ghost use Rattle.std.specs.Prelude.{◌≡◌, ◌≢◌, ◌+◌, ◌≤◌, ℕ, suc, List, length, slice_index, slice_set};
+ghost use Rattle.std.specs.Prelude.{◌≡◌, ◌≢◌, ◌+◌, ◌≤◌, ℕ, suc, List, [], ◌∷◌, length, slice_index, slice_set};
 ghost use Rattle.sh_base.specs.Parts.{parts_of};
 ghost use Rattle.sh_base.specs.Setting.{node_size};
 ghost use Rattle.sh_base.specs.Layout.{node_word, rear_at};
@@ -14,7 +14,7 @@ ghost use Rattle.sh_scene.specs.Scene.{Scene, Linked, Owner, writing};
 ghost use Rattle.sh_scene.specs.Ground.{Ground};
 ghost use Rattle.sh_scene.specs.Change.{Change, ChangeFor};
 ghost use Rattle.sh_known.specs.Points.{IsReadLeaf};
-ghost use Rattle.sh_known.specs.Knows.{IsKnown};
+ghost use Rattle.sh_known.specs.Knows.{fed_from, IsFed, IsKnown};
 
 use sh_base::Config;
 
@@ -35,4 +35,14 @@ pub fn accepted_reads(cfg: &Config)
     ensures leaf { (words : List ℕ) (s : Scene) (n low first : ℕ) (got : List ℕ) → Ground (parts_of cfg.now) words s → s.class n ≡ Linked 0 low → IsKnown (parts_of cfg.now) s.log first 0 (s.node n) (writing (parts_of cfg.now) s n) 0 got → slice_index got 0 ≡ slice_index words (node_word (parts_of cfg.now) n + 0) → IsUntorn (parts_of cfg.now) got → IsReadLeaf (parts_of cfg.now) s.log first (s.node n) got }
     ensures inner { (words : List ℕ) (s : Scene) (n level low first : ℕ) (got : List ℕ) → Ground (parts_of cfg.now) words s → s.class n ≡ Linked (suc level) low → IsKnown (parts_of cfg.now) s.log first (suc level) (s.node n) (writing (parts_of cfg.now) s n) 0 got → slice_index got 0 ≡ slice_index words (node_word (parts_of cfg.now) n + 0) → slice_index got 0 ≡ slice_index got (rear_at (parts_of cfg.now)) → got ≡ s.node n }
     ensures never_odd { (words : List ℕ) (s : Scene) (n level low first : ℕ) (got : List ℕ) → Ground (parts_of cfg.now) words s → s.class n ≡ Linked level low → IsKnown (parts_of cfg.now) s.log first level (s.node n) (writing (parts_of cfg.now) s n) 0 got → slice_index got 0 ≡ slice_index words (node_word (parts_of cfg.now) n + 0) → SeenBy (parts_of cfg.now) got Odd → ⊥ }
+{}
+
+/// The same for the words that a READ was fed, from the node's last one on: it begins with the rear version, and is fed
+/// the next lower word each time. When all were fed they are the node's, and were accepted or not.
+pub fn fed_reads(cfg: &Config)
+    ensures begin { (words : List ℕ) (s : Scene) (n level low first : ℕ) → Ground (parts_of cfg.now) words s → s.class n ≡ Linked level low → first ≤ length s.log → IsFed (parts_of cfg.now) s.log first level (s.node n) (writing (parts_of cfg.now) s n) (slice_index words (node_word (parts_of cfg.now) n + rear_at (parts_of cfg.now)) ∷ []) }
+    ensures load { (words : List ℕ) (s : Scene) (n level low first at : ℕ) (fed : List ℕ) → Ground (parts_of cfg.now) words s → s.class n ≡ Linked level low → fed_from (parts_of cfg.now) fed ≡ at + 1 → IsFed (parts_of cfg.now) s.log first level (s.node n) (writing (parts_of cfg.now) s n) fed → IsFed (parts_of cfg.now) s.log first level (s.node n) (writing (parts_of cfg.now) s n) (slice_index words (node_word (parts_of cfg.now) n + at) ∷ fed) }
+    ensures leaf { (words : List ℕ) (s : Scene) (n low first : ℕ) (fed : List ℕ) → Ground (parts_of cfg.now) words s → s.class n ≡ Linked 0 low → length fed ≡ node_size (parts_of cfg.now) → IsFed (parts_of cfg.now) s.log first 0 (s.node n) (writing (parts_of cfg.now) s n) fed → slice_index fed 0 ≡ slice_index words (node_word (parts_of cfg.now) n + 0) → IsUntorn (parts_of cfg.now) fed → IsReadLeaf (parts_of cfg.now) s.log first (s.node n) fed }
+    ensures inner { (words : List ℕ) (s : Scene) (n level low first : ℕ) (fed : List ℕ) → Ground (parts_of cfg.now) words s → s.class n ≡ Linked (suc level) low → length fed ≡ node_size (parts_of cfg.now) → IsFed (parts_of cfg.now) s.log first (suc level) (s.node n) (writing (parts_of cfg.now) s n) fed → slice_index fed 0 ≡ slice_index words (node_word (parts_of cfg.now) n + 0) → slice_index fed 0 ≡ slice_index fed (rear_at (parts_of cfg.now)) → fed ≡ s.node n }
+    ensures never_odd { (words : List ℕ) (s : Scene) (n level low first : ℕ) (fed : List ℕ) → Ground (parts_of cfg.now) words s → s.class n ≡ Linked level low → length fed ≡ node_size (parts_of cfg.now) → IsFed (parts_of cfg.now) s.log first level (s.node n) (writing (parts_of cfg.now) s n) fed → slice_index fed 0 ≡ slice_index words (node_word (parts_of cfg.now) n + 0) → SeenBy (parts_of cfg.now) fed Odd → ⊥ }
 {}

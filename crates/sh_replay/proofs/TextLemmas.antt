@@ -11,15 +11,15 @@ use Rattle.sh_map.specs.declared.book.Done.{Done}
 use Rattle.sh_map.specs.declared.book.Row.{Row}
 use Rattle.sh_map.specs.Map.{pair_of}
 use Rattle.sh_sheet.specs.declared.item.Item.{Item}
-use Rattle.sh_sheet.specs.declared.write.WriteError.{WriteError}
-use Rattle.sh_sheet.specs.declared.write.WriteError.TheVariants as error
-use Rattle.sh_sheet.specs.Write.{CauseOf}
-use Rattle.sh_sheet.specs.Intake.{TookAll}
+use Rattle.sh_text.specs.declared.write.WriteError.{WriteError}
+use Rattle.sh_text.specs.declared.write.WriteError.TheVariants as error
+use Rattle.sh_text.specs.Write.{CauseOf}
+use Rattle.sh_port.specs.Intake.{TookAll}
 use Rattle.sh_sheet.specs.Sheet.{Items, sheet_of}
-use Rattle.sh_sheet.specs.Text.{call_line, end_line}
-use Rattle.sh_sheet.specs.Port.{AppendsFront}
-use Rattle.sh_sheet.proofs.Bytes.{appends_none}
-use Rattle.sh_sheet.proofs.Fronts.{front_more}
+use Rattle.sh_text.specs.Text.{call_line, end_line}
+use Rattle.sh_port.specs.Port.{AppendsFront}
+use Rattle.sh_port.proofs.Bytes.{appends_none}
+use Rattle.sh_text.proofs.Fronts.{front_more}
 use Rattle.sh_replay.specs.Runs.{IsRun}
 use Rattle.sh_replay.specs.Pairs.{pairs_in, sum_of, words_sum}
 use Rattle.sh_replay.specs.Worlds.{words_of, log_of, dones_of, HasServed}

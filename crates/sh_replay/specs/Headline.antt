@@ -9,12 +9,12 @@ use Rattle.sh_map.specs.declared.book.Row.{Row}
 use Rattle.sh_sheet.specs.declared.item.Item.{Item}
 use Rattle.sh_sheet.specs.declared.status.Status.{Status}
 use Rattle.sh_sheet.specs.declared.status.Status.TheVariants as status
-use Rattle.sh_sheet.specs.declared.write.WriteError.{WriteError}
-use Rattle.sh_sheet.specs.declared.write.WriteError.TheVariants as error
-use Rattle.sh_sheet.specs.Port.{HasRisen, AppendsFront}
-use Rattle.sh_sheet.specs.Intake.{TookAll, TookSome, TookMost}
+use Rattle.sh_text.specs.declared.write.WriteError.{WriteError}
+use Rattle.sh_text.specs.declared.write.WriteError.TheVariants as error
+use Rattle.sh_port.specs.Port.{HasRisen, AppendsFront}
+use Rattle.sh_port.specs.Intake.{TookAll, TookSome, TookMost}
 use Rattle.sh_sheet.specs.Sheet.{Reading, Items, Refused, IsTooMany, sheet_of}
-use Rattle.sh_sheet.specs.Text.{call_line, end_line}
+use Rattle.sh_text.specs.Text.{call_line, end_line}
 use Rattle.sh_replay.specs.Runs.{item_of, IsRun}
 use Rattle.sh_replay.specs.Pairs.{pairs_in, sum_of, words_sum}
 use Rattle.sh_replay.specs.Worlds.{words_of, log_of, dones_of}

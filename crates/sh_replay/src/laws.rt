@@ -12,7 +12,8 @@ ghost use Rattle.sh_replay.specs.Headline.{Headline};
 ghost use Rattle.sh_replay.specs.Complete.{IsFree, EndsWell, IsNoFault};
 
 use crate::{World, replay_top};
-use sh_sheet::{Sink, Source, Status, SureSink, SureSource};
+use sh_port::{Sink, Source, SureSink, SureSource};
+use sh_sheet::Status;
 use std::alloc::Global;
 
 /// Refusals come by their causes: of each call of a run, `NoSplitYet` exactly where it is a put of a new key and the

@@ -18,7 +18,8 @@ pub use world::World;
 #[cfg(test)]
 mod tests {
     use super::*;
-    use sh_sheet::{ListSink, ListSource, RowCause, Status};
+    use sh_port::{ListSink, ListSource};
+    use sh_sheet::{RowCause, Status};
     use std::alloc::{AllocError, Global};
     use std::test::Fail;
 

@@ -2,8 +2,8 @@
 ghost use Rattle.std.specs.Prelude.{◌≡◌, ◌≤◌, length, All, IfOk, OnOk, OnErr};
 ghost use Rattle.std.specs.Io.KnownBytes.{Appends};
 ghost use Rattle.sh_base.specs.Parts.{parts_of};
-ghost use Rattle.sh_sheet.specs.Port.{AppendsFront};
-ghost use Rattle.sh_sheet.specs.Write.{HasWriteCause};
+ghost use Rattle.sh_port.specs.Port.{AppendsFront};
+ghost use Rattle.sh_text.specs.Write.{HasWriteCause};
 ghost use Rattle.sh_sheet.specs.Sheet.{IsLawfulItem};
 ghost use Rattle.sh_replay.specs.Worlds.{HasServed, IsBlank};
 ghost use Rattle.sh_replay.specs.Headline.{lines_of, unwritten, Headline};
@@ -12,10 +12,9 @@ use crate::World;
 use crate::pairs::{pairs_in, sum_of};
 use sh_base::Config;
 use sh_map::{Done, Row, Rows};
-use sh_sheet::{
-    Intake, Item, Mode, SheetFault, Sink, Source, Status, WriteError, read_all, read_sheet,
-    write_calls, write_end,
-};
+use sh_port::{Intake, Sink, Source, read_all};
+use sh_sheet::{Item, Mode, SheetFault, Status, read_sheet};
+use sh_text::{WriteError, write_calls, write_end};
 use std::alloc::{AllocError, Global};
 
 // A world that has served these items, and the pairs of its words.

@@ -1,10 +1,5 @@
-pub mod Intake
-pub mod Lists
 pub mod Number
 pub mod Parts
-pub mod Port
 pub mod Records
 pub mod Sheet
 pub mod Status
-pub mod Text
-pub mod Write

@@ -2,7 +2,8 @@
 #![tactic(auto)]
 
 use sh_replay::{World, replay_top};
-use sh_sheet::{Status, StdSink, StdSource};
+use sh_port::{StdSink, StdSource};
+use sh_sheet::Status;
 use std::io;
 use std::process::ExitCode;
 

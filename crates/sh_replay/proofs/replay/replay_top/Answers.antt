@@ -1,6 +1,6 @@
 use Rattle.std.proofs.Common.{sym, ◌∙◌, subst}
 use Rattle.std.specs.Io.KnownBytes.{Appends}
-use Rattle.sh_sheet.specs.Port.{AppendsFront}
+use Rattle.sh_port.specs.Port.{AppendsFront}
 use Rattle.sh_replay.proofs.TextLemmas.{ended_unwritten, lines_are_text, none_given, served_of}
 use Rattle.sh_replay.proofs.replay.replay_top.Goals as goal
 

@@ -1,0 +1,11 @@
+use Rattle.sh_text.proofs.Fronts.{front_more, front_so_far, part_at, parts_at}
+use Rattle.sh_text.proofs.write.write_lines.Goals as goal
+
+pub returns-in_default-clause-err : goal.returns-in_default-clause-err
+returns-in_default-clause-err g c =
+    front_so_far _ _ _ _ _ (parts_at g.L.Line.text c.args.lines.now c.loop-line.line-index) c.loop-line.invariant.0
+
+pub returns-in-Err-clause-err : goal.returns-in-Err-clause-err
+returns-in-Err-clause-err g c =
+    let wrote = rw (c.as_bytes.ensures.value, c.in-Ok.ensures, c.line-item.is) at c.in-Err.ensures.err in
+    front_more _ _ _ _ _ _ _ (part_at g.L.Line.text c.args.lines.now c.loop-line.line-index c.line-item.result c.loop-line-test.true) c.loop-line.invariant.0 wrote

@@ -8,6 +8,7 @@ mod pairs;
 mod replay;
 mod run;
 mod serve;
+mod serving;
 mod world;
 
 pub use laws::{replay_laws, replay_sure};

@@ -4,7 +4,7 @@ use Rattle.sh_sheet.specs.declared.item.Item.{Item}
 use Rattle.sh_sheet.specs.declared.status.Status.{Status}
 use Rattle.sh_sheet.specs.declared.status.Status.TheVariants as status
 use Rattle.sh_sheet.specs.declared.item.Mode.TheVariants.{Replay}
-use Rattle.sh_sheet.specs.Sheet.{Items, IsTooMany, sheet_of}
+use Rattle.sh_sheet.specs.Sheet.{Items, AreFew, sheet_of}
 use Rattle.sh_words.specs.Order.{Asked}
 use Rattle.sh_replay.specs.Serving.{first_unserved}
 
@@ -23,7 +23,7 @@ pub record IsFree (asked : Option Asked) (left : Option (List ℕ)) (before now 
   pub told : left ≡ Some bytes
   pub short : length bytes < 16777217
   pub reads : sheet_of order.parts Replay bytes ≡ Items headed items
-  pub few : IsTooMany order.parts (Items headed items) → ⊥
+  pub few : AreFew order.parts items
   pub served : first_unserved items ≡ None
   pub source : HasNoFault before now
   pub sink : HasNoFault fell fallen

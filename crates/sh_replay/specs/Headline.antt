@@ -15,7 +15,7 @@ use Rattle.sh_text.specs.declared.write.WriteError.{WriteError}
 use Rattle.sh_text.specs.declared.write.WriteError.TheVariants as error
 use Rattle.sh_port.specs.Port.{HasRisen, AppendsFront}
 use Rattle.sh_port.specs.Intake.{TookAll, TookSome, TookMost}
-use Rattle.sh_sheet.specs.Sheet.{Reading, Items, Refused, IsTooMany, sheet_of}
+use Rattle.sh_sheet.specs.Sheet.{Reading, Items, Refused, AreFew, IsTooMany, sheet_of}
 use Rattle.sh_text.specs.Text.{call_line, map_line, end_line}
 use Rattle.sh_words.specs.Order.{Asked}
 use Rattle.sh_words.specs.Uses.{Text}
@@ -25,10 +25,18 @@ use Rattle.sh_replay.specs.Serving.{accepted, IsUnserved}
 use Rattle.sh_replay.specs.Worlds.{words_of, log_of, dones_of}
 use Rattle.sh_replay.specs.declared.world.World.{World}
 
--- The output of a run: a line for each finished call, a line for each key where the map is asked for, and the last line
--- with the numbers of calls and keys and the sum of all words of the keys' values.
-unfoldable pub text_of : (map : Bool) → List Done → List Row → List ℕ
-text_of map dones rows = flat_map call_line dones ++ ((if map then flat_map map_line rows else []) ++ end_line (length dones) (length rows) (sum_of rows))
+-- a line for each key, where the map is asked for
+abbrev pub map_lines : (asked : Bool) → List Row → List ℕ
+map_lines asked rows = if asked then flat_map map_line rows else []
+
+-- the lines behind the calls' lines; the last one has the numbers of calls and keys and the sum of all words of the
+-- keys' values
+abbrev pub last_lines : (asked : Bool) → (calls : ℕ) → List Row → List ℕ
+last_lines asked calls rows = map_lines asked rows ++ end_line calls (length rows) (sum_of rows)
+
+-- the output of a run: a line for each finished call, and the last lines
+unfoldable pub text_of : (asked : Bool) → List Done → List Row → List ℕ
+text_of asked dones rows = flat_map call_line dones ++ last_lines asked (length dones) rows
 
 -- The output of the world's run; keys and values are those that its words hold.
 abbrev pub text_in : Asked → World → List ℕ
@@ -46,7 +54,7 @@ pub record Served (p : ConfigParts) (left rest : Option (List ℕ)) (before now 
   pub headed : Bool
   pub items : List Item
   pub read : Read p left rest before now (Items headed items)
-  pub few : IsTooMany p (Items headed items) → ⊥
+  pub few : AreFew p items
   pub calls : map item_of (dones_of w) ≡ items
   pub run : IsRun p (words_of w) (log_of w) (dones_of w)
 
@@ -55,7 +63,7 @@ pub record ReadUnserved (p : ConfigParts) (left rest : Option (List ℕ)) (befor
   pub headed : Bool
   pub items : List Item
   pub read : Read p left rest before now (Items headed items)
-  pub few : IsTooMany p (Items headed items) → ⊥
+  pub few : AreFew p items
   pub row_is : IsUnserved headed items row
   pub cause_is : cause ≡ NotYet
 

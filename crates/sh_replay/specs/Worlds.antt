@@ -54,5 +54,5 @@ pub record IsServing (p : ConfigParts) (w : World) : Type 0 where
 pub record HasServed (p : ConfigParts) (items : List Item) (w : World) (rows : List Row) : Type 0 where
   pub calls : map item_of (dones_of w) ≡ items
   pub run : IsRun p (words_of w) (log_of w) (dones_of w)
-  pub rows : rows ≡ rows_in p (words_of w)
+  pub rows_are : rows ≡ rows_in p (words_of w)
   pub few : length rows ≤ 64

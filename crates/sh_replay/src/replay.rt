@@ -7,7 +7,7 @@ ghost use Rattle.sh_text.specs.Write.{HasWriteCause};
 ghost use Rattle.sh_words.specs.Order.{asked_of};
 ghost use Rattle.sh_replay.specs.Worlds.{HasServed, IsBlank};
 ghost use Rattle.sh_replay.specs.Serving.{accepted, IsServable};
-ghost use Rattle.sh_replay.specs.Headline.{text_of, unwritten, Headline, Replayed};
+ghost use Rattle.sh_replay.specs.Headline.{last_lines, map_lines, text_of, unwritten, Headline, Replayed};
 
 use crate::World;
 use crate::pairs::{pairs_in, sum_of};
@@ -32,40 +32,59 @@ fn run(alloc: Global, cfg: &Config, items: &[Item]) -> Result<(World, Rows), All
     Ok((world, pairs))
 }
 
+// Writes the map, where it is asked for.
+fn write_map_lines<K: Sink>(
+    alloc: Global,
+    sink: &mut K,
+    asked: bool,
+    rows: &[Row],
+) -> Result<(), WriteError>
+    ensures ok { OnOk result (Appends (K.held sink.old) (K.held sink.new) (map_lines asked rows.now)) }
+    ensures err { OnErr result (AppendsFront (K.held sink.old) (K.held sink.new) (map_lines asked rows.now)) }
+    ensures cause { HasWriteCause (K.faults sink.old) (K.faults sink.new) result }
+{
+    if asked {
+        write_map(alloc, sink, rows)
+    } else {
+        Ok(())
+    }
+}
+
 // Writes the lines behind the calls' lines: the map, where it is asked for, and the last line.
 fn write_last_lines<K: Sink>(
     alloc: Global,
     sink: &mut K,
-    map: bool,
+    asked: bool,
     calls: u64,
-    pairs: &[Row],
+    rows: &[Row],
 ) -> Result<(), WriteError>
-    requires { length pairs.now ≤ 64 }
-    ensures ok { OnOk result (Appends (K.held sink.old) (K.held sink.new) (last_lines map calls pairs.now)) }
-    ensures err { OnErr result (AppendsFront (K.held sink.old) (K.held sink.new) (last_lines map calls pairs.now)) }
+    requires { length rows.now ≤ 64 }
+    ensures ok { OnOk result (Appends (K.held sink.old) (K.held sink.new) (last_lines asked calls rows.now)) }
+    ensures err { OnErr result (AppendsFront (K.held sink.old) (K.held sink.new) (last_lines asked calls rows.now)) }
     ensures cause { HasWriteCause (K.faults sink.old) (K.faults sink.new) result }
 {
-    if map {
-        write_map(alloc, sink, pairs)?;
+    match write_map_lines(alloc, sink, asked, rows) {
+        Ok(()) => write_end(alloc, sink, calls, rows.len() as u64, sum_of(rows)),
+        Err(error) => Err(error),
     }
-    write_end(alloc, sink, calls, pairs.len() as u64, sum_of(pairs))
 }
 
 // Writes the lines of a run, one after another.
+#[tactic(auto, unfolding(crate::specs::Headline::text_of))]
 fn write_lines<K: Sink>(
     alloc: Global,
     sink: &mut K,
-    map: bool,
+    asked: bool,
     dones: &[Done],
-    pairs: &[Row],
+    rows: &[Row],
 ) -> Result<(), WriteError>
-    requires { length pairs.now ≤ 64 }
-    ensures ok { OnOk result (Appends (K.held sink.old) (K.held sink.new) (text_of map dones.now pairs.now)) }
-    ensures err { OnErr result (AppendsFront (K.held sink.old) (K.held sink.new) (text_of map dones.now pairs.now)) }
+    requires { length rows.now ≤ 64 }
+    ensures ok { OnOk result (Appends (K.held sink.old) (K.held sink.new) (text_of asked dones.now rows.now)) }
+    ensures err { OnErr result (AppendsFront (K.held sink.old) (K.held sink.new) (text_of asked dones.now rows.now)) }
     ensures cause { HasWriteCause (K.faults sink.old) (K.faults sink.new) result }
 {
     match write_calls(alloc, sink, dones) {
-        Ok(()) => write_last_lines(alloc, sink, map, dones.len() as u64, pairs),
+        Ok(()) => write_last_lines(alloc, sink, asked, dones.len() as u64, rows),
         Err(error) => Err(error),
     }
 }

@@ -1,7 +1,7 @@
 -- The lines of a run: the calls' lines, and then the last line.
 use Rattle.std.proofs.Common.{◌≡◌, ℕ, ◌+◌, List, [], ◌∷◌, ◌++◌, length, map, Option, Result, Ok, Err, true, eqb, refl, sym, ap, ◌∙◌, subst, inr, arith}
 use Rattle.std.specs.Prelude.{OnErr, sum}
-use Rattle.std.specs.List.{flat_map, fold}
+use Rattle.std.specs.List.{fold}
 use Rattle.std.proofs.lemmas.Bool.Decides.{nat_tests}
 use Rattle.std.proofs.lemmas.List.{append-nil, length-map}
 use Rattle.std.specs.Io.KnownBytes.{Appends}
@@ -16,7 +16,8 @@ use Rattle.sh_text.specs.declared.write.WriteError.TheVariants as error
 use Rattle.sh_text.specs.Write.{CauseOf}
 use Rattle.sh_port.specs.Intake.{TookAll}
 use Rattle.sh_sheet.specs.Sheet.{Items, sheet_of}
-use Rattle.sh_text.specs.Text.{call_line, end_line}
+use Rattle.sh_text.specs.Text.{calls_text, end_line}
+use Rattle.sh_text.specs.declared.points.Points.TheVariants as points
 use Rattle.sh_port.specs.Port.{AppendsFront}
 use Rattle.sh_port.proofs.Bytes.{appends_none}
 use Rattle.sh_text.proofs.Fronts.{front_more}
@@ -50,8 +51,8 @@ module _ (p : ConfigParts) (items : List Item) (w : World) (rows : List Row) (is
   lines_are_text dones pairs same rows_are =
       let pairs_are : map pair_of rows ≡ pairs_in default_parts (words_of w) = h.pairs ∙ ap (λ q. pairs_in q (words_of w)) is in
       ap (λ ds. lines_of ds pairs) same ∙ ap (lines_of (dones_of w)) rows_are
-      ∙ ap (λ n. flat_map call_line (dones_of w) ++ end_line (length (dones_of w)) n (sum_of rows)) (sym (length-map rows pair_of) ∙ ap length pairs_are)
-      ∙ ap (λ n. flat_map call_line (dones_of w) ++ end_line (length (dones_of w)) (length (pairs_in default_parts (words_of w))) n) (sum_of_pairs rows ∙ ap words_sum pairs_are)
+      ∙ ap (λ n. calls_text points.Shown (dones_of w) ++ end_line (length (dones_of w)) n (sum_of rows)) (sym (length-map rows pair_of) ∙ ap length pairs_are)
+      ∙ ap (λ n. calls_text points.Shown (dones_of w) ++ end_line (length (dones_of w)) (length (pairs_in default_parts (words_of w))) n) (sum_of_pairs rows ∙ ap words_sum pairs_are)
 
   pub served_of : (left rest : Option (List ℕ)) (before now : ℕ) (bytes slice : List ℕ) (sheet : List Item) → TookAll left rest before now bytes → slice ≡ bytes → sheet_of p slice ≡ Items sheet → items ≡ sheet → Served left rest before now w
   served_of left rest before now bytes slice sheet took same reads e = record {

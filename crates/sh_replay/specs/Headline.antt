@@ -1,6 +1,5 @@
 -- What a replay leaves, by how it ended.
 use Rattle.std.specs.Prelude.{ℕ, ◌≡◌, ◌<◌, ◌⊎◌, List, ◌++◌, map, length, Option}
-use Rattle.std.specs.List.{flat_map}
 use Rattle.std.specs.Io.KnownBytes.{Appends}
 use Rattle.sh_base.specs.declared.config.ConfigParts.{ConfigParts}
 use Rattle.sh_base.specs.Setting.{default_parts}
@@ -14,20 +13,21 @@ use Rattle.sh_text.specs.declared.write.WriteError.TheVariants as error
 use Rattle.sh_port.specs.Port.{HasRisen, AppendsFront}
 use Rattle.sh_port.specs.Intake.{TookAll, TookSome, TookMost}
 use Rattle.sh_sheet.specs.Sheet.{Reading, Items, Refused, IsTooMany, sheet_of}
-use Rattle.sh_text.specs.Text.{call_line, end_line}
+use Rattle.sh_text.specs.Text.{calls_text, end_line}
+use Rattle.sh_text.specs.declared.points.Points.TheVariants as points
 use Rattle.sh_replay.specs.Runs.{item_of, IsRun}
 use Rattle.sh_replay.specs.Pairs.{pairs_in, sum_of, words_sum}
 use Rattle.sh_replay.specs.Worlds.{words_of, log_of, dones_of}
 use Rattle.sh_replay.specs.declared.world.World.{World}
 
--- the output of a run: a line for each finished call, and the last line, whose numbers of keys and sum of values come
+-- the output of a run: the lines of each finished call, and the last line, whose numbers of keys and sum of values come
 -- from the words
 unfoldable pub text_of : ConfigParts → List Done → List ℕ → List ℕ
-text_of p dones words = flat_map call_line dones ++ end_line (length dones) (length (pairs_in p words)) (words_sum (pairs_in p words))
+text_of p dones words = calls_text points.Shown dones ++ end_line (length dones) (length (pairs_in p words)) (words_sum (pairs_in p words))
 
 -- the same, from the rows of the pairs
 abbrev pub lines_of : List Done → List Row → List ℕ
-lines_of dones rows = flat_map call_line dones ++ end_line (length dones) (length rows) (sum_of rows)
+lines_of dones rows = calls_text points.Shown dones ++ end_line (length dones) (length rows) (sum_of rows)
 
 -- The whole input was taken, and its reading is this one.
 pub record Read (left rest : Option (List ℕ)) (before now : ℕ) (reading : Reading) : Type 0 where

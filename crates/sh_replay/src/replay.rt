@@ -14,7 +14,7 @@ use sh_base::Config;
 use sh_map::{Done, Row, Rows};
 use sh_port::{Intake, Sink, Source, read_all};
 use sh_sheet::{Item, Mode, SheetFault, Status, read_sheet};
-use sh_text::{WriteError, write_calls, write_end};
+use sh_text::{Points, WriteError, write_calls, write_end};
 use std::alloc::{AllocError, Global};
 
 // A world that has served these items, and the pairs of its words.
@@ -41,7 +41,7 @@ fn write_lines<K: Sink>(
     ensures err { OnErr result (AppendsFront (K.held sink.old) (K.held sink.new) (lines_of dones.now pairs.now)) }
     ensures cause { HasWriteCause (K.faults sink.old) (K.faults sink.new) result }
 {
-    match write_calls(alloc, sink, dones) {
+    match write_calls(alloc, sink, Points::Shown, dones) {
         Ok(()) => write_end(
             alloc,
             sink,

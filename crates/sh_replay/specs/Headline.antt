@@ -16,7 +16,8 @@ use Rattle.sh_text.specs.declared.write.WriteError.TheVariants as error
 use Rattle.sh_port.specs.Port.{HasRisen, AppendsFront}
 use Rattle.sh_port.specs.Intake.{TookAll, TookSome, TookMost}
 use Rattle.sh_sheet.specs.Sheet.{Reading, Items, Refused, AreFew, IsTooMany, sheet_of}
-use Rattle.sh_text.specs.Text.{call_line, map_line, end_line}
+use Rattle.sh_text.specs.Text.{calls_text, map_line, end_line}
+use Rattle.sh_text.specs.declared.points.Points.TheVariants as points
 use Rattle.sh_words.specs.Order.{Asked}
 use Rattle.sh_words.specs.Uses.{Text}
 use Rattle.sh_replay.specs.Runs.{item_of, IsRun}
@@ -34,9 +35,9 @@ map_lines asked rows = if asked then flat_map map_line rows else []
 abbrev pub last_lines : (asked : Bool) → (calls : ℕ) → List Row → List ℕ
 last_lines asked calls rows = map_lines asked rows ++ end_line calls (length rows) (sum_of rows)
 
--- the output of a run: a line for each finished call, and the last lines
+-- the output of a run: the lines of each finished call, and the last lines
 unfoldable pub text_of : (asked : Bool) → List Done → List Row → List ℕ
-text_of asked dones rows = flat_map call_line dones ++ last_lines asked (length dones) rows
+text_of asked dones rows = calls_text points.Shown dones ++ last_lines asked (length dones) rows
 
 -- The output of the world's run; keys and values are those that its words hold.
 abbrev pub text_in : Asked → World → List ℕ

@@ -16,7 +16,7 @@ use sh_base::Config;
 use sh_map::{Done, Row, Rows};
 use sh_port::{Intake, Sink, Source, read_all};
 use sh_sheet::{Item, Mode, RowCause, SheetFault, Status, read_sheet};
-use sh_text::{WriteError, write_calls, write_end, write_map};
+use sh_text::{Points, WriteError, write_calls, write_end, write_map};
 use sh_words::{Order, WordFault};
 use std::alloc::{AllocError, Global};
 
@@ -83,7 +83,7 @@ fn write_lines<K: Sink>(
     ensures err { OnErr result (AppendsFront (K.held sink.old) (K.held sink.new) (text_of asked dones.now rows.now)) }
     ensures cause { HasWriteCause (K.faults sink.old) (K.faults sink.new) result }
 {
-    match write_calls(alloc, sink, dones) {
+    match write_calls(alloc, sink, Points::Shown, dones) {
         Ok(()) => write_last_lines(alloc, sink, asked, dones.len() as u64, rows),
         Err(error) => Err(error),
     }

@@ -1,8 +1,8 @@
 // The items of a sheet.
-ghost use Rattle.std.specs.Prelude.{ℕ, List, ◌≡◌, ◌≤◌, ◌∷◌, ◌↔◌, All, IfOk, IfErr, OnOk, IsTrue, MatchResult};
+ghost use Rattle.std.specs.Prelude.{ℕ, List, ◌≡◌, ◌≤◌, ◌<◌, ◌∷◌, ◌↔◌, All, IfOk, IfErr, OnOk, IsTrue, MatchResult, length};
 ghost use Rattle.csv.specs.Records.{fields_of};
 ghost use Rattle.sh_base.specs.Parts.{parts_of};
-ghost use Rattle.sh_sheet.specs.Sheet.{Items, mark_of, sheet_of, AreFew, AreMarksLawful, IsFault, IsLawfulItem};
+ghost use Rattle.sh_sheet.specs.Sheet.{Items, mark_of, row_of, sheet_of, AreFew, AreMarksLawful, IsFault, IsLawfulItem};
 ghost use Rattle.sh_sheet.specs.Reader.{rows_behind, HasMarks};
 
 use crate::rows::{is_heading, item_in};
@@ -43,6 +43,15 @@ impl Sheet {
         ensures { result ≡ self.now.headed }
     {
         self.headed
+    }
+
+    /// The number of the row of an item. Condition: there is such an item.
+    pub fn row_of(&self, item: usize) -> u64
+        requires { item < length self.now.items }
+        ensures { result ≡ row_of self.now.headed item }
+    {
+        let before = if self.headed { 2 } else { 1 };
+        item as u64 + before
     }
 }
 

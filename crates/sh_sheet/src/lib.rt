@@ -2,6 +2,7 @@
 #![tactic(auto)]
 
 mod deed;
+mod found;
 mod item;
 mod number;
 mod records;

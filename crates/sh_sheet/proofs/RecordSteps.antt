@@ -123,16 +123,19 @@ pub reading_more : {R : Type 0} (left : R → Option (List ℕ)) (a b : Reader R
 unfolding Reached
 reading_more left a b n m rows fields was took first turns =
     let next = rows-more left a b fields default_config a.state was.rest was.rest [] was.config was.known (refl, refl) took in
-    let (z, at_z, (p, is_p, at_fields, (at_state, at_rest))) = next in
-    (records_at b.state z, was.whole ∙ joined a.state was.rest p fields b.state z (records_more a.state was.rest p is_p) at_fields at_state at_rest, record {
-      plain = took.3 ∙ was.plain;
-      ready = inl first;
-      config = took.2 ∙ was.config;
-      more = turns;
-      rest = z;
-      known = at_z;
-      whole = refl;
-    })
+    let (z, at_z, (p, is_p, at_fields, (at_state, at_rest))) = next in (
+      records_at b.state z,
+      was.whole ∙ joined a.state was.rest p fields b.state z (records_more a.state was.rest p is_p) at_fields at_state at_rest,
+      record {
+        plain = took.3 ∙ was.plain;
+        ready = inl first;
+        config = took.2 ∙ was.config;
+        more = turns;
+        rest = z;
+        known = at_z;
+        whole = refl;
+      },
+    )
 
 -- after the last record
 pub reading_end : {R : Type 0} (left : R → Option (List ℕ)) (a b : Reader R) (n : ℕ) (rows : List (List (List ℕ))) (fields : List (List ℕ))

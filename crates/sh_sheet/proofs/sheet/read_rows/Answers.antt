@@ -10,19 +10,22 @@ loop-read-init c =
     let made = c.from_reader-reader.ensures in
     let start = c.into_iter-read-iterator.ensures.into_iter_gives in
     let reader = c.into_byte_records-read-items.ensures.rdr in
-    rw (start, reader, c.new-2.ensures.items) (λ n. rw (c.new-3.ensures.empty) refl, record {
-      rows = records_in c.args.bytes.now;
-      reading = record {
-        plain = rw (c.flexible.ensures, c.has_headers.ensures) at made.trim ∙ c.new.ensures.trim;
-        ready = inr (inr (rw (c.flexible.ensures, c.has_headers.ensures) at made.has_headers, made.headers));
-        config = rw (c.flexible.ensures, c.has_headers.ensures) at made.config ∙ c.new.ensures.config;
-        more = c.into_byte_records-read-items.ensures.left;
-        rest = strip_bom c.args.bytes.now;
-        known = made.source;
-        whole = rw made.state refl;
-      };
-      whole = refl;
-    })
+    rw (start, reader, c.new-2.ensures.items) (
+      λ n. rw (c.new-3.ensures.empty) refl,
+      record {
+        rows = records_in c.args.bytes.now;
+        reading = record {
+          plain = rw (c.flexible.ensures, c.has_headers.ensures) at made.trim ∙ c.new.ensures.trim;
+          ready = inr (inr (rw (c.flexible.ensures, c.has_headers.ensures) at made.has_headers, made.headers));
+          config = rw (c.flexible.ensures, c.has_headers.ensures) at made.config ∙ c.new.ensures.config;
+          more = c.into_byte_records-read-items.ensures.left;
+          rest = strip_bom c.args.bytes.now;
+          known = made.source;
+          whole = rw made.state refl;
+        };
+        whole = refl;
+      },
+    )
 
 pub returns-in_err-take_row-in-Ok : goal.returns-in_err-take_row-in-Ok
 returns-in_err-take_row-in-Ok c =

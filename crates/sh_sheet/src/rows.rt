@@ -4,16 +4,19 @@ ghost use Rattle.std.specs.List.{position};
 ghost use Rattle.csv.specs.Records.{fields_of};
 ghost use Rattle.sh_base.specs.Parts.{parts_of};
 ghost use Rattle.sh_sheet.specs.Number.{number_of};
-ghost use Rattle.sh_sheet.specs.Row.{colon_parts, deed_of, has_mark, is_heading, item_in, value_in};
-ghost use Rattle.sh_sheet.specs.declared.deed.Op.TheVariants.{Put, Range};
+ghost use Rattle.sh_sheet.specs.Row.{colon_parts, deed_of, is_heading, item_in, value_in};
+ghost use Rattle.sh_map.specs.declared.call.Call.TheVariants.{Put, Range};
+ghost use Rattle.sh_sheet.specs.Sheet.{marks_in};
+ghost use Rattle.sh_sheet.specs.Reader.{HasMarks};
+ghost use Rattle.sh_sheet.specs.declared.deed.Deed.TheVariants.{Ask};
 ghost use Rattle.sh_sheet.specs.Parts.{parts_behind};
 
 use crate::deed::{Deed, Op};
+use crate::found::Found;
 use crate::{Item, Mode, RowCause, parse_number};
 use csv::ByteRecord;
 use sh_base::{Config, Value};
 use sh_map::Call;
-use std::collections::BTreeSet;
 
 // Where the first colon of a text stands.
 fn find_colon(text: &[u8]) -> Option<usize>
@@ -60,7 +63,7 @@ fn parse_value(text: &[u8], count: usize) -> Option<Value>
 fn put_of(words: u32, key: u64, b: &[u8]) -> Option<Deed>
     requires low { 1 ≤ words }
     requires high { words ≤ 8 }
-    ensures { result ≡ deed_of words Put key b.now }
+    ensures { result ≡ option_map (λ value. Ask (Put key value)) (value_in words b.now) }
 {
     let value = parse_value(b, words as usize)?;
     Some(Deed::Ask(Call::Put { key, value }))
@@ -68,7 +71,7 @@ fn put_of(words: u32, key: u64, b: &[u8]) -> Option<Deed>
 
 // The range from a low to a field that says a number.
 fn range_of(low: u64, b: &[u8]) -> Option<Deed>
-    ensures { (words : ℕ) → result ≡ deed_of words Range low b.now }
+    ensures { result ≡ option_map (λ high. Ask (Range low high)) (number_of b.now) }
 {
     let high = parse_number(b)?;
     Some(Deed::Ask(Call::Range { low, high }))
@@ -132,10 +135,11 @@ fn four_fields(row: &ByteRecord) -> Option<Fields<'_>>
 fn item_of_fields(
     cfg: &Config,
     mode: Mode,
-    marks: &BTreeSet<u64>,
+    found: &Found,
     fields: Fields<'_>,
 ) -> Result<Item, RowCause>
-    ensures { result ≡ item_in (parts_of cfg.now) mode marks.now.keys (fields.entry.op.now ∷ fields.entry.seat.now ∷ fields.entry.a.now ∷ fields.entry.b.now ∷ []) }
+    requires { HasMarks found.now.marks found.now.items.items }
+    ensures { result ≡ item_in (parts_of cfg.now) mode (marks_in found.now.items.items) (fields.entry.op.now ∷ fields.entry.seat.now ∷ fields.entry.a.now ∷ fields.entry.b.now ∷ []) }
 {
     let op = Op::named(fields.op).ok_or(RowCause::BadOp)?;
     if !op.is_here(mode) {
@@ -153,35 +157,25 @@ fn item_of_fields(
     if !deed.has_bounds() {
         return Err(RowCause::BadBounds);
     }
-    if !has_mark(marks, &deed) {
+    if !found.has_mark(&deed) {
         return Err(RowCause::BadMark);
     }
     Ok(deed.by_seat(seat as u32))
 }
 
-// Whether a mark is new and an after names a mark, behind marks of these numbers.
-fn has_mark(marks: &BTreeSet<u64>, deed: &Deed) -> bool
-    ensures { result ≡ has_mark marks.now.keys deed.now }
-{
-    match *deed {
-        Deed::Mark(number) => !marks.contains(&number),
-        Deed::After(number) => marks.contains(&number),
-        _ => true,
-    }
-}
-
-/// The item of a row behind mark rows of these numbers, or the first test that the row fails.
+/// The item of a row behind what is found so far, or the first test that the row fails.
 #[tactic(auto, using(crate::proofs::RowFields::not_four))]
 pub(crate) fn item_in(
     cfg: &Config,
     mode: Mode,
-    marks: &BTreeSet<u64>,
+    found: &Found,
     row: &ByteRecord,
 ) -> Result<Item, RowCause>
-    ensures { result ≡ item_in (parts_of cfg.now) mode marks.now.keys (fields_of row.now) }
+    requires { HasMarks found.now.marks found.now.items.items }
+    ensures { result ≡ item_in (parts_of cfg.now) mode (marks_in found.now.items.items) (fields_of row.now) }
 {
     match four_fields(row) {
-        Some(fields) => item_of_fields(cfg, mode, marks, fields),
+        Some(fields) => item_of_fields(cfg, mode, found, fields),
         None => Err(RowCause::FieldCount),
     }
 }

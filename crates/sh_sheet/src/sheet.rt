@@ -2,9 +2,10 @@
 ghost use Rattle.std.specs.Prelude.{ℕ, List, ◌≡◌, ◌≤◌, ◌<◌, ◌∷◌, ◌↔◌, All, IfOk, IfErr, OnOk, IsTrue, MatchResult, length};
 ghost use Rattle.csv.specs.Records.{fields_of};
 ghost use Rattle.sh_base.specs.Parts.{parts_of};
-ghost use Rattle.sh_sheet.specs.Sheet.{Items, mark_of, row_of, sheet_of, AreFew, AreMarksLawful, IsFault, IsLawfulItem};
+ghost use Rattle.sh_sheet.specs.Sheet.{Items, row_of, sheet_of, AreFew, AreMarksLawful, IsFault, IsLawfulItem};
 ghost use Rattle.sh_sheet.specs.Reader.{rows_behind, HasMarks};
 
+use crate::found::Found;
 use crate::rows::{is_heading, item_in};
 use crate::totals::are_few;
 use crate::{Item, Mode, SheetFault};
@@ -55,36 +56,6 @@ impl Sheet {
     }
 }
 
-// What is read of a sheet so far, and the numbers of its marks.
-#[derive(Debug, Drop)]
-struct Found {
-    headed: bool,
-    items: Vec<Item>,
-    marks: BTreeSet<u64>,
-}
-
-// The number of a mark.
-fn mark_of(item: &Item) -> Option<u64>
-    ensures { result ≡ mark_of item.now }
-{
-    match *item {
-        Item::Mark { number, .. } => Some(number),
-        _ => None,
-    }
-}
-
-// Takes an item.
-fn add_item(found: &mut Found, item: Item) -> Result<(), SheetFault>
-    requires { HasMarks found.old.marks found.old.items.items }
-    ensures marks { OnOk result (HasMarks found.new.marks found.new.items.items) }
-{
-    if let Some(number) = mark_of(&item) {
-        found.marks.insert(number)?;
-    }
-    found.items.push(item)?;
-    Ok(())
-}
-
 // Takes the next row.
 fn take_row(found: &mut Found, cfg: &Config, mode: Mode, row: &ByteRecord) -> Result<(), SheetFault>
     requires { HasMarks found.old.marks found.old.items.items }
@@ -92,12 +63,12 @@ fn take_row(found: &mut Found, cfg: &Config, mode: Mode, row: &ByteRecord) -> Re
     ensures taken { OnOk result ((rest : List (List (List ℕ))) → rows_behind (parts_of cfg.now) mode found.old.headed found.old.items.items (fields_of row.now ∷ rest) ≡ rows_behind (parts_of cfg.now) mode found.new.headed found.new.items.items rest) }
     ensures refused { IfErr result (λ e. (rest : List (List (List ℕ))) → IsFault (parts_of cfg.now) (rows_behind (parts_of cfg.now) mode found.old.headed found.old.items.items (fields_of row.now ∷ rest)) e) }
 {
-    if !found.headed && found.items.is_empty() && is_heading(row) {
+    if found.is_start() && is_heading(row) {
         found.headed = true;
         return Ok(());
     }
-    match item_in(cfg, mode, &found.marks, row) {
-        Ok(item) => add_item(found, item),
+    match item_in(cfg, mode, found, row) {
+        Ok(item) => found.add(item),
         Err(cause) => {
             let before = if found.headed { 2 } else { 1 };
             Err(SheetFault::Row {

@@ -1,18 +1,22 @@
 //! The rows of a sheet, what they ask for, and how a run ends.
 #![tactic(auto)]
 
+mod deed;
+mod found;
 mod item;
 mod number;
 mod records;
 mod rows;
 mod sheet;
 mod status;
+mod totals;
 
 pub use item::{Item, Mode, SheetFault};
 pub use number::parse_number;
-pub use records::{known_sheets, records_of};
-pub use sheet::{MOST_CALLS, Sheet, read_sheet};
+pub use records::known_sheets;
+pub use sheet::{Sheet, read_sheet};
 pub use status::{RowCause, Status};
+pub use totals::{MOST_CALLS, MOST_ROWS, MOST_TURNS};
 
 #[cfg(test)]
 mod tests {

@@ -1,18 +1,18 @@
 -- The made calls: one call more, and that they are lawful and few.
-use Rattle.std.proofs.Common.{ℕ, zero, suc, ◌≡◌, ◌≤◌, ◌<◌, ◌+◌, ◌-◌, ◌*◌, ◌/◌, ◌%◌, ◌^◌, Bool, true, false, List, [], ◌∷◌, ◌++◌, length, map, take, set, refl, sym, ap, ◌∙◌, arith, add-one, mod-lt, lt_of_not-le}
+use Rattle.std.proofs.Common.{ℕ, zero, suc, ◌≡◌, ◌≤◌, ◌<◌, ◌+◌, ◌-◌, ◌/◌, ◌%◌, ◌^◌, Bool, true, false, List, [], ◌∷◌, ◌++◌, length, map, take, set, Some, subst, refl, sym, ap, ◌∙◌, arith, add-one, mod-lt, lt_of_not-le}
 use Rattle.std.specs.Prelude.{All, nat_le, if◌then◌else◌}
 use Rattle.std.specs.List.{fold, range_with_len, slice_get, sum_by}
-use Rattle.std.specs.Option.{IfSome}
 use Rattle.std.proofs.lemmas.List.{take_more_set}
 use Rattle.std.proofs.lemmas.List.Elements.{All-cons, All-nil}
 use Rattle.std.proofs.lemmas.List.FromFn.{length-range_with_len, map-range_with_len_more}
+use Rattle.std.proofs.lemmas.Option.{same_Some}
 use Rattle.sh_base.specs.declared.config.ConfigParts.{ConfigParts}
 use Rattle.sh_base.specs.Setting.{all_seats, IsSetting}
 use Rattle.sh_map.specs.declared.call.Call.{Call}
 use Rattle.sh_map.specs.declared.call.Call.TheVariants.{Get, Put, Del, Range}
-use Rattle.sh_map.specs.Calls.{IsInRange, IsKey}
-use Rattle.sh_sheet.specs.Generate.{call_from, key_from, made_call, made_item, made_items, next_number, number_at}
-use Rattle.sh_sheet.specs.Sheet.{AreFew, AreMarksLawful, IsLawfulItem, IsLawfulMark, calls_of, marks_in, most_calls, most_rows, most_turns, rows_of, turns_of}
+use Rattle.sh_map.specs.Calls.{IsInRange}
+use Rattle.sh_sheet.specs.Generate.{key_from, made_call, made_item, made_items, next_number, number_at}
+use Rattle.sh_sheet.specs.Sheet.{AreFew, AreMarksLawful, IsLawfulItem, IsLawfulMark, calls_of, most_rows, rows_of, turns_of}
 use Rattle.sh_sheet.specs.declared.item.Item.{Item}
 use Rattle.sh_sheet.specs.declared.item.Item.TheVariants.{Ask}
 
@@ -78,14 +78,14 @@ module _ (p : ConfigParts) (n seed : ℕ) where
   pub made_lawful : IsSetting p → 1 ≤ n → n ≤ 1000000 → (items : List Item) → items ≡ made_items p n seed → All (IsLawfulItem p) items
   made_lawful set low high items e = rw e (all_lawful set low high (range_with_len 1 n))
 
-  no_mark : (marks is : List ℕ) (i : ℕ) → IfSome (slice_get (map (made_item p n seed) is) i) (IsLawfulMark marks)
-  no_mark marks [] i = tt
-  no_mark marks (j ∷ is) zero = tt
-  no_mark marks (j ∷ is) (suc i) = no_mark marks is i
+  no_mark : (marks is : List ℕ) (i : ℕ) (item : Item) → slice_get (map (made_item p n seed) is) i ≡ Some item → IsLawfulMark marks item
+  no_mark marks [] i item e = cc
+  no_mark marks (j ∷ is) zero item e = subst (IsLawfulMark marks) (same_Some _ _ e) tt
+  no_mark marks (j ∷ is) (suc i) item e = no_mark marks is i item e
 
   -- there are no marks among them
   pub made_marks : (items : List Item) → items ≡ made_items p n seed → AreMarksLawful items
-  made_marks items e = rw e (λ i. no_mark _ (range_with_len 1 n) i)
+  made_marks items e = rw e (λ i item at. no_mark _ (range_with_len 1 n) i item at)
 
   fold_calls : (k : ℕ) (is : List ℕ) → fold (λ a x. a + calls_of x) k (map (made_item p n seed) is) ≡ k + length is
   fold_calls k [] = omega arith

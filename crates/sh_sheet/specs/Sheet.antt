@@ -1,10 +1,8 @@
 -- What a sheet says.
-use Rattle.std.specs.Prelude.{ℕ, ◌≡◌, ◌≢◌, ◌+◌, ◌-◌, ◌<◌, ◌≤◌, ◌⊎◌, Bool, true, false, nat_le, List, [], ◌∷◌, ◌++◌, length, take, Option, Some, None, Result, Ok, Err, if◌then◌else◌}
+use Rattle.std.specs.Prelude.{ℕ, ◌≡◌, ◌+◌, ◌-◌, ◌<◌, ◌≤◌, ◌⊎◌, Bool, true, false, nat_le, List, [], ◌∷◌, ◌++◌, length, take, Option, Some, None, Result, Ok, Err, if◌then◌else◌}
 use Rattle.std.specs.List.{Contains, filter_map, slice_get, sum_by}
-use Rattle.std.specs.Option.{IfSome}
 use Rattle.sh_base.specs.declared.config.ConfigParts.{ConfigParts}
 use Rattle.sh_base.specs.Setting.{all_seats}
-use Rattle.sh_map.specs.declared.call.Call.{Call}
 use Rattle.sh_map.specs.declared.call.Call.TheVariants.{Range}
 use Rattle.sh_map.specs.Calls.{IsInRange}
 use Rattle.sh_sheet.specs.Records.{records_in}
@@ -118,4 +116,4 @@ IsLawfulMark marks other = Unit {0}
 -- each item is lawful behind the marks of the items before it: no two marks have one number, and an after names an
 -- earlier mark
 abbrev pub AreMarksLawful : List Item → Type 0
-AreMarksLawful found = (i : ℕ) → IfSome (slice_get found i) (IsLawfulMark (marks_in (take i found)))
+AreMarksLawful found = (i : ℕ) (item : Item) → slice_get found i ≡ Some item → IsLawfulMark (marks_in (take i found)) item

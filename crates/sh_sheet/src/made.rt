@@ -122,3 +122,58 @@ pub fn generate(alloc: Global, cfg: &Config, n: u64, seed: u64) -> Result<Sheet,
         items,
     })
 }
+
+#[cfg(test)]
+mod tests {
+    use super::*;
+    use sh_base::ConfigParts;
+    use std::test::Fail;
+
+    // An item's seat, its call as a letter, its key or low, and a put's two words or a range's high.
+    fn told(item: &Item) -> (u32, u8, u64, u64, u64) {
+        match *item {
+            Item::Ask { seat, call } => match call {
+                Call::Put { key, value } => {
+                    let words = value.words();
+                    let second = if words.len() == 2 { words[1] } else { 0 };
+                    (seat, b'p', key, words[0], second)
+                }
+                Call::Get { key } => (seat, b'g', key, 0, 0),
+                Call::Del { key } => (seat, b'd', key, 0, 0),
+                Call::Range { low, high } => (seat, b'r', low, high, 0),
+            },
+            _ => (0, b'x', 0, 0, 0),
+        }
+    }
+
+    #[test]
+    fn one_call_of_seed_seven_is_a_put_of_one(rt: HostRuntime) -> Result<(), Fail> {
+        let sheet = generate(rt.alloc(), &Config::default(), 1, 7).expect(&rt, "a sheet");
+        assert_eq!(rt; sheet.as_slice().len(), 1);
+        assert_eq!(rt; told(&sheet.as_slice()[0]), (0, b'p', 1, 1, 0));
+        assert!(rt; !sheet.has_heading());
+        Ok(())
+    }
+
+    #[test]
+    fn five_calls_of_seed_eight_by_two_seats(rt: HostRuntime) -> Result<(), Fail> {
+        let mut parts = ConfigParts::default();
+        parts.computes = 1;
+        parts.seats = 2;
+        parts.value_words = 2;
+        let cfg = Config::new(parts).expect(&rt, "a setting");
+        let sheet = generate(rt.alloc(), &cfg, 5, 8).expect(&rt, "a sheet");
+        let calls = [
+            (0, b'd', 5, 0, 0),
+            (1, b'p', 3, 2, 3),
+            (0, b'r', 3, 19, 0),
+            (1, b'p', 3, 4, 5),
+            (0, b'g', 5, 0, 0),
+        ];
+        assert_eq!(rt; sheet.as_slice().len(), calls.len());
+        for place in 0..calls.len() {
+            assert_eq!(rt; told(&sheet.as_slice()[place]), calls[place]);
+        }
+        Ok(())
+    }
+}

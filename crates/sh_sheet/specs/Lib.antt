@@ -1,3 +1,4 @@
+pub mod Generate
 pub mod Number
 pub mod Parts
 pub mod Reader

@@ -19,8 +19,8 @@ use std::marker::Model;
 /// i + 2 behind a heading.
 #[derive(Debug, Drop)]
 pub struct Sheet {
-    headed: bool,
-    items: Vec<Item>,
+    pub(crate) headed: bool,
+    pub(crate) items: Vec<Item>,
 }
 
 impl Model for Sheet {

@@ -1,6 +1,7 @@
 -- A front of a text that is written part by part.
-use Rattle.std.proofs.Common.{ℕ, ◌≡◌, ◌<◌, ◌+◌, length, List, ◌++◌, Option, take, drop, get_or, sym, ap, ◌∙◌, append_assoc}
-use Rattle.std.proofs.lemmas.List.{drop_more, take-append-drop}
+use Rattle.std.proofs.Common.{ℕ, ◌≡◌, ◌<◌, ◌+◌, length, List, [], ◌++◌, Option, Result, Ok, Err, take, drop, get_or, sym, ap, ◌∙◌, append_assoc}
+use Rattle.std.specs.Prelude.{OnErr}
+use Rattle.std.proofs.lemmas.List.{append-nil, drop_more, take-append-drop}
 use Rattle.std.proofs.lemmas.List.Concat.{flat_map-append}
 use Rattle.std.specs.List.{flat_map}
 use Rattle.std.specs.Io.KnownBytes.{Appends}
@@ -19,6 +20,11 @@ front_more a b c before part after whole e h f = record {
   whole = e ∙ (ap (λ t. before ++ (t ++ after)) f.whole ∙ (ap (λ t. before ++ t) (append_assoc f.front f.rest after) ∙ sym (append_assoc before f.front (f.rest ++ after))));
   written = appends_more a b c before f.front h f.written;
 }
+
+-- the first part is written; where the second isn't, a front of it is
+pub front_behind : {E : Type 0} (a b c : Option (List ℕ)) (first second : List ℕ) (r : Result (Unit {0}) E) → Appends a b first → OnErr r (AppendsFront b c second) → OnErr r (AppendsFront a c (first ++ second))
+front_behind a b c first second (Ok x) before f = tt
+front_behind a b c first second (Err e) before f = front_more a b c first second [] (first ++ second) (ap (λ t. first ++ t) (sym (append-nil second))) before f
 
 -- the texts before the one at i, and those from it on
 pub parts_at : {X : Type 0} (f : X → List ℕ) (xs : List X) (i : ℕ) → flat_map f xs ≡ flat_map f (take i xs) ++ flat_map f (drop i xs)

@@ -2,12 +2,17 @@
 use Rattle.std.specs.Prelude.{ℕ, List, [], ◌∷◌, ◌++◌, nat_lt, codes, if◌then◌else◌}
 use Rattle.std.specs.Fmt.{decimal}
 use Rattle.std.specs.List.{flat_map}
+use Rattle.sh_base.specs.declared.event.Event.{Event}
+use Rattle.sh_base.specs.declared.event.Event.TheVariants as event
+use Rattle.sh_base.specs.Memory.{at_of}
 use Rattle.sh_map.specs.declared.call.Call.{Call}
 use Rattle.sh_map.specs.declared.call.Call.TheVariants.{Get, Put, Del, Range}
 use Rattle.sh_map.specs.declared.call.Reply.{Reply}
 use Rattle.sh_map.specs.declared.call.Reply.TheVariants as reply
 use Rattle.sh_map.specs.declared.book.Row.{Row}
 use Rattle.sh_map.specs.declared.book.Done.{Done}
+use Rattle.sh_text.specs.declared.points.Points.{Points}
+use Rattle.sh_text.specs.declared.points.Points.TheVariants as points
 
 -- a value: its words, joined by colons
 abbrev pub value_text : List ℕ → List ℕ
@@ -63,22 +68,80 @@ point_text reply.Full first point = []
 point_text (reply.Worn version) first point = []
 point_text reply.NoSplitYet first point = []
 
+-- what ends a call's line behind its value: the column of points, where it is shown, and the line feed
+abbrev pub point_column : Points → Reply → ℕ → ℕ → List ℕ
+point_column points.Shown r first point = codes "," ++ (point_text r first point ++ codes "\n")
+point_column points.Hidden r first point = codes "\n"
+
 -- the front of a call's line: its number, its seat, its word, a and b
-abbrev pub call_front : Done → List ℕ
-call_front d = (decimal d.n ++ codes ",") ++ ((decimal d.seat ++ codes ",") ++ ((op_text d.call ++ codes ",") ++ ((decimal (a_of d.call) ++ codes ",") ++ (b_text d.call ++ codes ","))))
+abbrev pub call_front : ℕ → ℕ → Call → List ℕ
+call_front n seat call = (decimal n ++ codes ",") ++ ((decimal seat ++ codes ",") ++ ((op_text call ++ codes ",") ++ ((decimal (a_of call) ++ codes ",") ++ (b_text call ++ codes ","))))
 
 -- the rest: the reply's word, its value and its point
-abbrev pub call_rest : Done → List ℕ
-call_rest d = (reply_text d.call d.reply ++ codes ",") ++ ((reply_value d.reply ++ codes ",") ++ (point_text d.reply d.first d.point ++ codes "\n"))
+abbrev pub call_rest : Points → Done → List ℕ
+call_rest shown d = (reply_text d.call d.reply ++ codes ",") ++ (reply_value d.reply ++ point_column shown d.reply d.first d.point)
 
 -- the line of a finished call
-unfoldable pub call_line : Done → List ℕ
-call_line d = call_front d ++ call_rest d
+unfoldable pub call_line : Points → Done → List ℕ
+call_line shown d = call_front d.n d.seat d.call ++ call_rest shown d
 
--- the line of a key and its value
+-- the rest of the line of a call that hasn't ended: no value, and no point
+abbrev pub pending_rest : Points → List ℕ
+pending_rest points.Shown = codes "pending,,\n"
+pending_rest points.Hidden = codes "pending,\n"
+
+-- the line of a call that hasn't ended
+unfoldable pub pending_line : Points → ℕ → ℕ → Call → List ℕ
+pending_line shown n seat call = call_front n seat call ++ pending_rest shown
+
+-- a key and its value, and the end of a line
+abbrev pub pair_rest : Row → List ℕ
+pair_rest r = (decimal r.key ++ codes ",") ++ (value_text r.value ++ codes "\n")
+
+-- the line of one of the rows of range n
+unfoldable pub row_line : ℕ → Row → List ℕ
+row_line n r = codes "row," ++ ((decimal n ++ codes ",") ++ pair_rest r)
+
+-- the lines of a finished call: its own, and those of its rows in their order
+abbrev pub call_text : Points → Done → List ℕ
+call_text shown d = call_line shown d ++ flat_map (row_line d.n) d.rows
+
+-- the lines of finished calls
+abbrev pub calls_text : Points → List Done → List ℕ
+calls_text shown dones = flat_map (call_text shown) dones
+
+-- the line of a key of the map and its value
 unfoldable pub map_line : Row → List ℕ
-map_line r = codes "map," ++ ((decimal r.key ++ codes ",") ++ (value_text r.value ++ codes "\n"))
+map_line r = codes "map," ++ pair_rest r
 
--- the last line: how many calls there were, how many keys there are, and the sum of all words of their values
+-- the last line of a run whose calls have all ended: how many calls there were, how many keys there are, and the sum of
+-- all words of their values
 unfoldable pub end_line : ℕ → ℕ → ℕ → List ℕ
 end_line calls keys sum = codes "end," ++ ((decimal calls ++ codes ",") ++ ((decimal keys ++ codes ",") ++ (decimal sum ++ codes "\n")))
+
+-- the last line of a run that was given up: how many calls there were, and how many of them have ended
+unfoldable pub unfinished_line : ℕ → ℕ → List ℕ
+unfinished_line calls done = codes "unfinished," ++ ((decimal calls ++ codes ",") ++ (decimal done ++ codes "\n"))
+
+-- an event's word
+abbrev pub event_text : Event → List ℕ
+event_text (event.Load at) = codes "load"
+event_text (event.Store at word) = codes "store"
+event_text (event.Exchange at old new) = codes "exchange"
+event_text (event.Add at) = codes "add"
+
+-- the words of an event: what a store puts, what an exchange looks for and what it puts, and the word that was found,
+-- but by a store
+abbrev pub event_words : Event → ℕ → List ℕ
+event_words (event.Load at) found = decimal found ++ codes "\n"
+event_words (event.Store at word) found = decimal word ++ codes "\n"
+event_words (event.Exchange at old new) found = (decimal old ++ codes ",") ++ ((decimal new ++ codes ",") ++ (decimal found ++ codes "\n"))
+event_words (event.Add at) found = decimal found ++ codes "\n"
+
+-- the line of a seat's event and the word that it found
+unfoldable pub event_line : ℕ → Event → ℕ → List ℕ
+event_line seat e found = codes "event," ++ ((decimal seat ++ codes ",") ++ ((event_text e ++ codes ",") ++ ((decimal (at_of e) ++ codes ",") ++ event_words e found)))
+
+-- the line of made calls: how many, and their seed
+unfoldable pub made_line : ℕ → ℕ → List ℕ
+made_line n seed = codes "made," ++ ((decimal n ++ codes ",") ++ (decimal seed ++ codes "\n"))

@@ -1,11 +1,23 @@
 //! The lines of an answer, and the functions that write them to a sink.
 #![tactic(auto)]
 
+mod call;
+mod counting;
+mod counts;
 mod line;
+mod points;
+mod push;
 mod write;
 
-pub use line::{call_line, end_line, map_line};
-pub use write::{WriteError, write_calls, write_end, write_map};
+pub use call::{call_line, pending_line};
+pub use counting::{counts_line, counts_of};
+pub use counts::Counts;
+pub use line::{end_line, event_line, made_line, map_line, row_line, unfinished_line};
+pub use points::Points;
+pub use write::{
+    WriteError, write_call, write_calls, write_counts, write_end, write_event, write_made,
+    write_map, write_pending, write_unfinished,
+};
 
 #[cfg(test)]
 mod tests {
@@ -38,7 +50,7 @@ mod tests {
         dones.push(done(alloc, 3, Call::Del { key: 5 }, Reply::Some(value), 1))?;
         dones.push(done(alloc, 4, Call::Get { key: 5 }, Reply::None, 2))?;
         let mut sink = ListSink::new(alloc, 1024, 7, Vec::new(alloc))?;
-        assert!(rt; write_calls(alloc, &mut sink, &dones).is_ok());
+        assert!(rt; write_calls(alloc, &mut sink, Points::Shown, &dones).is_ok());
         assert!(rt; write_end(alloc, &mut sink, 4, 0, 0).is_ok());
         assert_eq!(rt;
             sink.bytes(),

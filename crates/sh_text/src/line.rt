@@ -1,158 +1,24 @@
-// The lines of an answer.
-ghost use Rattle.std.specs.Prelude.{◌≡◌, ◌∷◌, ◌++◌, [], IfOk, OnOk, codes, string_bytes};
+// The lines of an answer that are about no one call.
+ghost use Rattle.std.specs.Prelude.{◌≡◌, ◌++◌, IfOk, OnOk, codes, string_bytes};
 ghost use Rattle.std.specs.Fmt.{decimal};
-ghost use Rattle.std.specs.List.{flat_map};
-ghost use Rattle.sh_text.specs.Text.{a_of, b_text, call_front, call_line, call_rest, end_line, map_line, op_text, point_text, reply_text, reply_value, value_text};
+ghost use Rattle.sh_base.specs.Memory.{at_of};
+ghost use Rattle.sh_text.specs.Text.{end_line, event_line, event_text, event_words, made_line, map_line, row_line, unfinished_line};
 
-use sh_base::Value;
-use sh_map::{Call, Done, Reply, Row};
+use crate::push::{push_last, push_number, push_pair, push_word};
+use sh_base::Event;
+use sh_map::Row;
 use std::alloc::{AllocError, Global};
 use std::fmt::Write;
 
-// A number, and a comma.
-fn push_number(text: &mut String, n: u64) -> Result<(), AllocError>
-    ensures { OnOk result (string_bytes text.new ≡ string_bytes text.old ++ (decimal n ++ codes ",")) }
-{
-    write!(text, "{n},")
-}
-
-// A word, and a comma.
-fn push_word(text: &mut String, word: &str) -> Result<(), AllocError>
-    ensures { OnOk result (string_bytes text.new ≡ string_bytes text.old ++ (word.now ++ codes ",")) }
-{
-    write!(text, "{word},")
-}
-
-// Words, each behind a colon.
-fn push_more_words(text: &mut String, words: &[u64]) -> Result<(), AllocError>
-    ensures { OnOk result (string_bytes text.new ≡ string_bytes text.old ++ flat_map (λ w. codes ":" ++ decimal w) words.now) }
-{
-    for word in words {
-        write!(text, ":{word}")?;
-    }
-    Ok(())
-}
-
-// A value: its words, joined by colons.
-fn push_words(text: &mut String, words: &[u64]) -> Result<(), AllocError>
-    ensures { OnOk result (string_bytes text.new ≡ string_bytes text.old ++ value_text words.now) }
-{
-    let Some((first, more)) = words.split_first() else {
-        return Ok(());
-    };
-    write!(text, "{first}")?;
-    push_more_words(text, more)
-}
-
-// A value, and what ends it.
-fn push_value(text: &mut String, value: &Value, end: &str) -> Result<(), AllocError>
-    ensures { OnOk result (string_bytes text.new ≡ string_bytes text.old ++ (value_text value.now ++ end.now)) }
-{
-    push_words(text, value.words())?;
-    write!(text, "{end}")
-}
-
-// A call's word.
-fn op_word(call: &Call) -> &'static str
-    ensures { result.now ≡ op_text call.now }
-{
-    match call {
-        Call::Get { .. } => "get",
-        Call::Put { .. } => "put",
-        Call::Del { .. } => "del",
-        Call::Range { .. } => "range",
-    }
-}
-
-// A call's key, or a range's low.
-fn a_of(call: &Call) -> u64
-    ensures { result ≡ a_of call.now }
-{
-    match *call {
-        Call::Get { key } | Call::Put { key, .. } | Call::Del { key } => key,
-        Call::Range { low, .. } => low,
-    }
-}
-
-// A call's value or high, and a comma.
-fn push_b(text: &mut String, call: &Call) -> Result<(), AllocError>
-    ensures { OnOk result (string_bytes text.new ≡ string_bytes text.old ++ (b_text call.now ++ codes ",")) }
-{
-    match call {
-        Call::Put { value, .. } => push_value(text, value, ","),
-        Call::Range { high, .. } => push_number(text, *high),
-        Call::Get { .. } | Call::Del { .. } => write!(text, ","),
-    }
-}
-
-// A reply's word.
-fn reply_word(call: &Call, reply: &Reply) -> &'static str
-    ensures { result.now ≡ reply_text call.now reply.now }
-{
-    match reply {
-        Reply::Some(_) => "some",
-        Reply::None => "none",
-        Reply::Rows { upto } => match call {
-            Call::Range { high, .. } if upto < high => "part",
-            _ => "rows",
-        },
-        Reply::Full => "full",
-        Reply::Worn { .. } => "worn",
-        Reply::NoSplitYet => "nosplit",
-    }
-}
-
-// A reply's value, and a comma.
-fn push_reply_value(text: &mut String, reply: &Reply) -> Result<(), AllocError>
-    ensures { OnOk result (string_bytes text.new ≡ string_bytes text.old ++ (reply_value reply.now ++ codes ",")) }
-{
-    match reply {
-        Reply::Some(value) => push_value(text, value, ","),
-        Reply::Rows { upto } => push_number(text, *upto),
-        Reply::Worn { version } => push_number(text, *version),
-        Reply::None | Reply::Full | Reply::NoSplitYet => write!(text, ","),
-    }
-}
-
-// A reply's point or points, and the line's end.
-fn push_point(text: &mut String, reply: &Reply, first: u64, point: u64) -> Result<(), AllocError>
-    ensures { OnOk result (string_bytes text.new ≡ string_bytes text.old ++ (point_text reply.now first point ++ codes "\n")) }
-{
-    match reply {
-        Reply::Some(_) | Reply::None => write!(text, "{point}\n"),
-        Reply::Rows { .. } => write!(text, "{first}:{point}\n"),
-        Reply::Full | Reply::Worn { .. } | Reply::NoSplitYet => write!(text, "\n"),
-    }
-}
-
-// The front of a call's line: its number, its seat, its word, a and b.
-fn push_front(text: &mut String, done: &Done) -> Result<(), AllocError>
-    ensures { OnOk result (string_bytes text.new ≡ string_bytes text.old ++ call_front done.now) }
-{
-    push_number(text, u64::from(done.n))?;
-    push_number(text, u64::from(done.seat))?;
-    push_word(text, op_word(&done.call))?;
-    push_number(text, a_of(&done.call))?;
-    push_b(text, &done.call)
-}
-
-// The rest of a call's line: its reply.
-fn push_rest(text: &mut String, done: &Done) -> Result<(), AllocError>
-    ensures { OnOk result (string_bytes text.new ≡ string_bytes text.old ++ call_rest done.now) }
-{
-    push_word(text, reply_word(&done.call, &done.reply))?;
-    push_reply_value(text, &done.reply)?;
-    push_point(text, &done.reply, done.first, done.point)
-}
-
-/// The line of a finished call, `n,seat,op,a,b,reply,value,point` and a line feed.
-#[tactic(auto, unfolding(crate::specs::Text::call_line))]
-pub fn call_line(alloc: Global, done: &Done) -> Result<String, AllocError>
-    ensures { IfOk result (λ s. string_bytes s ≡ call_line done.now) }
+/// The line of one of the rows of range `n`, `row,n,key,value` and a line feed.
+#[tactic(auto, unfolding(crate::specs::Text::row_line))]
+pub fn row_line(alloc: Global, n: u32, row: &Row) -> Result<String, AllocError>
+    ensures { IfOk result (λ s. string_bytes s ≡ row_line n row.now) }
 {
     let mut text = String::new(alloc);
-    push_front(&mut text, done)?;
-    push_rest(&mut text, done)?;
+    write!(text, "row,")?;
+    push_number(&mut text, u64::from(n))?;
+    push_pair(&mut text, row)?;
     Ok(text)
 }
 
@@ -163,12 +29,11 @@ pub fn map_line(alloc: Global, row: &Row) -> Result<String, AllocError>
 {
     let mut text = String::new(alloc);
     write!(text, "map,")?;
-    push_number(&mut text, row.key)?;
-    push_value(&mut text, &row.value, "\n")?;
+    push_pair(&mut text, row)?;
     Ok(text)
 }
 
-/// The last line, `end,calls,keys,sum` and a line feed.
+/// The last line of a run whose calls have all ended, `end,calls,keys,sum` and a line feed.
 #[tactic(auto, unfolding(crate::specs::Text::end_line))]
 pub fn end_line(alloc: Global, calls: u64, keys: u64, sum: u128) -> Result<String, AllocError>
     ensures { IfOk result (λ s. string_bytes s ≡ end_line calls keys sum) }
@@ -178,5 +43,83 @@ pub fn end_line(alloc: Global, calls: u64, keys: u64, sum: u128) -> Result<Strin
     push_number(&mut text, calls)?;
     push_number(&mut text, keys)?;
     write!(text, "{sum}\n")?;
+    Ok(text)
+}
+
+/// The last line of a run that was given up, `unfinished,calls,done` and a line feed.
+#[tactic(auto, unfolding(crate::specs::Text::unfinished_line))]
+pub fn unfinished_line(alloc: Global, calls: u64, done: u64) -> Result<String, AllocError>
+    ensures { IfOk result (λ s. string_bytes s ≡ unfinished_line calls done) }
+{
+    let mut text = String::new(alloc);
+    write!(text, "unfinished,")?;
+    push_number(&mut text, calls)?;
+    push_last(&mut text, done)?;
+    Ok(text)
+}
+
+// An event's word.
+fn event_word(event: &Event) -> &'static str
+    ensures { result.now ≡ event_text event.now }
+{
+    match event {
+        Event::Load { .. } => "load",
+        Event::Store { .. } => "store",
+        Event::Exchange { .. } => "exchange",
+        Event::Add { .. } => "add",
+    }
+}
+
+// An event's address.
+fn address_of(event: &Event) -> u32
+    ensures { result ≡ at_of event.now }
+{
+    match *event {
+        Event::Load { at }
+        | Event::Store { at, .. }
+        | Event::Exchange { at, .. }
+        | Event::Add { at } => at,
+    }
+}
+
+// The words of an event, and the line's end.
+fn push_event_words(text: &mut String, event: &Event, found: u64) -> Result<(), AllocError>
+    ensures { OnOk result (string_bytes text.new ≡ string_bytes text.old ++ event_words event.now found) }
+{
+    match *event {
+        Event::Load { .. } | Event::Add { .. } => push_last(text, found),
+        Event::Store { word, .. } => push_last(text, word),
+        Event::Exchange { old, new, .. } => {
+            push_number(text, old)?;
+            push_number(text, new)?;
+            push_last(text, found)
+        }
+    }
+}
+
+/// The line of a seat's event and the word that it found, and a line feed: `event,seat,load,at,word`,
+/// `event,seat,store,at,word`, `event,seat,exchange,at,old,new,found` or `event,seat,add,at,found`.
+#[tactic(auto, unfolding(crate::specs::Text::event_line))]
+pub fn event_line(alloc: Global, seat: u32, event: &Event, found: u64) -> Result<String, AllocError>
+    ensures { IfOk result (λ s. string_bytes s ≡ event_line seat event.now found) }
+{
+    let mut text = String::new(alloc);
+    push_word(&mut text, "event")?;
+    push_number(&mut text, u64::from(seat))?;
+    push_word(&mut text, event_word(event))?;
+    push_number(&mut text, u64::from(address_of(event)))?;
+    push_event_words(&mut text, event, found)?;
+    Ok(text)
+}
+
+/// The line of made calls, `made,n,seed` and a line feed.
+#[tactic(auto, unfolding(crate::specs::Text::made_line))]
+pub fn made_line(alloc: Global, n: u64, seed: u64) -> Result<String, AllocError>
+    ensures { IfOk result (λ s. string_bytes s ≡ made_line n seed) }
+{
+    let mut text = String::new(alloc);
+    write!(text, "made,")?;
+    push_number(&mut text, n)?;
+    push_last(&mut text, seed)?;
     Ok(text)
 }

@@ -7,14 +7,11 @@ use Rattle.std.proofs.lemmas.Option.{slice_get_within}
 use Rattle.sh_map.specs.declared.book.Done.{Done}
 use Rattle.sh_map.specs.Judge.{AllFit, IsLeastUnfit}
 use Rattle.sh_map.proofs.BookLemmas.{slice_get-append_left, slice_get-push_back}
+use Rattle.sh_map.proofs.WalkLemmas.{one_more, slice_get-push_end}
 
 -- the least so far of the calls that break the rule
 abbrev pub SoFar : (List Done → Done → Type 0) → List Done → Option ℕ → Type 0
 SoFar Fits dones least = MatchOption least (AllFit Fits dones) (λ n. IsLeastUnfit Fits dones n)
-
-slice_get-push_end : (xs : List Done) (d : Done) → slice_get (xs ++ d ∷ []) (length xs) ≡ Some d
-slice_get-push_end [] d = refl
-slice_get-push_end (x ∷ xs) d = slice_get-push_end xs d
 
 module _ (Fits : List Done → Done → Type 0) (xs : List Done) (d : Done) where
   -- the calls before a place stay the same
@@ -65,11 +62,8 @@ module _ (Fits : List Done → Done → Type 0) (xs : List Done) (d : Done) wher
 
 -- a walk over the calls, one on, which was read
 module _ (Fits : List Done → Done → Type 0) (dones : List Done) (at : ℕ) (d : Done) (in_range : at < length dones) (read : d ≡ get_or dones at d) where
-  one_more : take at dones ++ d ∷ [] ≡ take (at + 1) dones
-  one_more = sym (take_more dones at d in_range ∙ ap (λ (x : Done). take at dones ++ x ∷ []) (sym read))
-
   pub more_fit : (least : Option ℕ) → SoFar Fits (take at dones) least → Fits (take at dones) d → SoFar Fits (take (at + 1) dones) least
-  more_fit least h fits = subst (λ (l : List Done). SoFar Fits l least) one_more (so_far_fit Fits (take at dones) d least h fits)
+  more_fit least h fits = subst (λ (l : List Done). SoFar Fits l least) (one_more dones at d in_range read) (so_far_fit Fits (take at dones) d least h fits)
 
   pub more_unfit : (least : Option ℕ) (m : ℕ) → SoFar Fits (take at dones) least → (Fits (take at dones) d → ⊥) → MatchOption least (m ≡ d.n) (λ n. m ≡ min n d.n) → SoFar Fits (take (at + 1) dones) (Some m)
-  more_unfit least m h breaks is = subst (λ (l : List Done). SoFar Fits l (Some m)) one_more (so_far_unfit Fits (take at dones) d least m h breaks is)
+  more_unfit least m h breaks is = subst (λ (l : List Done). SoFar Fits l (Some m)) (one_more dones at d in_range read) (so_far_unfit Fits (take at dones) d least m h breaks is)

@@ -8,9 +8,13 @@ mod laws;
 mod log;
 mod made;
 mod misfit;
+mod order;
+mod owners;
 mod plain_map;
 mod ranges;
 mod replies;
+mod sweep;
+mod tree_map;
 
 pub use book::{Book, Done, Dones, Row, Rows};
 pub use call::{Call, Reply};

@@ -3,7 +3,7 @@ use Rattle.std.proofs.Common.{◌≡◌, ◌↔◌, ◌⊎◌, ℕ, suc, ◌+◌
 use Rattle.std.specs.Prelude.{IsTrue, IsSome, Contains, All, AllPairs}
 use Rattle.std.specs.Ordering.{nat_cmp}
 use Rattle.std.specs.Cmp.{nat_cmp_total}
-use Rattle.std.specs.FinMap.{empty, entries, find, get-entries, get-from_entries}
+use Rattle.std.specs.FinMap.{empty, find, get-from_entries}
 use Rattle.std.specs.declared.alloc.AllocError.{AllocError}
 use Rattle.std.proofs.lemmas.Bool.{cases_eq}
 use Rattle.std.proofs.Math.Seq.{take-add, take-take}
@@ -36,7 +36,7 @@ lacks m rows key no_row no_value = no_value ∙ sym (get-from_entries nat_cmp_to
 
 some_or_none : (o : Option (List ℕ)) → IsSome o ⊎ (o ≡ None)
 some_or_none None = inr refl
-some_or_none (Some v) = inl tt
+some_or_none (Some v) = inl refl
 
 -- where the rows' keys and those that stand in the map are given, all keys have a point, and the other way round
 module _ (m : Map) (log : List Entry) (rows : List Row) (keys : List ℕ) (low upto : ℕ) (met : BTreeSet ℕ) (are_met : AreMet log rows met) where

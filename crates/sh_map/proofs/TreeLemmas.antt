@@ -1,5 +1,5 @@
 -- What a tree of keys and values says as a map.
-use Rattle.std.proofs.Common.{◌≡◌, ◌≢◌, ℕ, ◌<◌, ◌≤◌, List, [], ◌∷◌, ◌++◌, Option, Some, None, inl, inr, refl, sym, ap, subst, ◌∙◌, cond, true, arith, Less, Equal, false}
+use Rattle.std.proofs.Common.{◌≡◌, ℕ, ◌<◌, ◌≤◌, List, [], ◌∷◌, ◌++◌, Some, None, inl, inr, refl, sym, ap, subst, ◌∙◌, cond, true, arith, Less, Equal, false}
 use Rattle.std.specs.Prelude.{All, Contains, IsSome}
 use Rattle.std.specs.declared.ops.Bound.TheVariants.{Included, Excluded}
 use Rattle.std.specs.Ordering.{nat_cmp, eq_by_cmp, is_gt}
@@ -17,7 +17,7 @@ use Rattle.std.proofs.lemmas.List.Elements.{All-map}
 use Rattle.std.proofs.lemmas.List.{append-nil, append_assoc}
 use Rattle.std.proofs.lemmas.Bool.{cases_lt}
 use Rattle.std.proofs.lemmas.Cmp.{ranked}
-use Rattle.sh_map.specs.Map.{Map, get, put, del}
+use Rattle.sh_map.specs.Map.{get, put, del}
 use Rattle.sh_map.proofs.MapLemmas.{apart_test, is_put, is_del}
 use Rattle.sh_map.proofs.RowsLemmas.{less_is}
 

@@ -1,5 +1,5 @@
 -- Tables that are kept beside a log and its calls, so that each of them is judged quickly.
-use Rattle.std.specs.Prelude.{◌≡◌, ◌≢◌, ◌↔◌, ◌⊎◌, ℕ, ◌+◌, ◌<◌, ◌≤◌, Bool, true, false, List, length, take, map, slice_get, slice_index_or, All, Any, IsTrue, IsSome, Option, Some, MatchOption, unwrap_or}
+use Rattle.std.specs.Prelude.{◌≡◌, ◌≢◌, ◌↔◌, ◌⊎◌, ℕ, ◌+◌, ◌<◌, ◌≤◌, Bool, true, List, length, take, map, slice_get, slice_index_or, All, Any, IsTrue, Option, Some, MatchOption, unwrap_or}
 use Rattle.std.specs.Ordering.{nat_cmp}
 use Rattle.std.specs.FinMap.{from_entries}
 use Rattle.std.specs.BTreeMap as tree

@@ -38,59 +38,62 @@ fn found(text: &str, place: usize) -> Option<Value> {
     }
 }
 
-fn entry(text: &str) -> Entry {
-    let (seat, key) = (small(text, 0), number(text, 2));
-    if word(text, 1) == "put" {
-        return Entry {
-            seat,
-            change: Change::Put {
-                key,
-                value: value(text, 3),
-            },
-            old: found(text, 4),
-        };
-    }
-    Entry {
-        seat,
-        change: Change::Del { key },
-        old: found(text, 3),
-    }
-}
-
-// What is asked, and where its reply stands.
-fn call(text: &str) -> (Call, usize) {
+fn change(text: &str) -> Change {
     let key = number(text, 2);
     match word(text, 1) {
-        "get" => (Call::Get { key }, 3),
-        "put" => (
-            Call::Put {
-                key,
-                value: value(text, 3),
-            },
-            4,
-        ),
-        "del" => (Call::Del { key }, 3),
-        "get-full" => (Call::Get { key: 6 }, 1),
-        "put-full" | "put-worn" => (
-            Call::Put {
-                key: 6,
-                value: Value::of(&[60]),
-            },
-            1,
-        ),
-        "del-full" | "del-worn" => (Call::Del { key: 6 }, 1),
-        "range-none" => (Call::Range { low: 2, high: 9 }, 1),
-        _ => (
-            Call::Range {
-                low: key,
-                high: number(text, 3),
-            },
-            4,
-        ),
+        "put" => Change::Put {
+            key,
+            value: value(text, 3),
+        },
+        _ => Change::Del { key },
     }
 }
 
-fn reply(text: &str, place: usize) -> Reply {
+fn push_entry(log: &mut Log, text: &str) -> Result<(), AllocError> {
+    let change = change(text);
+    let old = found(text, if word(text, 1) == "put" { 4 } else { 3 });
+    log.push(Entry {
+        seat: small(text, 0),
+        change,
+        old,
+    })?;
+    Ok(())
+}
+
+// Where the reply of a call stands; its first and its point stand behind.
+fn reply_place(text: &str) -> usize {
+    match word(text, 1) {
+        "get" | "del" => 3,
+        "put" | "range" => 4,
+        _ => 1,
+    }
+}
+
+fn call(text: &str) -> Call {
+    let key = number(text, 2);
+    match word(text, 1) {
+        "get" => Call::Get { key },
+        "put" => Call::Put {
+            key,
+            value: value(text, 3),
+        },
+        "del" => Call::Del { key },
+        "get-full" => Call::Get { key: 6 },
+        "put-full" | "put-worn" => Call::Put {
+            key: 6,
+            value: Value::of(&[60]),
+        },
+        "del-full" | "del-worn" => Call::Del { key: 6 },
+        "range-none" => Call::Range { low: 2, high: 9 },
+        _ => Call::Range {
+            low: key,
+            high: number(text, 3),
+        },
+    }
+}
+
+fn reply(text: &str) -> Reply {
+    let place = reply_place(text);
     match word(text, 1) {
         "range" => Reply::Rows {
             upto: number(text, place),
@@ -124,36 +127,48 @@ fn part(text: &str, place: usize) -> &str {
     text.split('|').nth(place).unwrap_or("")
 }
 
-fn book_of(alloc: Global, text: &str) -> Result<(Log, Dones), AllocError> {
+fn log_of(alloc: Global, text: &str) -> Result<Log, AllocError> {
     let mut log = Vec::new(alloc);
     for told in part(text, 0).split(';') {
         if word(told, 1) != "" {
-            log.push(entry(told))?;
+            push_entry(&mut log, told)?;
         }
     }
+    Ok(log)
+}
+
+fn push_done(alloc: Global, dones: &mut Dones, told: &str, rows: &str) -> Result<(), AllocError> {
+    let n = u32::try_from(dones.len()).unwrap_or(0).saturating_add(1);
+    let place = reply_place(told);
+    let rows = rows_of(alloc, n, rows)?;
+    let call = call(told);
+    let reply = reply(told);
+    dones.push(Done {
+        n,
+        seat: small(told, 0),
+        call,
+        reply,
+        first: number(told, place + 1),
+        point: number(told, place + 2),
+        rows,
+    })?;
+    Ok(())
+}
+
+fn dones_of(alloc: Global, text: &str) -> Result<Dones, AllocError> {
     let mut dones = Vec::new(alloc);
-    let mut n = 0u32;
     for told in part(text, 1).split(';') {
         if word(told, 1) != "" {
-            n = n.saturating_add(1);
-            let (call, place) = call(told);
-            dones.push(Done {
-                n,
-                seat: small(told, 0),
-                call,
-                reply: reply(told, place),
-                first: number(told, place + 1),
-                point: number(told, place + 2),
-                rows: rows_of(alloc, n, part(text, 2))?,
-            })?;
+            push_done(alloc, &mut dones, told, part(text, 2))?;
         }
     }
-    Ok((log, dones))
+    Ok(dones)
 }
 
 // Whether the judge says of a book what stands behind its rows.
 fn is_judged_so(alloc: Global, text: &str) -> Result<bool, AllocError> {
-    let (log, dones) = book_of(alloc, text)?;
+    let log = log_of(alloc, text)?;
+    let dones = dones_of(alloc, text)?;
     let want = part(text, 3);
     let number = number(want, 1);
     Ok(match judge(alloc, &log, &dones)? {
@@ -338,7 +353,9 @@ fn numbers_rise(rt: HostRuntime) -> Result<(), Fail> {
         (2, 2, Some(Misfit::Order { n: 2 })),
         (2, 1, Some(Misfit::Order { n: 1 })),
     ] {
-        let (log, mut dones) = book_of(alloc, "0 put 5 50 - | 0 put 5 50 - 0 0; 1 get 5 50 1 1")?;
+        let text = "0 put 5 50 - | 0 put 5 50 - 0 0; 1 get 5 50 1 1";
+        let log = log_of(alloc, text)?;
+        let mut dones = dones_of(alloc, text)?;
         for (at, done) in dones.iter_mut().enumerate() {
             done.n = if at == 0 { first } else { second };
         }

@@ -148,8 +148,8 @@ fn push_done(alloc: Global, dones: &mut Dones, told: &str, rows: &str) -> Result
         seat: small(told, 0),
         call,
         reply,
-        first: number(told, place + 1),
-        point: number(told, place + 2),
+        first: number(told, place.saturating_add(1)),
+        point: number(told, place.saturating_add(2)),
         rows,
     })?;
     Ok(())

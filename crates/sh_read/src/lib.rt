@@ -1,6 +1,9 @@
 //! A node through time, and what a READ of it knows: the law of reads.
 #![tactic(auto)]
 
+mod reading;
+mod state;
+
 ghost use Rattle.std.specs.Prelude.{◌≡◌, ℕ, ◌+◌, ◌≤◌, List, length, slice_index, slice_set};
 ghost use Rattle.sh_base.specs.Parts.{parts_of};
 ghost use Rattle.sh_base.specs.Setting.{node_size};
@@ -10,6 +13,7 @@ ghost use Rattle.sh_read.specs.Reading.{StoodIn, FitsRead, IsCalm};
 ghost use Rattle.sh_read.specs.ReadLaw.{Moment, IsHistory, HasMemoryLaw};
 
 use sh_base::Config;
+pub use state::{Progress, Reading};
 
 /// In an accepted READ, one whose rear version is the front version, the words that only WRITEs of the node store are
 /// quiet from the load of the rear version to that of the front version, and each entry of a leaf is quiet between the

@@ -1,18 +1,17 @@
 -- The words that a READ keeps, as they are loaded.
 use Rattle.std.proofs.Common.{◌≡◌, ◌≢◌, ℕ, zero, suc, ◌+◌, ◌-◌, ◌<◌, ◌≤◌, Bool, true, false, List, [], ◌∷◌, length, take, drop, set, refl, sym, ap, ◌∙◌, length-drop, arith}
-use Rattle.std.specs.Prelude.{◌==◌, nat_lt, if◌then◌else◌, Option, Some, None}
+use Rattle.std.specs.Prelude.{nat_lt, Some, None}
 use Rattle.std.proofs.lemmas.Bool.Decides.{nat_tests}
 use Rattle.std.proofs.lemmas.List.{drop_all, length-set, length-take-le}
 use Rattle.sh_base.specs.declared.config.ConfigParts.{ConfigParts}
-use Rattle.sh_base.specs.Setting.{node_size, pool_words, IsNode, IsSetting}
-use Rattle.sh_base.specs.Layout.{node_word, rear_at}
-use Rattle.sh_base.proofs.LayoutLemmas.{node_size_is, node_word_high, rear_at_small, take_set_in}
-use Rattle.sh_image.specs.declared.inner.Image.{Image}
+use Rattle.sh_base.specs.Setting.{node_size, IsNode, IsSetting}
+use Rattle.sh_base.specs.Layout.{node_word}
+use Rattle.sh_base.proofs.LayoutLemmas.{node_size_is, rear_at_small, take_set_in}
 use Rattle.sh_image.specs.declared.read.Seen.{Seen}
 use Rattle.sh_image.specs.declared.read.Seen.TheVariants.{Leaf as LeafSeen, Inner as InnerSeen, Torn, TornEntry, Odd as OddSeen}
 use Rattle.sh_read.specs.declared.state.Progress.TheVariants.{More}
 use Rattle.sh_read.specs.Judging.{seen_of}
-use Rattle.sh_read.specs.Reads.{Reads, Reader, reads_with, accepted, answer_to, fed_by, image_in, judged, left_by, progress_of, wanted}
+use Rattle.sh_read.specs.Reads.{reads_with, accepted, answer_to, fed_by, left_by, progress_of, wanted}
 use Rattle.sh_read.specs.Kept.{loaded_in, left_after, reader_of, IsKept}
 
 less_test : (a b : ℕ) → a < b → nat_lt a b ≡ true
@@ -40,9 +39,6 @@ module _ (p : ConfigParts) (setting : IsSetting p) where
 
     pub length_loaded : length (loaded_in p left words) ≡ node_size p - left
     length_loaded = length-drop left (take (node_size p) words) ∙ ap (λ n. n - left) length_taken
-
-    pub loaded_all : length words ≡ 711 → left ≡ 0 → loaded_in p left words ≡ take (node_size p) words
-    loaded_all same e = ap (λ n. drop n (take (node_size p) words)) e
 
     -- one word more
     pub loaded_more : (word : ℕ) → 1 ≤ left → loaded_in p (left - 1) (set words (left - 1) word) ≡ word ∷ loaded_in p left words
@@ -89,20 +85,6 @@ module _ (p : ConfigParts) (setting : IsSetting p) where
       pub answers_last : (seen : Seen) → left - 1 ≡ 0 → seen ≡ seen_of p (take (node_size p) (set words (left - 1) word)) → answer_to seen ≡ progress_of p (reads_with node (loaded_in p left words)) word
       answers_last seen last is = rw (full last) (ap answer_to (is ∙ ap (seen_of p) (all_is last)))
 
-      -- while words are left there is no image
-      none_before : accepted p (reads_with node (loaded_in p left words)) ≡ None
-      none_before = rw (length_loaded, less_test (node_size p - left) (node_size p) (omega (arith, some, within))) refl
-
-      pub kept_more : 0 < left - 1 → (image : Option Image) → IsKept p node left words image → IsKept p node (left - 1) (set words (left - 1) word) image
-      kept_more more image kept =
-          let test : nat_lt (length (word ∷ loaded_in p left words)) (node_size p) ≡ true = ap (λ n. nat_lt n (node_size p)) length_fed ∙ less_test _ _ (omega (arith, some, within, more)) in
-          record {
-            here = kept.here;
-            within = omega (arith, within);
-            room = length-set words (left - 1) word ∙ room;
-            found = kept.found ∙ none_before ∙ sym (ap (λ l. accepted p (reads_with node l)) (loaded_more word some) ∙ rw test refl);
-          }
-
 module _ (p : ConfigParts) (setting : IsSetting p) (node : ℕ) (words : List ℕ) (room : length words ≡ 711) where
   all_words : length (take (node_size p) words) ≡ node_size p
   all_words = length-take-le (node_size p) words (omega (arith, room, size_small p setting))
@@ -118,45 +100,18 @@ module _ (p : ConfigParts) (setting : IsSetting p) (node : ℕ) (words : List �
   ended (TornEntry index rear front) = ap (reads_with node) none_words
   ended OddSeen = refl
 
-  none_found : None ≡  accepted p (reads_with node (loaded_in p (node_size p) words))
+  none_found : None ≡ accepted p (reads_with node (loaded_in p (node_size p) words))
   none_found = rw (none_words, less_test 0 (node_size p) (omega (arith, size_some p setting))) refl
-
-  all_found : (seen : Seen) → seen ≡ seen_of p (take (node_size p) words) → image_in seen ≡ accepted p (reads_with node (take (node_size p) words))
-  all_found seen is = rw (all_words, not_less_test (node_size p) (node_size p) (omega arith)) (ap image_in is)
-
-  found_after : (seen : Seen) → seen ≡ seen_of p (take (node_size p) words) → image_in seen ≡ accepted p (reads_with node (loaded_in p (left_after seen (node_size p)) words))
-  found_after (LeafSeen a) is = all_found (LeafSeen a) is
-  found_after (InnerSeen a) is = all_found (InnerSeen a) is
-  found_after (Torn rear front) is = none_found
-  found_after (TornEntry index rear front) is = none_found
-  found_after OddSeen is = all_found OddSeen is
-
-  left_within : (seen : Seen) → left_after seen (node_size p) ≤ node_size p
-  left_within (LeafSeen a) = omega arith
-  left_within (InnerSeen a) = omega arith
-  left_within (Torn rear front) = omega arith
-  left_within (TornEntry index rear front) = omega arith
-  left_within OddSeen = omega arith
-
-  pub kept_last : (seen : Seen) (left : ℕ) (image : Option Image) → IsNode p node → seen ≡ seen_of p (take (node_size p) words) → left ≡ left_after seen (node_size p) → image ≡ image_in seen → IsKept p node left words image
-  kept_last seen left image here is left_is image_is =
-      let after : left_after seen (node_size p) ≡ left = sym left_is in
-      record {
-        here = here;
-        within = omega (arith, left_within seen);
-        room = room;
-        found = image_is ∙ found_after seen is ∙ ap (λ n. accepted p (reads_with node (loaded_in p n words))) after;
-      }
 
 module _ (p : ConfigParts) (setting : IsSetting p) (left node word : ℕ) (words : List ℕ) (room : length words ≡ 711) (within : left ≤ node_size p) (some : 1 ≤ left) where
   pub fed_last : (seen : Seen) (after : ℕ) → left - 1 ≡ 0 → seen ≡ seen_of p (take (node_size p) (set words (left - 1) word)) → after ≡ left_after seen (node_size p) → reader_of p node after (set words (left - 1) word) ≡ record { setting = p; reads = fed_by p (reads_with node (loaded_in p left words)) word }
   fed_last seen after last is after_is =
       let all = all_is p setting left words room within node word some last in
       let step : reads_with node (loaded_in p after (set words (left - 1) word)) ≡ fed_by p (reads_with node (loaded_in p left words)) word =
-          ap (λ n. reads_with node (loaded_in p n (set words (left - 1) word))) after_is
-          ∙ ended p setting node (set words (left - 1) word) (length-set words (left - 1) word ∙ room) seen
-          ∙ (λ i. left_by ((is ∙ ap (seen_of p) all) i) (reads_with node (all i)))
-          ∙ sym (rw (full p setting left words room within node word some last) refl) in
+      ap (λ n. reads_with node (loaded_in p n (set words (left - 1) word))) after_is
+      ∙ ended p setting node (set words (left - 1) word) (length-set words (left - 1) word ∙ room) seen
+      ∙ (λ i. left_by ((is ∙ ap (seen_of p) all) i) (reads_with node (all i)))
+      ∙ sym (rw (full p setting left words room within node word some last) refl) in
       λ i. record { setting = p; reads = step i }
 
 pub kept_new : (p : ConfigParts) (setting : IsSetting p) (node left : ℕ) (words : List ℕ) → IsNode p node → length words ≡ 711 → left ≡ node_size p → IsKept p node left words None
@@ -166,6 +121,3 @@ kept_new p setting node left words here room is = record {
   room = room;
   found = none_found p setting node words room ∙ sym (ap (λ n. accepted p (reads_with node (loaded_in p n words))) is);
 }
-
-pub reader_new : (p : ConfigParts) (setting : IsSetting p) (node left : ℕ) (words : List ℕ) → length words ≡ 711 → left ≡ node_size p → reader_of p node left words ≡ record { setting = p; reads = reads_with node [] }
-reader_new p setting node left words room is = λ i. record { setting = p; reads = reads_with node ((ap (λ n. loaded_in p n words) is ∙ none_words p setting node words room) i) }

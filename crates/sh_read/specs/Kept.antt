@@ -5,7 +5,7 @@ use Rattle.sh_base.specs.Setting.{node_size, IsNode}
 use Rattle.sh_image.specs.declared.inner.Image.{Image}
 use Rattle.sh_image.specs.declared.read.Seen.{Seen}
 use Rattle.sh_image.specs.declared.read.Seen.TheVariants.{Leaf as LeafSeen, Inner as InnerSeen, Torn, TornEntry, Odd as OddSeen}
-use Rattle.sh_read.specs.Reads.{Reads, Reader, reads_with, accepted}
+use Rattle.sh_read.specs.Reads.{Reader, reads_with, accepted}
 
 -- the node's words behind the first ones, which are left to load
 abbrev pub loaded_in : ConfigParts → (left : ℕ) → List ℕ → List ℕ

@@ -1,7 +1,7 @@
 -- A READ of a node, fed its words one at a time from the last to the first.
-use Rattle.std.specs.Prelude.{◌≡◌, ℕ, ◌+◌, ◌-◌, ◌<◌, ◌≤◌, if◌then◌else◌, nat_lt, List, [], ◌∷◌, length, Option, Some, None}
+use Rattle.std.specs.Prelude.{ℕ, ◌+◌, ◌-◌, if◌then◌else◌, nat_lt, List, [], ◌∷◌, length, Option, Some, None}
 use Rattle.sh_base.specs.declared.config.ConfigParts.{ConfigParts}
-use Rattle.sh_base.specs.Setting.{node_size, IsNode}
+use Rattle.sh_base.specs.Setting.{node_size}
 use Rattle.sh_base.specs.Layout.{node_word}
 use Rattle.sh_image.specs.declared.inner.Image.{Image}
 use Rattle.sh_image.specs.declared.inner.Image.TheVariants.{Leaf as LeafImage, Inner as InnerImage}

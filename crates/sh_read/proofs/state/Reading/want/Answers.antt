@@ -1,4 +1,4 @@
-use Rattle.std.proofs.Common.{arith, ap, ◌∙◌}
+use Rattle.std.proofs.Common.{arith}
 use Rattle.sh_base.proofs.LayoutLemmas.{node_word_high}
 use Rattle.sh_read.proofs.KeptLemmas.{wants, wants_none}
 use Rattle.sh_read.proofs.state.Reading.want.Goals as goal

@@ -1,5 +1,5 @@
 -- A READ of a node, fed its words one at a time from the last to the first.
-use Rattle.std.specs.Prelude.{ℕ, ◌+◌, ◌-◌, if◌then◌else◌, nat_lt, List, [], ◌∷◌, length, Option, Some, None}
+use Rattle.std.specs.Prelude.{ℕ, ◌+◌, ◌-◌, if◌then◌else◌, nat_lt, List, [], ◌∷◌, ◌++◌, length, replicate, Option, Some, None}
 use Rattle.sh_base.specs.declared.config.ConfigParts.{ConfigParts}
 use Rattle.sh_base.specs.Setting.{node_size}
 use Rattle.sh_base.specs.Layout.{node_word}
@@ -72,3 +72,11 @@ image_in OddSeen = None
 
 abbrev pub accepted : ConfigParts → Reads → Option Image
 accepted p r = if nat_lt (length r.loaded) (node_size p) then None else image_in (seen_of p r.loaded)
+
+-- how many words are left to load, from the node's first one on
+abbrev pub left_in : ConfigParts → List ℕ → ℕ
+left_in p loaded = node_size p - length loaded
+
+-- the words that are loaded, each in its place in the node, and 0 in front of them
+abbrev pub in_place : ConfigParts → List ℕ → List ℕ
+in_place p loaded = replicate (left_in p loaded) 0 ++ loaded

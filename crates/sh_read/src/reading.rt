@@ -2,6 +2,7 @@
 ghost use Rattle.std.specs.Prelude.{◌≡◌, ◌<◌, ◌≢◌, length, None, Some};
 ghost use Rattle.sh_base.specs.Parts.{parts_of};
 ghost use Rattle.sh_base.specs.Setting.{node_size, IsNode};
+ghost use Rattle.sh_read.specs.declared.state.Progress.TheVariants.{Accepted};
 ghost use Rattle.sh_read.specs.Judging.{seen_of};
 ghost use Rattle.sh_read.specs.Reads.{accepted, answer_to, fed_by, image_in, progress_of, start_of, wanted};
 ghost use Rattle.sh_read.specs.Kept.{left_after};
@@ -30,11 +31,10 @@ impl Reading {
     pub fn want(&self) -> Option<u32>
         ensures { result ≡ wanted self.now.setting self.now.reads }
     {
-        if self.left > 0 {
-            Some(self.cfg.node_word(self.node) + (self.left - 1))
-        } else {
-            None
+        if self.left == 0 {
+            return None;
         }
+        Some(self.cfg.node_word(self.node) + (self.left - 1))
     }
 
     /// Takes the word that was wanted. The last one is judged with all the others: `Accepted` and `Odd` are the answers
@@ -44,6 +44,7 @@ impl Reading {
         requires { wanted self.old.setting self.old.reads ≢ None }
         ensures reads { self.new ≡ record self.old { reads = fed_by self.old.setting self.old.reads word } }
         ensures answer { result ≡ progress_of self.old.setting self.old.reads word }
+        ensures image { result ≡ Accepted → accepted self.new.setting self.new.reads ≢ None }
     {
         self.left -= 1;
         self.words[self.left as usize] = word;
@@ -86,17 +87,11 @@ fn judged(cfg: &Config, words: &[u64]) -> Seen
 fn answer(seen: &Seen) -> Progress
     ensures { result ≡ answer_to seen.now }
 {
-    match seen {
+    match *seen {
         Seen::Leaf(_) => Progress::Accepted,
         Seen::Inner(_) => Progress::Accepted,
-        Seen::Torn { rear, front } => Progress::Again {
-            rear: *rear,
-            front: *front,
-        },
-        Seen::TornEntry { rear, front, .. } => Progress::Again {
-            rear: *rear,
-            front: *front,
-        },
+        Seen::Torn { rear, front } => Progress::Again { rear, front },
+        Seen::TornEntry { rear, front, .. } => Progress::Again { rear, front },
         Seen::Odd => Progress::Odd,
     }
 }

@@ -30,9 +30,10 @@ module _ (p : ConfigParts) where
     pub fits_first : FitsRead p level (StoodWith stood s) s w (left_in p (word p s w (rear_at p) ∷ [])) (in_place p (word p s w (rear_at p) ∷ []))
     fits_first =
         let x = word p s w (rear_at p) in
-        let blank = replicate (node_size p) 0 in
-        let placed : set blank (rear_at p) x ≡ in_place p (x ∷ []) = ap (λ l. set l (rear_at p) x) (sym (append-nil blank)) ∙ one_more x (rear_at p) [] (omega (arith, node_size_is p)) in
+        let blank : List ℕ = replicate (node_size p) 0 in
         let from : rear_at p ≡ left_in p (x ∷ []) = omega (arith, node_size_is p) in
+        let size : node_size p ≡ suc (rear_at p) = omega (arith, node_size_is p) in
+        let placed : set blank (rear_at p) x ≡ in_place p (x ∷ []) = ap (λ n. set (replicate n 0) (rear_at p) x) size ∙ ap (λ l. set l (rear_at p) x) (sym (append-nil (replicate (suc (rear_at p)) 0))) ∙ set_last (rear_at p) x [] ∙ ap (λ n. replicate n 0 ++ x ∷ []) from in
         subst (λ n. FitsRead p level (StoodWith stood s) s w n (in_place p (x ∷ []))) from (subst (FitsRead p level (StoodWith stood s) s w (rear_at p)) placed (FitsRead-begin p level (StoodWith stood s) s w blank m (length-replicate (node_size p) 0)))
 
     pub fits_more : (loaded : List ℕ) (at : ℕ) → StoodIn stood s → left_in p loaded ≡ at + 1 → FitsRead p level (StoodWith stood s) s w (left_in p loaded) (in_place p loaded) → FitsRead p level (StoodWith stood s) s w (left_in p (word p s w at ∷ loaded)) (in_place p (word p s w at ∷ loaded))

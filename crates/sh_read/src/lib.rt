@@ -149,4 +149,59 @@ mod tests {
             assert_eq!(rt; reading.want(), want);
         }
     }
+
+    // The version of the node that a READ answers to these words, and none where it answers none.
+    fn version(reading: &mut Reading, words: &[u64]) -> Option<u64> {
+        for place in 0..words.len() {
+            if reading.want().is_some() {
+                match reading.fed(words[words.len() - 1 - place]) {
+                    Progress::Accepted => return Some(version_of(reading.image())),
+                    Progress::More | Progress::Again { .. } | Progress::Odd => {}
+                }
+            }
+        }
+        None
+    }
+
+    fn version_of(image: &Image) -> u64 {
+        match image {
+            Image::Leaf(leaf) => leaf.version(),
+            Image::Inner(inner) => inner.version(),
+        }
+    }
+
+    #[test]
+    fn torn_words_are_loaded_again(rt: HostRuntime) {
+        let cfg = small();
+        assert_eq!(rt; cfg.nodes(), 2);
+        let mut reading = Reading::new(&cfg, 1);
+        assert_eq!(rt; version(&mut reading, &with(LEAF, 0, 8)), None);
+        assert_eq!(rt; version(&mut reading, &with(LEAF, 17, 4)), None);
+        assert_eq!(rt; version(&mut reading, &LEAF), Some(7));
+        assert_eq!(rt; version(&mut reading, &INNER), None);
+        let mut reading = Reading::new(&cfg, 1);
+        assert_eq!(rt; version(&mut reading, &INNER), Some(7));
+    }
+
+    // The last answer to so many words that are 0.
+    fn answer_to_zeros(reading: &mut Reading, count: u32) -> Progress {
+        let mut answer = Progress::More;
+        for _ in 0..count {
+            if reading.want().is_some() {
+                answer = reading.fed(0);
+            }
+        }
+        answer
+    }
+
+    #[test]
+    fn the_largest_node_has_711_words(rt: HostRuntime) {
+        let cfg = large();
+        assert_eq!(rt; [cfg.nodes(), cfg.node_size()], [64, 711]);
+        let mut reading = Reading::new(&cfg, 64);
+        assert_eq!(rt; answer_to_zeros(&mut reading, 710), Progress::More);
+        assert_eq!(rt; reading.want(), Some(cfg.node_word(64)));
+        assert_eq!(rt; answer_to_zeros(&mut reading, 1), Progress::Odd);
+        assert_eq!(rt; reading.want(), None);
+    }
 }

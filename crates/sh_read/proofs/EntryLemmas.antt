@@ -2,14 +2,13 @@
 use Rattle.std.proofs.Common.{◌≡◌, ℕ, zero, suc, ◌+◌, ◌-◌, ◌<◌, ◌≤◌, List, [], ◌∷◌, length, take, drop, get_or, min, refl, sym, ap, subst, ◌∙◌, length-drop, arith}
 use Rattle.std.specs.Prelude.{slice_index}
 use Rattle.std.specs.List.{AllByRecursion}
-use Rattle.std.proofs.lemmas.List.{ext_get_or, get_or-drop, get_or-take, length-take, length-take-le, same_lists}
+use Rattle.std.proofs.lemmas.List.{ext_get_or, get_or-drop, get_or-take, length-take}
 use Rattle.sh_base.specs.declared.config.ConfigParts.{ConfigParts}
 use Rattle.sh_base.specs.Setting.{entry_size, node_size}
 use Rattle.sh_base.specs.Layout.{entry_at, entry_rear_at}
-use Rattle.sh_base.proofs.LayoutLemmas.{entry_high, entry_size_is, node_size_is}
-use Rattle.sh_image.specs.declared.leaf.LeafEntry.{LeafEntry}
+use Rattle.sh_base.proofs.LayoutLemmas.{entry_size_is}
 use Rattle.sh_image.specs.Entries.{entries_in}
-use Rattle.sh_image.specs.Leaf.{Leaf, IsEntry, Spells, leaf_in, empty_entry}
+use Rattle.sh_image.specs.Leaf.{Leaf, IsEntry, leaf_in, empty_entry}
 use Rattle.sh_image.proofs.EntriesLemmas.{length-entries_in}
 use Rattle.sh_image.proofs.LeafLemmas.{length-leaf_words, spelled_one, values_of}
 use Rattle.sh_image.proofs.ReadLemmas.{entry_read}

@@ -1,7 +1,6 @@
 -- The words that a READ keeps, as they are loaded.
-use Rattle.std.proofs.Common.{◌≡◌, ◌≢◌, ℕ, zero, suc, ◌+◌, ◌-◌, ◌<◌, ◌≤◌, Bool, true, false, List, [], ◌∷◌, length, take, drop, set, refl, sym, ap, subst, ◌∙◌, length-drop, arith}
+use Rattle.std.proofs.Common.{◌≡◌, ◌≢◌, ℕ, zero, suc, ◌+◌, ◌-◌, ◌<◌, ◌≤◌, Bool, true, false, List, [], ◌∷◌, length, take, drop, set, refl, sym, ap, ◌∙◌, length-drop, arith}
 use Rattle.std.specs.Prelude.{nat_lt, Some, None}
-use mathlib.Core.Bool.{false≢true}
 use Rattle.std.proofs.lemmas.Bool.Decides.{nat_tests}
 use Rattle.std.proofs.lemmas.List.{drop_all, length-set, length-take-le}
 use Rattle.sh_base.specs.declared.config.ConfigParts.{ConfigParts}
@@ -10,10 +9,9 @@ use Rattle.sh_base.specs.Layout.{node_word}
 use Rattle.sh_base.proofs.LayoutLemmas.{node_size_is, rear_at_small, take_set_in}
 use Rattle.sh_image.specs.declared.read.Seen.{Seen}
 use Rattle.sh_image.specs.declared.read.Seen.TheVariants.{Leaf as LeafSeen, Inner as InnerSeen, Torn, TornEntry, Odd as OddSeen}
-use Rattle.sh_read.specs.declared.state.Progress.{Progress}
-use Rattle.sh_read.specs.declared.state.Progress.TheVariants.{More, Accepted}
+use Rattle.sh_read.specs.declared.state.Progress.TheVariants.{More}
 use Rattle.sh_read.specs.Judging.{seen_of}
-use Rattle.sh_read.specs.Reads.{reads_with, accepted, answer_to, fed_by, left_by, progress_of, progress_with, wanted}
+use Rattle.sh_read.specs.Reads.{reads_with, accepted, answer_to, fed_by, left_by, progress_of, wanted}
 use Rattle.sh_read.specs.Kept.{loaded_in, left_after, reader_of, IsKept}
 
 less_test : (a b : ℕ) → a < b → nat_lt a b ≡ true

@@ -248,7 +248,7 @@ module _ (p : ConfigParts) (level : ℕ) where
   }
 
   -- the header stays while no node WRITE has stored
-  header_stays : (s t : List ℕ) (w v : Writing) (got : List ℕ) → Next p s w t v → IsMoment p level s w → get_or got (rear_at p) 0 ≤ get_or s 0 0 → IsCalm p t v got → (o : ℕ) → o < 6 → get_or s o 0 ≡ get_or t o 0
+  pub header_stays : (s t : List ℕ) (w v : Writing) (got : List ℕ) → Next p s w t v → IsMoment p level s w → get_or got (rear_at p) 0 ≤ get_or s 0 0 → IsCalm p t v got → (o : ℕ) → o < 6 → get_or s o 0 ≡ get_or t o 0
   header_stays s t w v got still m version c o low = refl
   header_stays s t w v got (begin_whole e) m version c o low = absurd c.none
   header_stays s t w v got (more_whole e) m version c o low = absurd c.none

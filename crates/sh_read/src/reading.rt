@@ -1,7 +1,7 @@
 // A READ that is fed its words one at a time.
-ghost use Rattle.std.specs.Prelude.{◌≡◌, ◌<◌, ◌≢◌, length, None, Some};
+ghost use Rattle.std.specs.Prelude.{◌≡◌, ◌≢◌, ◌≤◌, length, None, Some};
 ghost use Rattle.sh_base.specs.Parts.{parts_of};
-ghost use Rattle.sh_base.specs.Setting.{node_size, IsNode};
+ghost use Rattle.sh_base.specs.Setting.{node_size, IsNode, IsSetting};
 ghost use Rattle.sh_read.specs.declared.state.Progress.TheVariants.{Accepted};
 ghost use Rattle.sh_read.specs.Judging.{seen_of};
 ghost use Rattle.sh_read.specs.Reads.{accepted, answer_to, fed_by, image_in, progress_of, start_of, wanted};
@@ -57,6 +57,15 @@ impl Reading {
         self.left = left(&seen, size);
         self.image = image_of(seen);
         progress
+    }
+
+    /// The node is one of the setting, and no more words are loaded than it has.
+    pub fn within_its_node(&self)
+        ensures setting { IsSetting self.now.setting }
+        ensures node { IsNode self.now.setting self.now.reads.node }
+        ensures words { length self.now.reads.loaded ≤ node_size self.now.setting }
+    {
+        let _words = &self.words;
     }
 
     /// The image of the node that was read. Condition: its words were accepted.

@@ -1,5 +1,5 @@
 use Rattle.sh_read.proofs.PlaceLemmas.{fits_first, fits_more, in_place-all}
-use Rattle.sh_read.proofs.fed_words_fit.Goals as goal
+use Rattle.sh_read.proofs.laws.fed_words_fit.Goals as goal
 
 pub returns-clause-begin : goal.returns-clause-begin
 returns-clause-begin c = fits_first c.args.cfg.now.parts

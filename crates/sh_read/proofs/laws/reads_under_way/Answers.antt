@@ -1,6 +1,6 @@
 use Rattle.sh_read.specs.Reading.{StoodWith}
 use Rattle.sh_read.proofs.Read.{FitsRead-begin, stood-next, stood-load, stood-more, accepted}
-use Rattle.sh_read.proofs.reads_under_way.Goals as goal
+use Rattle.sh_read.proofs.laws.reads_under_way.Goals as goal
 
 pub returns-clause-begin : goal.returns-clause-begin
 returns-clause-begin c = λ level stood s. FitsRead-begin c.args.cfg.now.parts level (StoodWith stood s) s

@@ -1,0 +1,5 @@
+pub mod ListLemmas
+pub mod ChainLemmas
+pub mod WalkLemmas
+pub mod CountLemmas
+pub mod HoldLemmas

@@ -10,16 +10,19 @@ use Rattle.std.proofs.lemmas.Bool.{false≢true}
 use Rattle.std.proofs.lemmas.Bool.Decides.{nat_tests}
 use Rattle.std.proofs.lemmas.Option.{none-some}
 use Rattle.std.proofs.Math.Nat.{mod-add-mod}
+use Rattle.std.specs.List.{Contains}
 use Rattle.atomic_table.specs.Table.{State, Me, Allows, keeps, takes, gives}
 use Rattle.atomic_table.proofs.Lists.{at_set, set_here, set_else, set_again, one_turn}
 use Rattle.sh_local.specs.declared.view.Ticket.{Ticket}
-use Rattle.sh_local.specs.declared.view.Act.{Act}
-use Rattle.sh_local.specs.declared.view.Act.TheVariants.{Drew, Waited, Turned, Counted, Left}
+use Rattle.sh_local.specs.declared.view.ChairCall.{ChairCall}
+use Rattle.sh_local.specs.declared.view.ChairCall.TheVariants.{Drew, Waited, Turned, Counted, Left}
 use Rattle.sh_local.specs.declared.view.View.{View}
-use Rattle.sh_local.specs.Lines.{ticket, Line, before, weight, weight_at_home, gave, took, drew_at, draws_of, below, total, given, taken, waits, out, Seated, Stands, AllStand, Knows, HasTicket, HasTurn, Queue, Kept, held, drew, waited, turned, counted, gone, Draws, Looks, LooksIf, LineAgrees, Counts, Leaves, FitsIf, carried, seen_ahead, or_none}
-use Rattle.sh_local.specs.Views.{MayLeave}
+use Rattle.sh_local.specs.Calls.{ticket, weight, weight_at_home, gave, took, drew_at, draws_of, turned_at, turns_of, below, total, given, taken, waits, out, held, drew, waited, turned, counted, gone, seen_ahead, or_none}
+use Rattle.sh_local.specs.Lines.{Line, before, Seated, Stands, AllStand, Knows, HasTicket, HasTurn, in_turn, Queue, Kept, LineAgrees}
+use Rattle.sh_local.specs.Steps.{Draws, Looks, LooksIf, Counts, Leaves, FitsIf, carried}
+use Rattle.sh_local.specs.Chairs.{MayLeave}
 use Rattle.sh_local.proofs.Sums.{total_set, total_snoc, total_le, put, put_here, put_else, at_put, same_at, at_lt, there}
-use Rattle.sh_local.proofs.Changes.{Grows, changes, has_same, turn_same, length_set}
+use Rattle.sh_local.proofs.Changes.{Grows, changes, stand_on, more_of, has_same, turn_same, length_set}
 
 -- a fact of the value, if there is one
 fits_if : {T K : Type 0} (fits : K → ℕ → T → Type 0) (c : ℕ) (key : Option K) (o : Option T) → ((x : T) → o ≡ Some x → (k : K) → key ≡ Some k → fits k c x) → (k : K) → key ≡ Some k → FitsIf (fits k c) o
@@ -36,6 +39,12 @@ below_suc m n = grind (arith, nat_tests)
 
 below_more : (T : Type 0) (c m n : ℕ) → below m (n + 1) ≡ below m n + drew_at {T = T} c m (Drew c n)
 below_more T c m n = rw (eq-eqb c c refl) (below_suc m n)
+
+turned_here : (T : Type 0) (c n m : ℕ) (o : Option T) → turned_at {T = T} c n (Turned c m o) ≡ in_turn {T = T} n m maybe.none
+turned_here T c n m o = rw (eq-eqb c c refl) refl
+
+turned_away : (T : Type 0) (n served : ℕ) (h : maybe.Option (Option T)) → h ≡ maybe.none → below n (served + 1) ≡ below n served + in_turn {T = T} n served h
+turned_away T n served h out_is = below_suc n served ∙ ap (λ (x : maybe.Option (Option T)). below n served + in_turn {T = T} n served x) (sym out_is)
 
 mod_suc : (n : ℕ) → (n % 2 ^ 64 + 1) % 2 ^ 64 ≡ (n + 1) % 2 ^ 64
 mod_suc n = mod-add-mod n (2 ^ 64) 1
@@ -87,6 +96,7 @@ module _ {T K : Type 0} (fits : K → ℕ → T → Type 0) (key : K) (chairs : 
             (omega (arith, y.0), (t.0, ap (get_elem? (set views id w)) (put_else l0.holder n id l0.served ne) ∙ set_else views id (l0.holder l0.served) w (not_mine (l0.holder l0.served) l0.served (t.0, t.1, true, t.2, t.3)) ∙ t.1, t.2, t.3));
         value = q.value;
         kept = λ y e. let k = q.kept y e in (omega (arith, k.0), k.1);
+        turns = λ m. omega (arith, more_of (turned_at c m) views id v w (Drew c n) at refl, q.turns m);
       } in
       let grows : Grows id l0 l h h = record {
         next = omega arith;
@@ -110,7 +120,7 @@ module _ {T K : Type 0} (fits : K → ℕ → T → Type 0) (key : K) (chairs : 
           ahead = λ z. absurd (false≢true z);
         },
       ))
-      refl (λ m. below_more T c m n) (λ d m ne. rw (ne_eqb c d (λ z. ne (sym z))) refl) in
+      refl (λ m. below_more T c m n) (λ d m ne. (rw (ne_eqb c d (λ z. ne (sym z))) refl, refl)) in
       (w, subst (λ (hs : List (maybe.Option (Option T))). Kept fits key chairs words' hs (set views id w)) (set_again homes c h hh.1) done, (n, q.next_is, refl))
 
   -- the number of tickets that are out is below 2 ^ 64
@@ -129,8 +139,8 @@ module _ {T K : Type 0} (fits : K → ℕ → T → Type 0) (key : K) (chairs : 
       sym (one_turn (r.lines c).served (held v).number (2 ^ 64) s.least (omega (arith, s.drawn, q.line, few_out words homes views r c)) (sym q.served_is ∙ e))
 
   -- a call that changes neither line nor value
-  note_kept : (words : List ℕ) (homes : List (maybe.Option (Option T))) (views : List (View T K)) (r : Kept fits key chairs words homes views) (id : ℕ) (v : View T K) (a : Act T) (d : Bool) → get_elem? views id ≡ some v → v.ticket ≡ Some (held v) → (held v).cell < length homes
-      → ((lines : ℕ → Line T) → Stands lines a) → gave a ≡ took a → ((x n : ℕ) → drew_at x n a ≡ 0) → (d ≡ true → (held v).number + 1 < (r.lines (held v).cell).next)
+  note_kept : (words : List ℕ) (homes : List (maybe.Option (Option T))) (views : List (View T K)) (r : Kept fits key chairs words homes views) (id : ℕ) (v : View T K) (a : ChairCall T) (d : Bool) → get_elem? views id ≡ some v → v.ticket ≡ Some (held v) → (held v).cell < length homes
+      → Stands r.lines a → gave a ≡ took a → ((x n : ℕ) → (drew_at x n a ≡ 0) × (turned_at x n a ≡ 0)) → (d ≡ true → (held v).number + 1 < (r.lines (held v).cell).next)
       → Kept fits key chairs words homes (set views id (record { key = v.key; parts = v.parts; ticket = Some (ticket (held v).cell (held v).number (held v).turn d); calls = v.calls ++ a ∷ [] }))
   note_kept words homes views r id v a d at has lt stands none no_draw ahead =
       let t : Ticket = held v in
@@ -153,14 +163,15 @@ module _ {T K : Type 0} (fits : K → ℕ → T → Type 0) (key : K) (chairs : 
         away = λ e. let y = q.away e in (y.0, turn_same views id v w t d c (l.holder l.served) l.served at has refl y.1);
         value = q.value;
         kept = q.kept;
+        turns = λ n. omega (arith, more_of (turned_at c n) views id v w a at refl, (no_draw c n).1, q.turns n);
       } in
       let grows : Grows id l l h h = record { next = omega arith; served = omega arith; least = λ n le lt' ne. (le, refl); turn = λ n lt' ne e z. (e, z); left = λ n lt'. refl } in
       subst (λ (hs : List (maybe.Option (Option T))). Kept fits key chairs words hs (set views id w)) (set_again homes c h hh.1)
       (changes fits key chairs words words homes views r id v w c l h h a at hh.1 refl (λ x ne lt'. (refl, refl))
       (λ x ne. (ap (waits x) has ∙ rw (ne_eqb c x (λ z. ne (sym z))) refl, rw (ne_eqb c x (λ z. ne (sym z))) refl))
-      queue grows refl refl (k.part t has) refl (stands (put r.lines c l))
+      queue grows refl refl (k.part t has) refl (stand_on r.lines id c l h h grows a stands)
       (λ t' e. subst (λ (z : Ticket). (z.cell ≡ c) × Seated l (some h) id z) (ap or_none e) (refl, record { mine = s0.mine; least = s0.least; drawn = s0.drawn; turn = λ z. let y = s0.turn z in (y.0, sym hh.1 ∙ y.1); ahead = ahead }))
-      (omega (arith, none)) (λ n. omega (arith, no_draw c n)) (λ x n ne. no_draw x n))
+      (omega (arith, none)) (λ n. omega (arith, (no_draw c n).0)) (λ x n ne. no_draw x n))
 
   -- the served ticket's look takes the value
   hit_kept : (words : List ℕ) (homes : List (maybe.Option (Option T))) (views : List (View T K)) (r : Kept fits key chairs words homes views) (id : ℕ) (v : View T K) → get_elem? views id ≡ some v → v.ticket ≡ Some (held v) → (held v).turn ≡ false
@@ -196,6 +207,7 @@ module _ {T K : Type 0} (fits : K → ℕ → T → Type 0) (key : K) (chairs : 
         away = λ e. (omega (arith, s0.drawn, now), (w, ap (get_elem? (set views id w)) mine ∙ set_here views id w (at_lt views id v at), false, ap (λ (n : ℕ). Some (ticket c n true false)) now));
         value = λ x e. absurd (some-ne-none x (sym e));
         kept = λ x e. absurd (some-ne-none (Some x) (sym e));
+        turns = λ n. omega (arith, more_of (turned_at c n) views id v w (Turned c t.number o) at refl, turned_here T c n t.number o, ap (λ (m : ℕ). in_turn {T = T} n m maybe.none) now, q.turns n);
       } in
       let grows : Grows id l l h h' = record { next = omega arith; served = omega arith; least = λ n le lt' ne. (le, refl); turn = λ n lt' ne e z. absurd (some-ne-none o z); left = λ n lt'. refl } in (
         o,
@@ -205,7 +217,7 @@ module _ {T K : Type 0} (fits : K → ℕ → T → Type 0) (key : K) (chairs : 
             queue grows refl refl (k.part t has) refl
             (subst (λ (z : Line T). (t.number ≤ z.served) × (o ≡ before z.left t.number)) (sym (put_here r.lines c l)) (omega (arith, now), q.value o refl ∙ ap (before l.left) (sym now)))
             (λ t' e. subst (λ (z : Ticket). (z.cell ≡ c) × Seated l (some h') id z) (ap or_none e) (refl, record { mine = s0.mine; least = s0.least; drawn = s0.drawn; turn = λ z. (now, refl); ahead = λ z. absurd (false≢true z) }))
-            (omega arith) (λ n. omega arith) (λ x n ne. refl),
+            (omega arith) (λ n. omega arith) (λ x n ne. (refl, rw (ne_eqb c x (λ z. ne (sym z))) refl)),
         fits_if fits c v.key o (λ x e kk z. subst (λ (y : K). fits y c x) (sym (k.key_is kk z)) (q.kept x (ap (λ (y : Option T). maybe.some y) e)).1),
       )
 
@@ -249,6 +261,7 @@ module _ {T K : Type 0} (fits : K → ℕ → T → Type 0) (key : K) (chairs : 
         away = λ e. absurd (some-ne-none o e);
         value = λ y e. sym (some-injective o y e) ∙ sym (put_here l0.left n o);
         kept = λ y e. let m = may_ahead y (some-injective o (Some y) e) in (omega (arith, m.0), m.1);
+        turns = λ m. omega (arith, more_of (turned_at c m) views id v w (Left c n o) at refl, turned_away T m l0.served h out_is, ap (below m) (add-one n), ap (λ (y : ℕ). below m (y + 1)) now, q.turns m);
       } in
       let grows : Grows id l0 l h h' = record {
         next = omega arith;
@@ -263,7 +276,7 @@ module _ {T K : Type 0} (fits : K → ℕ → T → Type 0) (key : K) (chairs : 
       queue grows refl refl (k.part t has) refl
       (subst (λ (z : Line T). (n < z.served) × (o ≡ z.left n)) (sym (put_here r.lines c l)) (omega arith, sym (put_here l0.left n o)))
       (λ t' e. absurd (none-some t' e))
-      (subst (λ (z : maybe.Option (Option T)). weight o + weight_at_home z ≡ 0 + weight o) (sym out_is) (omega arith)) (λ m. omega arith) (λ d m ne. refl)
+      (subst (λ (z : maybe.Option (Option T)). weight o + weight_at_home z ≡ 0 + weight o) (sym out_is) (omega arith)) (λ m. omega arith) (λ d m ne. (refl, refl))
 
   abbrev pub Holds : State (Option T) (View T K) → Type 0
   Holds s = Kept fits key chairs s.words s.homes s.views
@@ -288,7 +301,14 @@ module _ {T K : Type 0} (fits : K → ℕ → T → Type 0) (key : K) (chairs : 
       let y = hit_kept s.words s.homes s.views r id v at has wait now hh.0 hh.1 in
       (turned v y.0, takes (held v).cell y.0, y.1, y.2, subst (λ (b : Bool). LooksIf fits b me found (turned v y.0, ((held v).cell, y.0) ∷ me.1)) (sym (eq-eqb found ((held v).number % 2 ^ 64) e)) (y.0, refl, refl, y.3)))
       (λ (ne : found ≢ (held v).number % 2 ^ 64).
-      let k = note_kept s.words s.homes s.views r id v (Waited (held v).cell (held v).number found) (held v).ahead at has lt (λ lines. tt) refl (λ x n. refl) ((r.known id v at).seated (held v) has).ahead in
+      let h = there s.homes (held v).cell lt in
+      let q = r.queues (held v).cell h.0 h.1 in
+      let s0 = (r.known id v at).seated (held v) has in
+      let l : Line T = r.lines (held v).cell in
+      let is_served : found ≡ l.served % 2 ^ 64 = ap (λ (j : ℕ). get_or s.words j 0) is ∙ q.served_is in
+      let apart : l.served ≢ (held v).number = λ z. ne (is_served ∙ ap (λ (j : ℕ). j % 2 ^ 64) z) in
+      let stands : Stands r.lines (Waited (held v).cell (held v).number found) = (l.served, is_served, omega (arith, s0.least, apart), omega arith) in
+      let k = note_kept s.words s.homes s.views r id v (Waited (held v).cell (held v).number found) (held v).ahead at has lt stands refl (λ x n. (refl, refl)) s0.ahead in
       (waited v found, keeps, tt, k, subst (λ (b : Bool). LooksIf fits b me found (waited v found, me.1)) (sym (ne_eqb found ((held v).number % 2 ^ 64) ne)) (refl, refl)))
 
   pub allows_look : (slots id : ℕ) (me : Me (Option T) (View T K)) (i : ℕ) → me.0.ticket ≡ Some (held me.0) → (held me.0).turn ≡ false → i ≡ slots + (held me.0).cell → (held me.0).cell < slots → Allows Holds slots id me i (λ n. n) (λ n now. Looks fits me n now)
@@ -308,7 +328,7 @@ module _ {T K : Type 0} (fits : K → ℕ → T → Type 0) (key : K) (chairs : 
       let m : ℕ = l.next - (t.number + 1) in
       let few : m < 2 ^ 64 = omega (arith, q.line, few_out s.words s.homes s.views r t.cell, s0.least) in
       let all : t.number + 1 + m ≡ l.next = omega (arith, s0.drawn) in
-      let k = note_kept s.words s.homes s.views r id v (Counted t.cell t.number m) (seen_ahead m t.ahead) at has lt' (λ lines. tt) refl (λ x n. refl) (ahead_is m t.ahead (t.number + 1) l.next all s0.ahead) in
+      let k = note_kept s.words s.homes s.views r id v (Counted t.cell t.number m) (seen_ahead m t.ahead) at has lt' (omega (arith, all)) refl (λ x n. (refl, refl)) (ahead_is m t.ahead (t.number + 1) l.next all s0.ahead) in
       let w : View T K = counted v m in
       let w' : View T K = record { key = v.key; parts = v.parts; ticket = Some (ticket t.cell t.number t.turn (seen_ahead m t.ahead)); calls = v.calls ++ Counted t.cell t.number m ∷ [] } in
       let same : w' ≡ w = λ z. record { key = v.key; parts = v.parts; ticket = Some (ticket t.cell t.number (turn_ z) (seen_ahead m t.ahead)); calls = v.calls ++ Counted t.cell t.number m ∷ [] } in (
@@ -332,6 +352,12 @@ module _ {T K : Type 0} (fits : K → ℕ → T → Type 0) (key : K) (chairs : 
         (ap (λ (y : List (ℕ × Option T)). gone v (carried y)) (sym list), refl),
       )
 
+  -- what holds of a call that is among the calls
+  stands_in : (lines : ℕ → Line T) (xs : List (ChairCall T)) (a : ChairCall T) → Contains xs a → AllStand lines xs → Stands lines a
+  stands_in lines [] a (k, lt, e) s = absurd (omega (arith, lt))
+  stands_in lines (x ∷ xs) a (zero, lt, e) s = subst (Stands lines) e s.0
+  stands_in lines (x ∷ xs) a (suc k, lt, e) s = stands_in lines xs a (k, omega (arith, lt), e) s.1
+
   pub line_agrees : (words : List ℕ) (homes : List (maybe.Option (Option T))) (views : List (View T K)) → Kept fits key chairs words homes views → (c : ℕ) (h : maybe.Option (Option T)) → get_elem? homes c ≡ some h → LineAgrees (fits key) c (get_or words c 0) (get_or words (length homes + c) 0) h views
   line_agrees words homes views r c h home =
       let q = r.queues c h home in
@@ -345,6 +371,12 @@ module _ {T K : Type 0} (fits : K → ℕ → T → Type 0) (key : K) (chairs : 
         within = omega (arith, q.line);
         near = omega (arith, q.line, few_out words homes views r c);
         out = λ n le lt. (l.holder n, (q.each n le lt, λ other t. sym (seat other n t.2 t.3 t.0 t.1 t.4).mine));
+        draws = r.once c;
+        turns = q.turns;
+        first = λ o e z. q.value o e ∙ ap (before l.left) z;
+        last = λ id n o p e z t.
+            let k : Stands r.lines (Left c n p) = stands_in r.lines t.0.calls (Left c n p) t.2 (r.known id t.0 t.1).stand in
+            q.value o e ∙ ap (before l.left) (z ∙ add-one n) ∙ sym k.1;
         only = λ id n t. let s = seat id n t.2 t.3 t.0 t.1 t.4 in (s.least, s.drawn);
         turn = λ id n t. let s = (seat id n true t.2 t.0 t.1 t.3).turn refl in (s.0, some-injective h maybe.none (sym home ∙ s.1));
         value = q.kept;

@@ -7,10 +7,11 @@ use native.Mathlib.Decide.{ℕ_discrete}
 use lib.ListN.{get_elem?}
 use Rattle.atomic_table.proofs.Lists.{at_set, set_here, set_else}
 use Rattle.sh_local.specs.declared.view.Ticket.{Ticket}
-use Rattle.sh_local.specs.declared.view.Act.{Act}
-use Rattle.sh_local.specs.declared.view.Act.TheVariants.{Drew, Waited, Turned, Counted, Left}
+use Rattle.sh_local.specs.declared.view.ChairCall.{ChairCall}
+use Rattle.sh_local.specs.declared.view.ChairCall.TheVariants.{Drew, Waited, Turned, Counted, Left}
 use Rattle.sh_local.specs.declared.view.View.{View}
-use Rattle.sh_local.specs.Lines.{ticket, Line, before, weight_at_home, gave, took, drew_at, draws_of, below, total, given, taken, waits, out, Seated, Stands, AllStand, Knows, HasTicket, HasTurn, Queue, Kept, or_none}
+use Rattle.sh_local.specs.Calls.{ticket, weight_at_home, gave, took, drew_at, draws_of, turned_at, turns_of, below, total, given, taken, waits, out, or_none}
+use Rattle.sh_local.specs.Lines.{Line, before, Seated, Stands, AllStand, Knows, HasTicket, HasTurn, Queue, Kept}
 use Rattle.sh_local.proofs.Sums.{total_set, total_snoc, put, put_here, put_else, at_put, same_at, at_lt}
 
 pub length_set : {A : Type 0} (xs : List A) (i : ℕ) (a : A) → length (set xs i a) ≡ length xs
@@ -31,16 +32,16 @@ module _ {T : Type 0} where
   before_same old new zero h = refl
   before_same old new (suc n) h = h n (omega arith)
 
-  stand_on : (lines : ℕ → Line T) (id c : ℕ) (l : Line T) (h h' : maybe.Option (Option T)) → Grows id (lines c) l h h' → (a : Act T) → Stands lines a → Stands (put lines c l) a
+  pub stand_on : (lines : ℕ → Line T) (id c : ℕ) (l : Line T) (h h' : maybe.Option (Option T)) → Grows id (lines c) l h h' → (a : ChairCall T) → Stands lines a → Stands (put lines c l) a
   stand_on lines id c l h h' g (Drew d n) s = at_put (λ (z : Line T). n < z.next) lines c l d (λ e. let k : n < (lines c).next = subst (λ x. n < (lines x).next) e s in let m = g.next in omega arith) (λ _. s)
-  stand_on lines id c l h h' g (Waited d n x) s = tt
+  stand_on lines id c l h h' g (Waited d n x) (m, is, lt, le) = (m, is, lt, at_put (λ (z : Line T). m ≤ z.served) lines c l d (λ e. let k : m ≤ (lines c).served = subst (λ y. m ≤ (lines y).served) e le in let grown = g.served in omega arith) (λ _. le))
   stand_on lines id c l h h' g (Turned d n o) s = at_put (λ (z : Line T). (n ≤ z.served) × (o ≡ before z.left n)) lines c l d
       (λ e.
       let k : (n ≤ (lines c).served) × (o ≡ before (lines c).left n) = subst (λ x. (n ≤ (lines x).served) × (o ≡ before (lines x).left n)) e s in
       let le = k.0 in let m = g.served in
       (omega arith, k.1 ∙ sym (before_same (lines c).left l.left n (λ i lt. g.left i (omega arith)))))
       (λ _. s)
-  stand_on lines id c l h h' g (Counted d n x) s = tt
+  stand_on lines id c l h h' g (Counted d n x) s = at_put (λ (z : Line T). n + x < z.next) lines c l d (λ e. let k : n + x < (lines c).next = subst (λ y. n + x < (lines y).next) e s in let m = g.next in omega arith) (λ _. s)
   stand_on lines id c l h h' g (Left d n o) s = at_put (λ (z : Line T). (n < z.served) × (o ≡ z.left n)) lines c l d
       (λ e.
       let k : (n < (lines c).served) × (o ≡ (lines c).left n) = subst (λ x. (n < (lines x).served) × (o ≡ (lines x).left n)) e s in
@@ -48,11 +49,11 @@ module _ {T : Type 0} where
       (omega arith, k.1 ∙ sym (g.left n lt)))
       (λ _. s)
 
-  all_stand_on : (lines : ℕ → Line T) (id c : ℕ) (l : Line T) (h h' : maybe.Option (Option T)) → Grows id (lines c) l h h' → (xs : List (Act T)) → AllStand lines xs → AllStand (put lines c l) xs
+  all_stand_on : (lines : ℕ → Line T) (id c : ℕ) (l : Line T) (h h' : maybe.Option (Option T)) → Grows id (lines c) l h h' → (xs : List (ChairCall T)) → AllStand lines xs → AllStand (put lines c l) xs
   all_stand_on lines id c l h h' g [] s = tt
   all_stand_on lines id c l h h' g (x ∷ xs) s = (stand_on lines id c l h h' g x s.0, all_stand_on lines id c l h h' g xs s.1)
 
-  pub all_stand_append : (lines : ℕ → Line T) (xs ys : List (Act T)) → AllStand lines xs → AllStand lines ys → AllStand lines (xs ++ ys)
+  pub all_stand_append : (lines : ℕ → Line T) (xs ys : List (ChairCall T)) → AllStand lines xs → AllStand lines ys → AllStand lines (xs ++ ys)
   all_stand_append lines [] ys s t = t
   all_stand_append lines (x ∷ xs) ys s t = (s.0, all_stand_append lines xs ys s.1 t)
 
@@ -142,9 +143,9 @@ module _ {T K : Type 0} where
       (w, ap (get_elem? (set views id w)) q ∙ set_here views id w (at_lt views id v at), d', now ∙ ap (λ (x : Ticket). Some (ticket x.cell x.number x.turn d')) tick))
       (λ (q : j ≢ id). (u, set_else views id j w q ∙ e, d, is))
 
-  queue_else : (fits : ℕ → T → Type 0) (views : List (View T K)) (id : ℕ) (v w : View T K) (c : ℕ) (l l' : Line T) (a b a' b' : ℕ) (h : maybe.Option (Option T)) → get_elem? views id ≡ some v → out c v ≡ 0 → out c w ≡ 0 → l ≡ l' → a ≡ a' → b ≡ b'
+  queue_else : (fits : ℕ → T → Type 0) (views : List (View T K)) (id : ℕ) (v w : View T K) (c : ℕ) (l l' : Line T) (a b a' b' : ℕ) (h : maybe.Option (Option T)) → get_elem? views id ≡ some v → out c v ≡ 0 → out c w ≡ 0 → ((n : ℕ) → turns_of c n w ≡ turns_of c n v) → l ≡ l' → a ≡ a' → b ≡ b'
       → Queue fits c l a b h views → Queue fits c l' a' b' h (set views id w)
-  queue_else fits views id v w c l l' a b a' b' h at zv zw el ea eb q =
+  queue_else fits views id v w c l l' a b a' b' h at zv zw no_turns el ea eb q =
       let s = total_set (out c) views id v w at in
       let k = q.line in
       let now : Queue fits c l a b h (set views id w) = record {
@@ -155,11 +156,16 @@ module _ {T K : Type 0} where
         away = λ e. let y = q.away e in (y.0, turn_else views id v w c (l.holder l.served) l.served at zv y.1);
         value = q.value;
         kept = q.kept;
+        turns = λ n. omega (arith, total_set (turns_of c n) views id v w at, no_turns n, q.turns n);
       } in
       subst (λ (p : Line T × ℕ × ℕ). Queue fits c p.0 p.1 p.2 h (set views id w)) (λ z. (el z, ea z, eb z)) now
 
+pub more_of : {T K : Type 0} (f : ChairCall T → ℕ) (views : List (View T K)) (id : ℕ) (v w : View T K) (a : ChairCall T) → get_elem? views id ≡ some v → w.calls ≡ v.calls ++ a ∷ []
+    → total (λ (x : View T K). total f x.calls) (set views id w) ≡ total (λ (x : View T K). total f x.calls) views + f a
+more_of {T} {K} f views id v w a at calls = omega (arith, total_set (λ (x : View T K). total f x.calls) views id v w at, ap (total f) calls, total_snoc f v.calls a)
+
 module _ {T K : Type 0} (fits : K → ℕ → T → Type 0) (key : K) (chairs : ℕ) where
-  pub changes : (words words' : List ℕ) (homes : List (maybe.Option (Option T))) (views : List (View T K)) (r : Kept fits key chairs words homes views) (id : ℕ) (v w : View T K) (c : ℕ) (l : Line T) (h h' : maybe.Option (Option T)) (a : Act T)
+  pub changes : (words words' : List ℕ) (homes : List (maybe.Option (Option T))) (views : List (View T K)) (r : Kept fits key chairs words homes views) (id : ℕ) (v w : View T K) (c : ℕ) (l : Line T) (h h' : maybe.Option (Option T)) (a : ChairCall T)
       → get_elem? views id ≡ some v → get_elem? homes c ≡ some h → length words' ≡ length words
       → ((d : ℕ) → d ≢ c → d < length homes → (get_or words' d 0 ≡ get_or words d 0) × (get_or words' (length homes + d) 0 ≡ get_or words (length homes + d) 0))
       → ((d : ℕ) → d ≢ c → (out d v ≡ 0) × (out d w ≡ 0))
@@ -167,7 +173,7 @@ module _ {T K : Type 0} (fits : K → ℕ → T → Type 0) (key : K) (chairs : 
       → Grows id (r.lines c) l h h'
       → w.key ≡ v.key → w.parts ≡ v.parts → 1 ≤ v.parts → w.calls ≡ v.calls ++ a ∷ [] → Stands (put r.lines c l) a
       → ((t : Ticket) → w.ticket ≡ Some t → (t.cell ≡ c) × Seated l (some h') id t)
-      → gave a + weight_at_home h ≡ took a + weight_at_home h' → ((n : ℕ) → below n l.next ≡ below n (r.lines c).next + drew_at c n a) → ((d n : ℕ) → d ≢ c → drew_at d n a ≡ 0)
+      → gave a + weight_at_home h ≡ took a + weight_at_home h' → ((n : ℕ) → below n l.next ≡ below n (r.lines c).next + drew_at c n a) → ((d n : ℕ) → d ≢ c → (drew_at d n a ≡ 0) × (turned_at d n a ≡ 0))
       → Kept fits key chairs words' (set homes c h') (set views id w)
   changes words words' homes views r id v w c l h h' a at home long same apart queue grows keys parts some_part calls stands tickets balance draws no_draws =
       let old = r.known id v at in
@@ -197,6 +203,7 @@ module _ {T K : Type 0} (fits : K → ℕ → T → Type 0) (key : K) (chairs : 
             let s = same d y.0 (at_lt homes d x y.1) in
             let o = apart d y.0 in
             queue_else (fits key) views id v w d (r.lines d) (put r.lines c l d) (get_or words d 0) (get_or words (length homes + d) 0) (get_or words' d 0) (get_or words' (length (set homes c h') + d) 0) x at o.0 o.1
+            (λ n. omega (arith, ap (total (turned_at d n)) calls, total_snoc (turned_at d n) v.calls a, (no_draws d n y.0).1))
             (sym (put_else r.lines c l d y.0)) (sym s.0) (sym (ap (λ (n : ℕ). get_or words' (n + d) 0) lens ∙ s.1)) (r.queues d x y.1))
             (at_set homes c d h' x e);
         known = λ i u e. ⊎_elim
@@ -210,7 +217,7 @@ module _ {T K : Type 0} (fits : K → ℕ → T → Type 0) (key : K) (chairs : 
             let o = r.once d n in
             let y : below n (put r.lines c l d).next ≡ below n (r.lines d).next + drew_at d n a = at_put (λ (z : Line T). below n z.next ≡ below n (r.lines d).next + drew_at d n a) r.lines c l d
             (λ e. subst (λ (x : ℕ). below n l.next ≡ below n (r.lines x).next + drew_at x n a) (sym e) (draws n))
-            (λ ne. omega (arith, no_draws d n ne)) in
+            (λ ne. omega (arith, (no_draws d n ne).0)) in
             omega (arith, s, g1, o, y);
         balance = omega arith;
       }

@@ -10,10 +10,11 @@ use Rattle.std.proofs.lemmas.Option.{none-some}
 use Rattle.atomic_table.specs.Table.{State, Splits, Joins, Enters, Seen}
 use Rattle.atomic_table.proofs.Lists.{at_set, set_here, set_else, at_longer, at_snoc}
 use Rattle.sh_local.specs.declared.view.Ticket.{Ticket}
-use Rattle.sh_local.specs.declared.view.Act.{Act}
+use Rattle.sh_local.specs.declared.view.ChairCall.{ChairCall}
 use Rattle.sh_local.specs.declared.view.View.{View}
-use Rattle.sh_local.specs.Lines.{Line, weight, weight_at_home, gave, took, drew_at, draws_of, below, total, given, taken, waits, out, AllStand, Knows, HasTicket, HasTurn, Queue, Kept, opener}
-use Rattle.sh_local.specs.Views.{less_one, new_chair, both, spent}
+use Rattle.sh_local.specs.Calls.{weight, weight_at_home, gave, took, drew_at, draws_of, turned_at, turns_of, below, total, given, taken, waits, out, opener}
+use Rattle.sh_local.specs.Lines.{Line, AllStand, Knows, HasTicket, HasTurn, in_turn, before, Queue, Kept}
+use Rattle.sh_local.specs.Calls.{less_one, new_chair, both, spent}
 use Rattle.sh_local.proofs.Sums.{total_set, total_snoc, total_append, total_none, total_alone, total_part, same_at, at_lt, there}
 use Rattle.sh_local.proofs.Changes.{all_stand_append}
 use Rattle.sh_local.proofs.Allowed.{Holds, out_le}
@@ -32,11 +33,11 @@ part v = v.parts
 module _ {T K : Type 0} (fits : K → ℕ → T → Type 0) (key : K) (chairs : ℕ) where
   -- views come or are put together, and no ticket moves
   regroup : (words : List ℕ) (homes : List (maybe.Option (Option T))) (views now : List (View T K)) (r : Kept fits key chairs words homes views)
-      → ((c : ℕ) → total (out c) now ≡ total (out c) views) → total part now ≡ total part views → total given now ≡ total given views → total taken now ≡ total taken views → ((c n : ℕ) → total (draws_of c n) now ≡ total (draws_of c n) views)
+      → ((c : ℕ) → total (out c) now ≡ total (out c) views) → total part now ≡ total part views → total given now ≡ total given views → total taken now ≡ total taken views → ((c n : ℕ) → total (draws_of c n) now ≡ total (draws_of c n) views) → ((c n : ℕ) → total (turns_of c n) now ≡ total (turns_of c n) views)
       → ((i : ℕ) (u : View T K) (t : Ticket) → get_elem? views i ≡ some u → u.ticket ≡ Some t → get_elem? now i ≡ some u)
       → ((i : ℕ) (u : View T K) → get_elem? now i ≡ some u → Knows key r.lines homes i u)
       → Kept fits key chairs words homes now
-  regroup words homes views now r outs parts gives takes draws stay knows = record {
+  regroup words homes views now r outs parts gives takes draws turns stay knows = record {
     lines = r.lines;
     long = r.long;
     few = r.few;
@@ -46,10 +47,11 @@ module _ {T K : Type 0} (fits : K → ℕ → T → Type 0) (key : K) (chairs : 
           next_is = q.next_is;
           served_is = q.served_is;
           line = omega (arith, outs c, q.line);
-          each = λ n le lt. let y = q.each n le lt in (y.0, stay ((r.lines c).holder n) y.0 (Rattle.sh_local.specs.Lines.ticket c n y.2 y.3) y.1 y.4, y.2, y.3, y.4);
-          away = λ z. let x = q.away z in let y = x.1 in (x.0, (y.0, stay ((r.lines c).holder (r.lines c).served) y.0 (Rattle.sh_local.specs.Lines.ticket c (r.lines c).served true y.2) y.1 y.3, y.2, y.3));
+          each = λ n le lt. let y = q.each n le lt in (y.0, stay ((r.lines c).holder n) y.0 (Rattle.sh_local.specs.Calls.ticket c n y.2 y.3) y.1 y.4, y.2, y.3, y.4);
+          away = λ z. let x = q.away z in let y = x.1 in (x.0, (y.0, stay ((r.lines c).holder (r.lines c).served) y.0 (Rattle.sh_local.specs.Calls.ticket c (r.lines c).served true y.2) y.1 y.3, y.2, y.3));
           value = q.value;
           kept = q.kept;
+          turns = λ n. turns c n ∙ q.turns n;
         };
     known = knows;
     parts = parts ∙ r.parts;
@@ -71,6 +73,7 @@ module _ {T K : Type 0} (fits : K → ℕ → T → Type 0) (key : K) (chairs : 
       (let a = total_snoc given mid right in let b = total_set given views id v left at in omega arith)
       (let a = total_snoc taken mid right in let b = total_set taken views id v left at in omega arith)
       (λ c n. let a = total_snoc (draws_of c n) mid right in let b = total_set (draws_of c n) views id v left at in omega arith)
+      (λ c n. let a = total_snoc (turns_of c n) mid right in let b = total_set (turns_of c n) views id v left at in omega arith)
       (λ i u t e has. at_longer mid (right ∷ []) i u (set_else views id i left (λ z. let same : u ≡ v = same_at views id u v (ap (get_elem? views) (sym z) ∙ e) at in none-some t (sym none ∙ ap (λ (x : View T K). x.ticket) (sym same) ∙ has)) ∙ e))
       (λ i u e. ⊎_elim
       (λ (y : get_elem? mid i ≡ some u). ⊎_elim
@@ -100,6 +103,7 @@ module _ {T K : Type 0} (fits : K → ℕ → T → Type 0) (key : K) (chairs : 
       (sums given (total_append gave v.calls w.calls) refl)
       (sums taken (total_append took v.calls w.calls) refl)
       (λ c n. sums (draws_of c n) (total_append (drew_at c n) v.calls w.calls) refl)
+      (λ c n. sums (turns_of c n) (total_append (turned_at c n) v.calls w.calls) refl)
       (λ i u t e has. set_else mid other i spent (none_at i other u w t at' none' e has) ∙ set_else views id i b (none_at i id u v t at none e has) ∙ e)
       (λ i u e. ⊎_elim
       (λ (z : (i ≡ other) × (spent ≡ u)). subst (λ (p : ℕ × View T K). Knows key r.lines s.homes p.0 p.1) (λ j. (sym z.0 j, z.1 j)) record { key_is = λ x h. absurd (none-some x h); seated = λ t h. absurd (none-some t h); part = λ t h. absurd (none-some t h); stand = tt; nothing = λ h. refl })
@@ -109,7 +113,7 @@ module _ {T K : Type 0} (fits : K → ℕ → T → Type 0) (key : K) (chairs : 
         seated = λ t h. absurd (none-some t (sym none ∙ h));
         part = λ t h. absurd (none-some t (sym none ∙ h));
         stand = all_stand_append r.lines v.calls w.calls k.stand k'.stand;
-        nothing = λ h. ap (λ (x : List (Act T)). x ++ w.calls) (k.nothing (omega (arith, h))) ∙ k'.nothing (omega (arith, h));
+        nothing = λ h. ap (λ (x : List (ChairCall T)). x ++ w.calls) (k.nothing (omega (arith, h))) ∙ k'.nothing (omega (arith, h));
       })
       (λ (z : (i ≢ id) × (get_elem? views i ≡ some u)). r.known i u z.1)
       (at_set views id i b u y.1))
@@ -125,6 +129,7 @@ module _ {T K : Type 0} (fits : K → ℕ → T → Type 0) (key : K) (chairs : 
             (let a = total_snoc given views spent in omega arith)
             (let a = total_snoc taken views spent in omega arith)
             (λ c n. let a = total_snoc (draws_of c n) views spent in omega arith)
+            (λ c n. let a = total_snoc (turns_of c n) views spent in omega arith)
             (λ j u t e has. at_longer views (spent ∷ []) j u e)
             (λ j u e. ⊎_elim
             (λ (y : get_elem? views j ≡ some u). r.known j u y)
@@ -180,6 +185,7 @@ opening_kept {T} {K} fits key chairs cells words few are =
             away = λ z. absurd (some-ne-none None (sym is ∙ z));
             value = λ o z. sym (some-injective None o (sym is ∙ z));
             kept = λ x z. absurd (none-some x (some-injective None (Some x) (sym is ∙ z)));
+            turns = λ n. sym (subst (λ (x : maybe.Option (Option T)). below n 0 + in_turn n 0 x ≡ 0) (sym is) (omega (arith, below_zero n)));
           };
       known = λ id v e. first_known key chairs (λ c. record { next = 0; served = 0; holder = λ _. 0; left = λ _. None }) homes id v e;
       parts = omega arith;
@@ -229,6 +235,14 @@ module _ {T K : Type 0} (fits : K → ℕ → T → Type 0) (key : K) (chairs : 
 
   pub ends_once : (c n : ℕ) → draws_of c n v ≡ below n (r.lines c).next
   ends_once c n = sym (total_alone (draws_of c n) views id v at (λ j u ne e. ap (total (drew_at c n)) ((r.known j u e).nothing (alone j u ne e)))) ∙ r.once c n
+
+  pub ends_turns : (c n : ℕ) → c < length homes → turns_of c n v ≡ below n (r.lines c).next
+  ends_turns c n lt =
+      let q = r.queues c (maybe.some None) (ends_empty c lt) in
+      omega (arith, total_alone (turns_of c n) views id v at (λ j u ne e. ap (total (turned_at c n)) ((r.known j u e).nothing (alone j u ne e))), q.turns n, ap (below n) (ends_served c lt))
+
+  pub ends_left : (c : ℕ) → c < length homes → before (r.lines c).left (r.lines c).next ≡ None
+  ends_left c lt = ap (before (r.lines c).left) (sym (ends_served c lt)) ∙ sym ((r.queues c (maybe.some None) (ends_empty c lt)).value None refl)
 
   pub ends_told : AllStand r.lines v.calls
   ends_told = (r.known id v at).stand

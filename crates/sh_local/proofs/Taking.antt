@@ -5,15 +5,17 @@ use mathlib.Core.Option.{some, some-injective}
 use lib.ListN.{get_elem?}
 use Rattle.atomic_table.specs.Table.{State, Seen, Final}
 use Rattle.atomic_table.specs.Seated.{TableId}
-use Rattle.sh_local.specs.declared.view.Act.{Act}
+use Rattle.sh_local.specs.declared.view.ChairCall.{ChairCall}
 use Rattle.sh_local.specs.declared.view.View.{View}
-use Rattle.sh_local.specs.Lines.{Line, gave, took, drew_at, draws_of, total, given, taken, AllStand, Kept}
-use Rattle.sh_local.specs.Views.{Sitting, both, AllFree, AllTold, AllNone, TakenIn, Gathered}
+use Rattle.sh_local.specs.Calls.{gave, took, drew_at, draws_of, turned_at, turns_of, total, given, taken}
+use Rattle.sh_local.specs.Lines.{Line, AllStand, Kept}
+use Rattle.sh_local.specs.Calls.{both}
+use Rattle.sh_local.specs.Chairs.{Sitting, AllFree, AllTold, AllNone, TakenIn, Gathered}
 use Rattle.sh_local.proofs.Sums.{total_append, total_snoc, at_lt}
-use Rattle.sh_local.proofs.Regroup.{ends_served, ends_once, ends_even, ends_empty, ends_told}
+use Rattle.sh_local.proofs.Regroup.{ends_served, ends_once, ends_turns, ends_left, ends_even, ends_empty, ends_told}
 use Rattle.sh_local.proofs.Allowed.{Holds}
 
-all_stand_split : {T : Type 0} (lines : ℕ → Line T) (xs ys : List (Act T)) → AllStand lines (xs ++ ys) → AllStand lines xs × AllStand lines ys
+all_stand_split : {T : Type 0} (lines : ℕ → Line T) (xs ys : List (ChairCall T)) → AllStand lines (xs ++ ys) → AllStand lines xs × AllStand lines ys
 all_stand_split lines [] ys h = (tt, h)
 all_stand_split lines (x ∷ xs) ys h = let k = all_stand_split lines xs ys h.1 in ((h.0, k.0), k.1)
 
@@ -33,6 +35,7 @@ module _ {T K : Type 0} where
     gives = let f : Sitting T K → ℕ = λ s. given s.view in omega (arith, t.gives, ap (total f) is, total_snoc f now x, total_append gave v.calls x.view.calls);
     takes = let f : Sitting T K → ℕ = λ s. taken s.view in omega (arith, t.takes, ap (total f) is, total_snoc f now x, total_append took v.calls x.view.calls);
     draws = λ c n. let f : Sitting T K → ℕ = λ s. draws_of c n s.view in omega (arith, t.draws c n, ap (total f) is, total_snoc f now x, total_append (drew_at c n) v.calls x.view.calls);
+    turns = λ c n. let f : Sitting T K → ℕ = λ s. turns_of c n s.view in omega (arith, t.turns c n, ap (total f) is, total_snoc f now x, total_append (turned_at c n) v.calls x.view.calls);
     told = λ lines s k. let y = all_stand_split lines v.calls x.view.calls s in t.told lines y.0 (subst (AllTold lines) (sym is) (all_told_snoc lines now x k y.1));
   }
 
@@ -43,6 +46,7 @@ module _ {T K : Type 0} where
     gives = omega (arith, ap (total gave) calls);
     takes = omega (arith, ap (total took) calls);
     draws = λ c n. omega (arith, ap (total (drew_at c n)) calls);
+    turns = λ c n. omega (arith, ap (total (turned_at c n)) calls);
     told = λ lines s k. k;
   }
 
@@ -61,6 +65,8 @@ module _ {T K : Type 0} where
           lines = r.lines;
           told = t.told r.lines (ends_told fits key chairs s.words s.homes s.views r id v f.1.1 parts_are t.none) tt;
           served = λ c lt. ends_served fits key chairs s.words s.homes s.views r id v f.1.1 parts_are t.none c (omega (arith, lt, is, f.3));
-          once = λ c n. let e = ends_once fits key chairs s.words s.homes s.views r id v f.1.1 parts_are t.none c n in omega (arith, e, t.draws c n);
+          turns = λ c n lt. let e = ends_turns fits key chairs s.words s.homes s.views r id v f.1.1 parts_are t.none c n (omega (arith, lt, is, f.3)) in omega (arith, e, t.turns c n);
+          empty = λ c lt. ends_left fits key chairs s.words s.homes s.views r id v f.1.1 parts_are t.none c (omega (arith, lt, is, f.3));
+          draws = λ c n. let e = ends_once fits key chairs s.words s.homes s.views r id v f.1.1 parts_are t.none c n in omega (arith, e, t.draws c n);
           even = let e = ends_even fits key chairs s.words s.homes s.views r id v f.1.1 parts_are t.none in omega (arith, e, t.gives, t.takes);
         }

@@ -6,6 +6,7 @@ use crate::view::View;
 use atomic_table::Seat;
 use std::marker::Model;
 
+/// The token of one user of a table of cells. It has at most one ticket at a time.
 #[derive(Drop)]
 pub struct Chair<T: Carried> {
     pub(crate) ticket: u64,
@@ -14,7 +15,7 @@ pub struct Chair<T: Carried> {
 
 impl<T: Carried> Model for Chair<T> {
     ghost use Rattle.std.specs.Prelude.{◌≡◌};
-    ghost use Rattle.sh_local.specs.Views.{Sitting, slot_if, word_if};
+    ghost use Rattle.sh_local.specs.Chairs.{Sitting, slot_if, word_if};
 
     ghost Value = { Sitting T T.Key };
 
@@ -24,6 +25,7 @@ impl<T: Carried> Model for Chair<T> {
 }
 
 impl<T: Carried> Chair<T> {
+    // A chair of this seat. Conditions: the seat stands for one chair, has no ticket and no slot out.
     pub(crate) fn of(seat: Seat<Option<T>, View<T, T::Key>>) -> Chair<T>
         requires { (seat.me.1 ≡ []) × (seat.me.0.parts ≡ 1) × (seat.me.0.ticket ≡ None) }
         ensures { (result.table ≡ seat.table_id) × (result.view ≡ seat.me.0) }

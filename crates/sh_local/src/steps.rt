@@ -1,7 +1,9 @@
-// One step each on the table of ticket queues.
-ghost use Rattle.std.specs.Prelude.{◌≡◌, ◌≢◌, ◌+◌, ◌%◌, ◌^◌, ◌<◌, ℕ, None, Some, true, false, [], ◌∷◌};
-ghost use Rattle.sh_local.specs.Lines.{held, turned, waited, gone, Draws, Counts};
-ghost use Rattle.sh_local.specs.Views.{HasTicketFor, Looked, MayLeave, slot_if};
+// The four steps of a chair on the table of cells. The next ticket of a cell is the word `cell`, its served number the
+// word `at`, behind all next tickets, and its value the slot `cell`.
+ghost use Rattle.std.specs.Prelude.{◌≡◌, ◌+◌, ◌%◌, ◌^◌, ◌<◌, None, Some, true, false, [], ◌∷◌};
+ghost use Rattle.sh_local.specs.Calls.{held, counted, gone};
+ghost use Rattle.sh_local.specs.Chairs.{HasTicketFor, Looked, MayLeave, slot_if};
+ghost use Rattle.sh_local.specs.Steps.{Draws};
 
 use crate::look::Look;
 use crate::rule::{Carried, Count, Draw, Leave, Lines, Looking, Setup};
@@ -17,6 +19,7 @@ pub type Shelf<T> = Shared<
 
 pub type Place<T> = Seat<Option<T>, View<T, <T as Carried>::Key>>;
 
+// Draws the next ticket of the cell, by one fetch and add.
 pub fn draw<T: Carried>(shelf: &Shelf<T>, seat: &mut Place<T>, cell: usize) -> u64
     requires table { (seat.old.table_id ≡ shelf.now.table_id) × (shelf.now.table_id.words ≡ shelf.now.table_id.slots + shelf.now.table_id.slots) × (cell < shelf.now.table_id.slots) }
     requires none { (seat.old.me.0.ticket ≡ None) × (seat.old.me.0.parts ≡ 1) }
@@ -26,6 +29,7 @@ pub fn draw<T: Carried>(shelf: &Shelf<T>, seat: &mut Place<T>, cell: usize) -> u
     shelf.fetch_add::<Draw>(seat, cell, 1)
 }
 
+// One load of the served number. Where it is the ticket, the slot is out with the seat, and its value is moved out.
 pub fn look<T: Carried>(
     shelf: &Shelf<T>,
     seat: &mut Place<T>,
@@ -47,16 +51,18 @@ pub fn look<T: Carried>(
     }
 }
 
+// One load of the next ticket: how many lie between the chair's and that one.
 pub fn count<T: Carried>(shelf: &Shelf<T>, seat: &mut Place<T>, cell: usize, ticket: u64) -> u64
     requires table { (seat.old.table_id ≡ shelf.now.table_id) × (shelf.now.table_id.words ≡ shelf.now.table_id.slots + shelf.now.table_id.slots) × (cell < shelf.now.table_id.slots) }
     requires ticket { HasTicketFor cell true seat.old.me.0 × (ticket ≡ (held seat.old.me.0).number % 2 ^ 64) }
     ensures seat { (seat.new.table_id ≡ seat.old.table_id) × (seat.new.me.1 ≡ seat.old.me.1) }
-    ensures counted { seat.new.me.0 ≡ Rattle.sh_local.specs.Lines.counted seat.old.me.0 result }
+    ensures after { seat.new.me.0 ≡ counted seat.old.me.0 result }
 {
     let next = shelf.load::<Count>(seat, cell);
     next.wrapping_sub(ticket).wrapping_sub(1)
 }
 
+// Moves the value into the slot, and then serves the next ticket by one store, with which the slot goes back.
 pub fn leave<T: Carried>(
     shelf: &Shelf<T>,
     seat: &mut Place<T>,

@@ -1,6 +1,7 @@
 ghost use Rattle.std.specs.Prelude.{◌≡◌, ◌<◌, None, Some, true, false};
-ghost use Rattle.sh_local.specs.Lines.{held, FitsIf};
-ghost use Rattle.sh_local.specs.Views.{IsAt, HasTicketFor};
+ghost use Rattle.sh_local.specs.Calls.{held};
+ghost use Rattle.sh_local.specs.Steps.{FitsIf};
+ghost use Rattle.sh_local.specs.Chairs.{IsAt, HasTicketFor};
 
 use super::*;
 use std::process::Abort;

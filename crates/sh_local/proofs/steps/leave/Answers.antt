@@ -2,8 +2,9 @@ use Rattle.std.proofs.Common.{◌≡◌, ℕ, ◌+◌, ◌%◌, ◌^◌, List, [
 use Rattle.std.proofs.Math.Nat.{mod-add-mod}
 use Rattle.atomic_table.specs.Table.{Me, Allows, rest}
 use Rattle.sh_local.specs.declared.view.View.{View}
-use Rattle.sh_local.specs.Lines.{held, Leaves}
-use Rattle.sh_local.specs.Views.{MayLeave}
+use Rattle.sh_local.specs.Calls.{held}
+use Rattle.sh_local.specs.Steps.{Leaves}
+use Rattle.sh_local.specs.Chairs.{MayLeave}
 use Rattle.sh_local.proofs.Allowed.{allows_leave, Holds}
 use Rattle.sh_local.proofs.steps.leave.Goals as goal
 

@@ -1,5 +1,5 @@
 use Rattle.std.proofs.Common.{false}
-use Rattle.sh_local.specs.Views.{IsAt, HasTicketFor}
+use Rattle.sh_local.specs.Chairs.{IsAt, HasTicketFor}
 use Rattle.sh_local.proofs.tests.await_turn.Given as goal
 
 abbrev pub invariant-loop : goal.invariant-loop

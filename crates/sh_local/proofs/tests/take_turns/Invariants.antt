@@ -1,5 +1,5 @@
 use Rattle.std.proofs.Common.{◌≡◌, None}
-use Rattle.sh_local.specs.Views.{IsAt}
+use Rattle.sh_local.specs.Chairs.{IsAt}
 use Rattle.sh_local.proofs.tests.take_turns.Given as goal
 
 abbrev pub invariant-loop : goal.invariant-loop

@@ -1,7 +1,7 @@
 use Rattle.std.proofs.Common.{◌≡◌, ℕ, length, ◌∙◌, sym, ap, arith}
 use Rattle.std.specs.Mem.Slots.{slots_items, slots_counts}
 use Rattle.sh_local.proofs.Taking.{ends_none, ends_gathered}
-use Rattle.sh_local.proofs.cells.Cells.gather.Goals as goal
+use Rattle.sh_local.proofs.queues.Queues.gather.Goals as goal
 
 pub discard-requires : goal.discard-requires
 discard-requires g c =

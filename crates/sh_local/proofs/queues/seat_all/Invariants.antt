@@ -1,8 +1,8 @@
 use Rattle.std.proofs.Common.{◌≡◌, ◌-◌, ◌≤◌, [], replicate, Some, None}
 use Rattle.std.specs.Vec.{vec_capacity}
-use Rattle.sh_local.specs.Lines.{opener}
-use Rattle.sh_local.specs.Views.{fresh_chair}
-use Rattle.sh_local.proofs.cells.seat_all.Given as goal
+use Rattle.sh_local.specs.Calls.{opener}
+use Rattle.sh_local.specs.Chairs.{fresh_chair}
+use Rattle.sh_local.proofs.queues.seat_all.Given as goal
 
 abbrev pub invariant-loop-made : goal.invariant-loop-made
 invariant-loop-made g l =

@@ -1,7 +1,7 @@
 use Rattle.std.proofs.Common.{◌≡◌, ◌-◌, ℕ, ◌≤◌, None, [], refl, ap, sym, ◌∙◌, arith}
 use Rattle.sh_local.specs.declared.view.View.{View}
 use Rattle.sh_local.proofs.Regroup.{splits}
-use Rattle.sh_local.proofs.cells.seat_all.Goals as goal
+use Rattle.sh_local.proofs.queues.seat_all.Goals as goal
 
 pub split_seat-requires : goal.split_seat-requires
 split_seat-requires g c =

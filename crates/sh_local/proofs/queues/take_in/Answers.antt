@@ -1,9 +1,10 @@
 use Rattle.std.proofs.Common.{◌≡◌, ℕ, None, List, [], ◌∷◌, ◌++◌, refl, ap, sym, ◌∙◌, subst, arith}
 use Rattle.sh_local.specs.declared.view.View.{View}
-use Rattle.sh_local.specs.Views.{Sitting, both, AllFree, TakenIn}
+use Rattle.sh_local.specs.Calls.{both}
+use Rattle.sh_local.specs.Chairs.{Sitting, AllFree, TakenIn}
 use Rattle.sh_local.proofs.Regroup.{joins, enters}
 use Rattle.sh_local.proofs.Taking.{all_free_snoc, taken_step, taken_none}
-use Rattle.sh_local.proofs.cells.take_in.Goals as goal
+use Rattle.sh_local.proofs.queues.take_in.Goals as goal
 
 pub load_new_seat-requires : goal.load_new_seat-requires
 load_new_seat-requires g c = let shelf = c.args.shelf.now in (c.requires.words, enters g.T.Carried.fits shelf.key.key shelf.key.chairs shelf.table_id.slots 0)

@@ -1,5 +1,5 @@
 -- Each step keeps the rule.
-use Rattle.std.proofs.Common.{◌≡◌, ◌≢◌, ℕ, zero, suc, ◌+◌, ◌-◌, ◌%◌, ◌^◌, ◌<◌, ◌≤◌, ◌⊎◌, ◌==◌, if◌then◌else◌, Bool, true, false, Option, None, Some, List, [], ◌∷◌, ◌++◌, length, set, get_or, refl, ap, sym, ◌∙◌, subst, ⊎_elim, inl, inr, arith, eq-eqb, ne_eqb, add-one}
+use Rattle.std.proofs.Common.{◌≡◌, ◌≢◌, ℕ, zero, suc, ◌+◌, ◌-◌, ◌%◌, ◌^◌, ◌<◌, ◌≤◌, ◌==◌, if◌then◌else◌, Bool, true, false, Option, None, Some, List, [], ◌∷◌, ◌++◌, length, set, get_or, refl, ap, sym, ◌∙◌, subst, arith, eq-eqb, ne_eqb, add-one}
 use mathlib.Core.Option as maybe
 use mathlib.Core.Option.{some, some-injective, some-ne-none}
 use mathlib.Core.Logic.{dite}
@@ -12,16 +12,16 @@ use Rattle.std.proofs.lemmas.Option.{none-some}
 use Rattle.std.proofs.Math.Nat.{mod-add-mod}
 use Rattle.std.specs.List.{Contains}
 use Rattle.atomic_table.specs.Table.{State, Me, Allows, keeps, takes, gives}
-use Rattle.atomic_table.proofs.Lists.{at_set, set_here, set_else, set_again, one_turn}
+use Rattle.atomic_table.proofs.Lists.{set_here, set_else, set_again, one_turn}
 use Rattle.sh_local.specs.declared.view.Ticket.{Ticket}
 use Rattle.sh_local.specs.declared.view.ChairCall.{ChairCall}
 use Rattle.sh_local.specs.declared.view.ChairCall.TheVariants.{Drew, Waited, Turned, Counted, Left}
 use Rattle.sh_local.specs.declared.view.View.{View}
-use Rattle.sh_local.specs.Calls.{ticket, weight, weight_at_home, gave, took, drew_at, draws_of, turned_at, turns_of, below, total, given, taken, waits, out, held, drew, waited, turned, counted, gone, seen_ahead, or_none}
-use Rattle.sh_local.specs.Lines.{Line, before, Seated, Stands, AllStand, Knows, HasTicket, HasTurn, in_turn, Queue, Kept, LineAgrees}
+use Rattle.sh_local.specs.Calls.{ticket, weight, weight_at_home, gave, took, drew_at, turned_at, below, total, waits, out, held, drew, waited, turned, counted, gone, seen_ahead, or_none}
+use Rattle.sh_local.specs.Lines.{Line, before, Seated, Stands, AllStand, HasTicket, in_turn, Queue, Kept, LineAgrees}
 use Rattle.sh_local.specs.Steps.{Draws, Looks, LooksIf, Counts, Leaves, FitsIf, carried}
 use Rattle.sh_local.specs.Chairs.{MayLeave}
-use Rattle.sh_local.proofs.Sums.{total_set, total_snoc, total_le, put, put_here, put_else, at_put, same_at, at_lt, there}
+use Rattle.sh_local.proofs.Sums.{total_set, total_le, put, put_here, put_else, same_at, at_lt, there}
 use Rattle.sh_local.proofs.Changes.{Grows, changes, stand_on, more_of, has_same, turn_same, length_set}
 
 -- a fact of the value, if there is one

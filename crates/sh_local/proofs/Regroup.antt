@@ -1,5 +1,5 @@
 -- Chairs are made and taken in.
-use Rattle.std.proofs.Common.{◌≡◌, ◌≢◌, ℕ, zero, suc, ◌+◌, ◌-◌, ◌%◌, ◌^◌, ◌<◌, ◌≤◌, ◌⊎◌, Bool, true, false, Option, None, Some, List, [], ◌∷◌, ◌++◌, length, map, replicate, set, get_or, refl, ap, sym, ◌∙◌, subst, ⊎_elim, inl, inr, arith}
+use Rattle.std.proofs.Common.{◌≡◌, ◌≢◌, ℕ, zero, suc, ◌+◌, ◌^◌, ◌<◌, ◌≤◌, true, Option, None, Some, List, [], ◌∷◌, ◌++◌, length, map, replicate, set, get_or, refl, ap, sym, ◌∙◌, subst, ⊎_elim, arith}
 use mathlib.Core.Option as maybe
 use mathlib.Core.Option.{some, some-injective, some-ne-none}
 use mathlib.Core.Logic.{dite}
@@ -7,13 +7,13 @@ use native.Mathlib.Decide.{ℕ_discrete}
 use lib.ListN.{get_elem?}
 use Rattle.std.proofs.lemmas.Bool.Decides.{nat_tests}
 use Rattle.std.proofs.lemmas.Option.{none-some}
-use Rattle.atomic_table.specs.Table.{State, Splits, Joins, Enters, Seen}
-use Rattle.atomic_table.proofs.Lists.{at_set, set_here, set_else, at_longer, at_snoc}
+use Rattle.atomic_table.specs.Table.{Splits, Joins, Enters}
+use Rattle.atomic_table.proofs.Lists.{at_set, set_else, at_longer, at_snoc}
 use Rattle.sh_local.specs.declared.view.Ticket.{Ticket}
 use Rattle.sh_local.specs.declared.view.ChairCall.{ChairCall}
 use Rattle.sh_local.specs.declared.view.View.{View}
 use Rattle.sh_local.specs.Calls.{weight, weight_at_home, gave, took, drew_at, draws_of, turned_at, turns_of, below, total, given, taken, waits, out, opener}
-use Rattle.sh_local.specs.Lines.{Line, AllStand, Knows, HasTicket, HasTurn, in_turn, before, Queue, Kept}
+use Rattle.sh_local.specs.Lines.{Line, AllStand, Knows, in_turn, before, Kept}
 use Rattle.sh_local.specs.Calls.{less_one, new_chair, both, spent}
 use Rattle.sh_local.proofs.Sums.{total_set, total_snoc, total_append, total_none, total_alone, total_part, same_at, at_lt, there}
 use Rattle.sh_local.proofs.Changes.{all_stand_append}

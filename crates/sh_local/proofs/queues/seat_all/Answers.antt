@@ -1,4 +1,4 @@
-use Rattle.std.proofs.Common.{◌≡◌, ◌-◌, ℕ, ◌≤◌, None, [], refl, ap, sym, ◌∙◌, arith}
+use Rattle.std.proofs.Common.{◌≡◌, ◌-◌, ap, arith}
 use Rattle.sh_local.specs.declared.view.View.{View}
 use Rattle.sh_local.proofs.Regroup.{splits}
 use Rattle.sh_local.proofs.queues.seat_all.Goals as goal

@@ -1,4 +1,4 @@
-use Rattle.std.proofs.Common.{◌≡◌, ◌-◌, ◌≤◌, [], replicate, Some, None}
+use Rattle.std.proofs.Common.{◌≡◌, ◌-◌, ◌≤◌, [], replicate}
 use Rattle.std.specs.Vec.{vec_capacity}
 use Rattle.sh_local.specs.Calls.{opener}
 use Rattle.sh_local.specs.Chairs.{fresh_chair}

@@ -1,4 +1,4 @@
-use Rattle.std.proofs.Common.{◌≡◌, ℕ, None, List, [], ◌∷◌, ◌++◌, refl, ap, sym, ◌∙◌, subst, arith}
+use Rattle.std.proofs.Common.{◌≡◌, ap, sym, ◌∙◌, subst}
 use Rattle.sh_local.specs.declared.view.View.{View}
 use Rattle.sh_local.specs.Calls.{both}
 use Rattle.sh_local.specs.Chairs.{Sitting, AllFree, TakenIn}

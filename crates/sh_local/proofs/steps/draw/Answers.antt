@@ -1,4 +1,4 @@
-use Rattle.std.proofs.Common.{arith, rules}
+use Rattle.std.proofs.Common.{arith}
 use Rattle.sh_local.proofs.Allowed.{allows_draw}
 use Rattle.sh_local.proofs.steps.draw.Goals as goal
 

@@ -1,4 +1,4 @@
-use Rattle.std.proofs.Common.{arith, ap, ◌+◌, ◌∙◌, sym}
+use Rattle.std.proofs.Common.{arith}
 use Rattle.sh_local.proofs.Allowed.{allows_look}
 use Rattle.sh_local.proofs.steps.look.Goals as goal
 

@@ -1,4 +1,4 @@
-use Rattle.std.proofs.Common.{◌≡◌, ◌∙◌, sym, ap, arith}
+use Rattle.std.proofs.Common.{◌∙◌, arith}
 use Rattle.sh_local.proofs.Regroup.{opening_kept}
 use Rattle.sh_local.proofs.cells.Cells.new.Goals as goal
 

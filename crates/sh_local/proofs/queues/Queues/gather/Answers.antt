@@ -1,4 +1,4 @@
-use Rattle.std.proofs.Common.{◌≡◌, ℕ, length, ◌∙◌, sym, ap, arith}
+use Rattle.std.proofs.Common.{◌≡◌, length, ◌∙◌, sym, ap}
 use Rattle.std.specs.Mem.Slots.{slots_items, slots_counts}
 use Rattle.sh_local.proofs.Taking.{ends_none, ends_gathered}
 use Rattle.sh_local.proofs.queues.Queues.gather.Goals as goal

@@ -7,7 +7,7 @@ use native.Mathlib.Decide.{ℕ_discrete}
 use lib.ListN.{get_elem?}
 use Rattle.std.proofs.lemmas.Bool.Decides.{nat_tests}
 use Rattle.std.proofs.lemmas.Option.{none-some}
-use Rattle.atomic_table.specs.Table.{Splits, Joins, Enters}
+use Rattle.atomic_table.specs.Table.{Splits, Joins}
 use Rattle.atomic_table.proofs.Lists.{at_set, set_else, at_longer, at_snoc}
 use Rattle.sh_local.specs.declared.view.Ticket.{Ticket}
 use Rattle.sh_local.specs.declared.view.ChairCall.{ChairCall}
@@ -118,25 +118,6 @@ module _ {T K : Type 0} (fits : K → ℕ → T → Type 0) (key : K) (chairs : 
       (λ (z : (i ≢ id) × (get_elem? views i ≡ some u)). r.known i u z.1)
       (at_set views id i b u y.1))
       (at_set mid other i spent u e))
-
-  pub enters : (slots i : ℕ) → Enters (Holds fits key chairs) slots i (λ n w. w ≡ spent)
-  enters slots i s r homes small =
-      let views = s.views in (
-        spent,
-        regroup s.words s.homes views (views ++ spent ∷ []) r
-            (λ c. let a = total_snoc (out c) views spent in omega arith)
-            (let a = total_snoc part views spent in omega arith)
-            (let a = total_snoc given views spent in omega arith)
-            (let a = total_snoc taken views spent in omega arith)
-            (λ c n. let a = total_snoc (draws_of c n) views spent in omega arith)
-            (λ c n. let a = total_snoc (turns_of c n) views spent in omega arith)
-            (λ j u t e has. at_longer views (spent ∷ []) j u e)
-            (λ j u e. ⊎_elim
-            (λ (y : get_elem? views j ≡ some u). r.known j u y)
-            (λ (y : spent ≡ u). subst (Knows key r.lines s.homes j) y record { key_is = λ x h. absurd (none-some x h); seated = λ t h. absurd (none-some t h); part = λ t h. absurd (none-some t h); stand = tt; nothing = λ h. refl })
-            (at_snoc views spent u j e)),
-        refl,
-      )
 
 zero_at : (n i : ℕ) → get_or {A = ℕ} (replicate n 0) i 0 ≡ zero
 zero_at zero i = refl

@@ -36,15 +36,15 @@ module _ {T K : Type 0} where
     told = λ lines s k. let y = all_stand_split lines v.calls x.view.calls s in t.told lines y.0 (subst (AllTold lines) (sym is) (all_told_snoc lines now x k y.1));
   }
 
-  pub taken_none : (chairs : List (Sitting T K)) (v : View T K) → v.ticket ≡ None → v.parts ≡ 0 → v.calls ≡ [] → TakenIn chairs chairs v
-  taken_none chairs v none parts calls = record {
+  pub taken_first : (chairs now : List (Sitting T K)) (x : Sitting T K) → chairs ≡ now ++ x ∷ [] → x.view.ticket ≡ None → x.view.parts ≡ 1 → TakenIn chairs now x.view
+  taken_first chairs now x is none part = record {
     none = none;
-    parts = omega (arith, parts);
-    gives = omega (arith, ap (total gave) calls);
-    takes = omega (arith, ap (total took) calls);
-    draws = λ c n. omega (arith, ap (total (drew_at c n)) calls);
-    turns = λ c n. omega (arith, ap (total (turned_at c n)) calls);
-    told = λ lines s k. k;
+    parts = omega (arith, ap length is, length-append now (x ∷ []), part);
+    gives = let f : Sitting T K → ℕ = λ s. given s.view in omega (arith, ap (total f) is, total_snoc f now x);
+    takes = let f : Sitting T K → ℕ = λ s. taken s.view in omega (arith, ap (total f) is, total_snoc f now x);
+    draws = λ c n. let f : Sitting T K → ℕ = λ s. draws_of c n s.view in omega (arith, ap (total f) is, total_snoc f now x);
+    turns = λ c n. let f : Sitting T K → ℕ = λ s. turns_of c n s.view in omega (arith, ap (total f) is, total_snoc f now x);
+    told = λ lines s k. subst (AllTold lines) (sym is) (all_told_snoc lines now x k s);
   }
 
   module _ (fits : K → ℕ → T → Type 0) (key : K) (chairs : ℕ) (words : List ℕ) (slots : List (Option T)) (id : ℕ) (v : View T K) (all : List (Sitting T K)) (t : TakenIn all [] v) (long : length all ≡ chairs) (f : Final (Seen (Holds fits key chairs) id v) words slots) where

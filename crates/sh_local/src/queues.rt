@@ -5,7 +5,7 @@ ghost use Rattle.sh_local.specs.Calls.{opener};
 ghost use Rattle.sh_local.specs.Chairs.{fresh_chair, AllFree, AllNone, Gathered, TakenIn};
 
 use crate::chair::Chair;
-use crate::rule::{Carried, Enter, Gathering, Lines, Seating, Setup};
+use crate::rule::{Carried, Gathering, Lines, Seating, Setup};
 use crate::steps::{Place, Shelf};
 use crate::view::View;
 use atomic_table::{Closed, Table};
@@ -26,7 +26,7 @@ impl<T: Carried> Model for Queues<T> {
 
     ghost view = { λ c. record { table = c.table.shared.table_id; key = c.table.shared.key.key; cells = c.cells; chairs = c.table.shared.key.chairs } };
 
-    ghost invariant = { λ c. (c.table.shared.table_id.words ≡ c.cells + c.cells) × (c.table.shared.table_id.slots ≡ c.cells) × (1 ≤ c.cells) };
+    ghost invariant = { λ c. (c.table.shared.table_id.words ≡ c.cells + c.cells) × (c.table.shared.table_id.slots ≡ c.cells) × (1 ≤ c.cells) × (1 ≤ c.table.shared.key.chairs) };
 }
 
 impl<T: Carried> Queues<T> {
@@ -70,15 +70,19 @@ pub fn seat_all<T: Carried>(
     seats
 }
 
-// A new seat that takes in all chairs. Condition: none of them has a ticket.
+// The seat of one chair, which takes in all others. Conditions: there is a chair, and none of them has a ticket.
 pub fn take_in<T: Carried>(shelf: &Shelf<T>, chairs: Vec<Chair<T>>) -> Place<T>
     requires words { 0 < shelf.now.table_id.words }
+    requires some { 1 ≤ length chairs.items }
     requires free { AllFree shelf.now.table_id chairs.items }
     ensures seat { (result.table_id ≡ shelf.now.table_id) × (result.me.1 ≡ []) }
     ensures taken { TakenIn chairs.items [] result.me.0 }
 {
     let mut chairs = chairs;
-    let mut last = shelf.load_new_seat::<Enter>(0).1;
+    let Some(first) = chairs.pop() else {
+        unreachable!()
+    };
+    let mut last = first.into_seat();
     while let Some(chair) = chairs.pop() {
         let seat = chair.into_seat();
         shelf.join_seat::<Gathering>(&mut last, seat);

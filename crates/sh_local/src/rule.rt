@@ -66,13 +66,6 @@ impl<T, K> Play<Option<T>, View<T, K>> for Leave {
     ghost then = { λ st me n now. Leaves me now };
 }
 
-// A seat that knows nothing, to take in the chairs.
-pub struct Enter;
-
-impl<T, K> Play<Option<T>, View<T, K>> for Enter {
-    ghost then = { λ st me n now. now.0 ≡ spent };
-}
-
 // A chair is made.
 pub struct Seating;
 

@@ -372,6 +372,10 @@ module _ {T K : Type 0} (fits : K → ℕ → T → Type 0) (key : K) (chairs : 
         near = omega (arith, q.line, few_out words homes views r c);
         out = λ n le lt. (l.holder n, (q.each n le lt, λ other t. sym (seat other n t.2 t.3 t.0 t.1 t.4).mine));
         draws = r.once c;
+        one = λ id other n m t u.
+            let a = seat id n true t.2 t.0 t.1 t.3 in
+            let b = seat other m true u.2 u.0 u.1 u.3 in
+            sym a.mine ∙ ap l.holder ((a.turn refl).0 ∙ sym (b.turn refl).0) ∙ b.mine;
         turns = q.turns;
         first = λ o e z. q.value o e ∙ ap (before l.left) z;
         last = λ id n o p e z t.

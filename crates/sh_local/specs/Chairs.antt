@@ -27,6 +27,11 @@ pub record Sitting (T K : Type 0) : Type 0 where
 abbrev pub fresh_chair : {T K : Type 0} → TableId → K → Sitting T K
 fresh_chair z key = record { table = z; view = record { key = Some key; parts = 1; ticket = None; calls = [] } }
 
+-- how many cells there are; a table that was gathered has none
+abbrev pub cells_of : {K : Type 0} → Option (CellTable K) → ℕ
+cells_of None = 0
+cells_of (Some r) = r.cells
+
 -- a table that was just made, and its chairs: none has made a call
 abbrev pub IsNew : {T K : Type 0} → (chairs cells : ℕ) → K → Option (CellTable K) → List (Sitting T K) → Type 0
 IsNew chairs cells key None ss = ⊥
@@ -94,11 +99,6 @@ pub record Gathered {T K : Type 0} (cells : ℕ) (chairs : List (Sitting T K)) :
   pub turns : (c n : ℕ) → c < cells → total (λ (s : Sitting T K). turns_of c n s.view) chairs ≡ below n (lines c).next
   pub empty : (c : ℕ) → c < cells → before (lines c).left (lines c).next ≡ None
   pub even : total (λ (s : Sitting T K). given s.view) chairs ≡ total (λ (s : Sitting T K). taken s.view) chairs
-
--- what gathering these chairs shows of the table's cells
-abbrev pub GatheredAt : {T K : Type 0} → Option (CellTable K) → List (Sitting T K) → Type 0
-GatheredAt None ss = ⊥
-GatheredAt (Some r) ss = Gathered r.cells ss
 
 -- the view has taken in all chairs but the rest
 pub record TakenIn {T K : Type 0} (chairs rest : List (Sitting T K)) (v : View T K) : Type 0 where

@@ -92,7 +92,7 @@ pub record Kept {T K : Type 0} (fits : K → ℕ → T → Type 0) (key : K) (ch
 abbrev pub OneHas : {T K : Type 0} → List (View T K) → ℕ → ℕ → ℕ → Type 0
 OneHas views id c n = HasTicket views id c n × ((other : ℕ) → HasTicket views other c n → other ≡ id)
 
--- The line of a cell, told by its words, its value and the chairs' calls alone. The tickets that are out are those from the served one to the next to be drawn, each with one seat; each ticket before the next was drawn once, each before the served one has had its turn once, and only the served one has it now. At home in the cell is what the last leave put there; a value there fits, and a ticket is out for it
+-- The line of a cell, told by its words, its value and the chairs' calls alone. The tickets that are out are those from the served one to the next to be drawn, each with one seat; each ticket before the next was drawn once, each before the served one has had its turn once, only the served one has it now, and one seat at most. At home in the cell is what the last leave put there; a value there fits, and a ticket is out for it
 pub record LineAgrees {T K : Type 0} (fits : ℕ → T → Type 0) (c : ℕ) (drawn served_word : ℕ) (home : maybe.Option (Option T)) (views : List (View T K)) : Type 0 where
   pub next : ℕ
   pub served : ℕ
@@ -104,6 +104,7 @@ pub record LineAgrees {T K : Type 0} (fits : ℕ → T → Type 0) (c : ℕ) (dr
   pub only : (id n : ℕ) → HasTicket views id c n → (served ≤ n) × (n < next)
   pub draws : (n : ℕ) → total (draws_of c n) views ≡ below n next
   pub turn : (id n : ℕ) → HasTurn views id c n → (n ≡ served) × (home ≡ maybe.none)
+  pub one : (id other n m : ℕ) → HasTurn views id c n → HasTurn views other c m → id ≡ other
   pub turns : (n : ℕ) → total (turns_of c n) views ≡ below n served + in_turn n served home
   pub first : (o : Option T) → home ≡ maybe.some o → served ≡ 0 → o ≡ None
   pub last : (id n : ℕ) (o p : Option T) → home ≡ maybe.some o → served ≡ n + 1 → HasLeft views id c n p → o ≡ p

@@ -1,7 +1,7 @@
 // The table of ticket queues, as chairs see it.
 ghost use Rattle.std.specs.Prelude.{◌≡◌, ◌≢◌, ◌≤◌, None, Some, true, false, IfOk};
 ghost use Rattle.sh_local.specs.Calls.{counted, gone, held};
-ghost use Rattle.sh_local.specs.Chairs.{AreAll, FitsAt, GatheredAt, HasTicketFor, IsAt, IsNew, Looked, MayLeave};
+ghost use Rattle.sh_local.specs.Chairs.{AreAll, FitsAt, Gathered, HasTicketFor, IsAt, IsNew, Looked, MayLeave, cells_of};
 ghost use Rattle.sh_local.specs.Steps.{Draws};
 
 use crate::chair::Chair;
@@ -138,7 +138,7 @@ impl<T: Carried> Cells<T> {
     /// this table, each once, and none has a ticket.
     pub fn gather(&mut self, chairs: Vec<Chair<T>>)
         requires { AreAll self.old chairs.items }
-        ensures gathered { GatheredAt self.old chairs.items }
+        ensures gathered { Gathered (cells_of self.old) chairs.items }
         ensures closed { self.new ≡ None }
     {
         let Some(queues) = self.queues.take() else {

@@ -1,7 +1,5 @@
 -- The lines of a run: the calls' lines, and then the last line.
-use Rattle.std.proofs.Common.{◌≡◌, ◌≤◌, ℕ, ◌+◌, Bool, List, [], ◌∷◌, ◌++◌, length, map, Option, Result, Ok, Err, refl, sym, ap, ◌∙◌, inr}
-use Rattle.std.specs.Prelude.{OnErr}
-use Rattle.std.proofs.lemmas.List.{append-nil}
+use Rattle.std.proofs.Common.{◌≡◌, ℕ, Bool, List, [], ◌∷◌, ◌++◌, map, Option, refl, sym, ap, ◌∙◌, inr}
 use Rattle.std.specs.Io.KnownBytes.{Appends}
 use Rattle.sh_base.specs.declared.config.ConfigParts.{ConfigParts}
 use Rattle.sh_map.specs.declared.book.Done.{Done}
@@ -26,11 +24,6 @@ use Rattle.sh_replay.specs.declared.world.World.{World}
 -- a front of the first part is one of the whole
 pub front_of_first : (a b : Option (List ℕ)) (first second : List ℕ) → AppendsFront a b first → AppendsFront a b (first ++ second)
 front_of_first a b first second f = front_more a a b [] first second (first ++ second) refl (appends_none a) f
-
--- the first part, and a front of the second
-pub front_of_second : {E : Type 0} (a b c : Option (List ℕ)) (first second : List ℕ) (r : Result (Unit {0}) E) → Appends a b first → OnErr r (AppendsFront b c second) → OnErr r (AppendsFront a c (first ++ second))
-front_of_second a b c first second (Ok x) before f = tt
-front_of_second a b c first second (Err e) before f = front_more a b c first second [] (first ++ second) (ap (λ t. first ++ t) (sym (append-nil second))) before f
 
 -- rows are those of their pairs
 pub rows_of_pairs : (rows : List Row) (pairs : List (ℕ × List ℕ)) → map pair_of rows ≡ pairs → rows ≡ map row_of pairs

@@ -157,12 +157,17 @@ run_time() {
   local TIMEFORMAT=%U total=0 seconds
   for _ in 1 2 3 4 5; do
     seconds=$({ time "$folder/crates/judge_time/out/judge_time" "$@" >"$folder/verdict"; } 2>&1)
-    [ $# -eq 3 ] || [ "$(cat "$folder/verdict")" = lawful ]
+    [ $# -eq 3 ] || [ "$(cat "$folder/verdict")" = lawful ] || { cat "$folder/verdict" >&2; exit 1; }
     total=$((total + 10#${seconds/./}))
   done
   echo $total
 }
-judge_time() { echo $((($(run_time "$1" "$2") - $(run_time "$1" "$2" make)) / 5)); }
+judge_time() {
+  local whole making
+  whole=$(run_time "$1" "$2") || exit 1
+  making=$(run_time "$1" "$2" make) || exit 1
+  echo $(((whole - making) / 5))
+}
 for keys in "5000 5000" "12500 250000"; do
   few=$(judge_time 25000 "${keys% *}")
   many=$(judge_time 500000 "${keys#* }")

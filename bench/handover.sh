@@ -1,9 +1,9 @@
 #!/usr/bin/env bash
-# What does a hand-over between two threads cost? A program in a scratch repository takes turns at one cell, a
-# million in one thread and then a million in each of two. Each thread has two chairs, and draws with one before it leaves the turn of the
+# What does a hand-over between two threads cost? A program in a scratch repository takes turns at one cell, 20,000 in one
+# thread and then as many in each of two. Each thread has two chairs, and draws with one before it leaves the turn of the
 # other: so every turn is handed on with a value, and between two threads nearly always to the other one. The program is
-# proved and built, which takes some minutes, and run five times. Other work on the machine only adds to the numbers, so
-# the least ones count.
+# proved and built, which takes some minutes, and run 200 times. Other work on the machine only adds to the times, so the
+# least one counts, of the runs in which nine turns of ten were handed on by the other thread.
 set -eu
 top=$(cd "$(dirname "$0")/.." && pwd)
 folder=$(mktemp -d)
@@ -28,7 +28,7 @@ use std::sync::Wait;
 use std::thread::{Threads, join};
 use std::time::Instant;
 
-const ROUNDS: u64 = 500_000;
+const ROUNDS: u64 = 10_000;
 
 // Which thread left it.
 struct Baton {
@@ -162,9 +162,9 @@ fn main(rt: HostRuntime) -> io::Result<()> {
     cells.gather(chairs);
     cells.free();
     let middle = middle?;
-    let alone = middle.duration_since(start?).as_nanos() / 1_000_000;
-    let beside = end?.duration_since(middle).as_nanos() / 2_000_000;
-    println!(rt; "in one thread {alone} ns a turn; between two threads {beside} ns, {met} of 2000000 handed on by the other")?;
+    let alone = middle.duration_since(start?).as_nanos() / 20_000;
+    let beside = end?.duration_since(middle).as_nanos() / 40_000;
+    println!(rt; "{alone} {beside} {met}")?;
     Ok(())
 }
 END
@@ -189,4 +189,13 @@ END
 
 cd crates/handover
 rt run >run.log 2>&1 || { tail -n 20 run.log; exit 1; }
-for _ in 1 2 3 4 5; do ./out/handover; done
+for _ in $(seq 200); do ./out/handover; done | awk '
+  !runs || $1 < alone { alone = $1 }
+  { runs++ }
+  $3 > 36000 && (!handed || $2 < beside) { beside = $2 }
+  $3 > 36000 { handed++ }
+  END {
+    print "a turn handed on in one thread: " alone " ns"
+    if (handed) print "a turn handed on between two threads: " beside " ns (" handed " of " runs " runs)"
+    else print "no run of " runs " handed on between two threads: the machine is too busy"
+  }'

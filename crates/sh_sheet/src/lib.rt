@@ -4,6 +4,7 @@
 mod deed;
 mod found;
 mod item;
+mod laws;
 mod number;
 mod records;
 mod rows;
@@ -12,6 +13,7 @@ mod status;
 mod totals;
 
 pub use item::{Item, Mode, SheetFault};
+pub use laws::{known_rows, sheet_laws};
 pub use number::parse_number;
 pub use records::known_sheets;
 pub use sheet::{Sheet, read_sheet};

@@ -3,10 +3,9 @@ use Rattle.std.proofs.Common.{ℕ, ◌≡◌, ◌∷◌, ◌++◌, [], List, Som
 use Rattle.std.proofs.lemmas.Grind.{common_steps}
 use Rattle.std.proofs.lemmas.List.Elements.{filter_map-append}
 use Rattle.std.proofs.lemmas.List.Folds.{list_any-append}
-use Rattle.std.specs.BTreeSet.{BTreeSet, Updates, contains}
+use Rattle.std.specs.BTreeSet.{BTreeSet, Updates}
 use Rattle.std.specs.Ordering.{nat_cmp}
-use Rattle.sh_sheet.specs.Row.{is_marked}
-use Rattle.sh_sheet.specs.Sheet.{mark_of, marks_in}
+use Rattle.sh_sheet.specs.Sheet.{mark_of}
 use Rattle.sh_sheet.specs.Reader.{HasMarks}
 use Rattle.sh_sheet.specs.declared.item.Item.{Item}
 

@@ -1,5 +1,5 @@
 -- The fields of a row, one by one.
-use Rattle.std.proofs.Common.{ℕ, zero, suc, ◌≡◌, ◌≢◌, List, [], ◌∷◌, ◌++◌, length, get_or, Some, None, Err, refl, arith, false}
+use Rattle.std.proofs.Common.{ℕ, zero, suc, ◌≡◌, ◌≢◌, List, [], ◌∷◌, length, get_or, Some, None, Err, refl, arith, false}
 use Rattle.csv.specs.Records.{field_at}
 use Rattle.sh_base.specs.declared.config.ConfigParts.{ConfigParts}
 use Rattle.sh_sheet.specs.Row.{item_in, is_heading}

@@ -6,8 +6,8 @@ use Rattle.std.proofs.lemmas.Result.{err_from_is_err_and}
 use Rattle.csv.specs.Reading.{ReadRecord, took_first}
 use Rattle.csv.specs.declared.reader.Reader.{Reader}
 use Rattle.sh_base.specs.declared.config.ConfigParts.{ConfigParts}
-use Rattle.sh_sheet.specs.Sheet.{Reading, Items, rows_from, rows_in, sheet_of, IsFault}
-use Rattle.sh_sheet.specs.Reader.{is_start, rows_behind}
+use Rattle.sh_sheet.specs.Sheet.{Reading, Items, sheet_of, IsFault}
+use Rattle.sh_sheet.specs.Reader.{rows_behind}
 use Rattle.sh_sheet.specs.declared.item.Mode.{Mode}
 use Rattle.sh_sheet.specs.declared.item.Item.{Item}
 use Rattle.sh_sheet.specs.declared.item.SheetFault.{SheetFault}

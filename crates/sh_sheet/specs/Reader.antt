@@ -1,5 +1,5 @@
 -- How far a sheet is read.
-use Rattle.std.specs.Prelude.{ℕ, ◌≡◌, Bool, true, false, List, [], ◌∷◌, if◌then◌else◌}
+use Rattle.std.specs.Prelude.{ℕ, ◌≡◌, Bool, true, false, List, [], if◌then◌else◌}
 use Rattle.std.specs.BTreeSet.{BTreeSet, contains}
 use Rattle.std.specs.Ordering.{nat_cmp}
 use Rattle.sh_base.specs.declared.config.ConfigParts.{ConfigParts}

@@ -1,17 +1,15 @@
 -- What one row of a sheet says.
-use Rattle.std.specs.Prelude.{ℕ, ◌≡◌, ◌<◌, ◌==◌, ◌-◌, ◌^◌, Bool, true, false, not, ◌&&◌, ◌||◌, nat_le, nat_lt, List, [], ◌∷◌, length, codes, Option, Some, None, option_map, Result, Ok, Err, if◌then◌else◌}
+use Rattle.std.specs.Prelude.{ℕ, ◌==◌, ◌-◌, ◌^◌, Bool, true, false, not, ◌&&◌, nat_le, nat_lt, List, [], ◌∷◌, length, codes, Option, Some, None, option_map, Result, Ok, Err, if◌then◌else◌}
 use Rattle.std.specs.List.{list_any, slice_split}
-use Rattle.std.specs.Option.{option_and_then}
 use Rattle.std.specs.Str.{bytes_eq}
 use Rattle.sh_base.specs.declared.config.ConfigParts.{ConfigParts}
 use Rattle.sh_base.specs.Setting.{all_seats}
-use Rattle.sh_map.specs.declared.call.Call.{Call}
 use Rattle.sh_map.specs.declared.call.Call.TheVariants.{Get, Put, Del, Range}
 use Rattle.sh_sheet.specs.Number.{number_of}
 use Rattle.sh_sheet.specs.declared.status.RowCause.{RowCause}
 use Rattle.sh_sheet.specs.declared.status.RowCause.TheVariants.{FieldCount, BadOp, TurnNotHere, BadNumber, BadSeat, BadKey, BadBounds, BadMark}
 use Rattle.sh_sheet.specs.declared.item.Mode.{Mode}
-use Rattle.sh_sheet.specs.declared.item.Mode.TheVariants.{Run, Replay}
+use Rattle.sh_sheet.specs.declared.item.Mode.TheVariants.{Run}
 use Rattle.sh_sheet.specs.declared.item.Item.{Item}
 use Rattle.sh_sheet.specs.declared.item.Item.TheVariants as item
 use Rattle.sh_sheet.specs.declared.deed.Op.{Op}

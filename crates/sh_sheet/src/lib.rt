@@ -4,6 +4,7 @@
 mod deed;
 mod found;
 mod item;
+mod laws;
 mod made;
 mod number;
 mod records;
@@ -13,6 +14,7 @@ mod status;
 mod totals;
 
 pub use item::{Item, Mode, SheetFault};
+pub use laws::{known_rows, sheet_laws};
 pub use made::generate;
 pub use number::parse_number;
 pub use records::known_sheets;

@@ -137,30 +137,29 @@ fn rows_are_read(rt: HostRuntime) {
     }
 }
 
+// Whether an item is the one of its kind in the sheet below.
+fn is_meant(item: &Item) -> bool {
+    match *item {
+        Item::Ask { seat, call } => match call {
+            Call::Put { key, value } => {
+                seat == 3 && key == 5 && value.words() == [50, 7].as_slice()
+            }
+            Call::Range { low, high } => seat == 0 && low == 8 && high == 9,
+            _ => false,
+        },
+        Item::Mark { seat, number } => seat == 1 && number == 6,
+        Item::After { seat, number } => seat == 2 && number == 6,
+        Item::Turn { seat, count } => seat == 7 && count == 4,
+    }
+}
+
 #[test]
 fn items_say_what_their_rows_say(rt: HostRuntime) {
     let cfg = Config::new(setting(256, 2)).expect(&rt, "a setting");
     let bytes = b"put,3,5,50:7\nrange,0,8,9\nmark,1,6,\nafter,2,6,\nturn,7,4,\n".as_slice();
     let sheet = read_sheet(rt.alloc(), bytes, Mode::Replay, &cfg).expect(&rt, "a sheet");
-    let mut good = 0;
-    for item in sheet.as_slice() {
-        let holds = match item {
-            Item::Ask {
-                seat,
-                call: Call::Put { key, value },
-            } => { *seat == 3 && *key == 5 && value.words() == [50, 7].as_slice() }
-            Item::Ask {
-                seat,
-                call: Call::Range { low, high },
-            } => { *seat == 0 && *low == 8 && *high == 9 }
-            Item::Ask { .. } => false,
-            Item::Mark { seat, number } => *seat == 1 && *number == 6,
-            Item::After { seat, number } => *seat == 2 && *number == 6,
-            Item::Turn { seat, count } => *seat == 7 && *count == 4,
-        };
-        good += u32::from(holds);
-    }
-    assert_eq!(rt; good, 5);
+    assert_eq!(rt; sheet.as_slice().len(), 5);
+    assert!(rt; sheet.as_slice().iter().all(is_meant));
 }
 
 // Whether a row, so many times, is too many in a setting with a range's buffer of 4096 rows.

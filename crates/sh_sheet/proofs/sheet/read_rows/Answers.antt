@@ -1,4 +1,4 @@
-use Rattle.std.proofs.Common.{◌≡◌, ◌∙◌, [], refl, inr, rules, arith}
+use Rattle.std.proofs.Common.{◌∙◌, [], refl, inr}
 use Rattle.csv.specs.Reading.{strip_bom}
 use Rattle.sh_base.specs.Parts.{parts_of}
 use Rattle.sh_sheet.specs.Records.{records_in}

@@ -1,7 +1,8 @@
 -- The row that is found, row by row.
-use Rattle.std.proofs.Common.{◌≡◌, ℕ, suc, ◌+◌, ◌<◌, ◌≤◌, ◌⊎◌, Bool, true, false, List, [], ◌∷◌, length, get_or, drop, refl, ap, sym, subst, ◌∙◌, inl, inr, arith}
-use Rattle.std.specs.Prelude.{◌&&◌, nat_lt, if◌then◌else◌, slice_get, Option, Some, None}
+use Rattle.std.proofs.Common.{◌≡◌, ℕ, zero, suc, ◌+◌, ◌<◌, ◌≤◌, ◌⊎◌, Bool, true, false, List, [], ◌∷◌, length, get_or, drop, refl, ap, sym, subst, ◌∙◌, inl, inr, Bor, arith}
+use Rattle.std.specs.Prelude.{◌&&◌, nat_lt, if◌then◌else◌, option_map, slice_get, IfSome, Option, Some, None}
 use Rattle.std.specs.List.{AllByRecursion}
+use mathlib.Core.Bool.{false≢true}
 use Rattle.std.proofs.lemmas.Bool.Decides.{nat_tests}
 use Rattle.std.proofs.lemmas.List.{drop_more, drop_all}
 use Rattle.sh_image.specs.Inner.{Inner}
@@ -84,3 +85,29 @@ found_by (r ∷ rows) key = cases (covers r key) refl (found_by rows key)
     cases : (b : Bool) → covers r key ≡ b → FoundBy rows key (found rows key) → FoundBy (r ∷ rows) key (found_from (if b && true then Some r else None) rows key)
     cases true e rest = first (found_from (Some r) rows key) (from_some rows r key e)
     cases false e rest = more (found rows key) e rest
+
+abbrev is_there : Option Inner → Bool
+is_there None = false
+is_there (Some r) = true
+
+abbrev given : Inner → Option Inner → Inner
+given other None = other
+given other (Some r) = r
+
+-- what holds of each row holds of one at an index
+pub row_at : (P : Inner → Type 0) (rows : List Inner) (i : ℕ) (a : Inner) → AllByRecursion P rows → slice_get rows i ≡ Some a → P a
+row_at P [] i a h is = absurd (false≢true (ap is_there is))
+row_at P (r ∷ rows) zero a h is = subst P (ap (given r) is) h.0
+row_at P (r ∷ rows) (suc i) a h is = row_at P rows i a h.1 is
+
+-- what is found of a cache's rows
+pub found_at : (P : Inner → Type 0) (rows : List Inner) (key : ℕ) (o : Option Inner) → AllByRecursion P rows → o ≡ found rows key → IfSome o P
+found_at P rows key o h is = by o (subst (FoundBy rows key) (sym is) (found_by rows key))
+  where
+    by : (o : Option Inner) → FoundBy rows key o → IfSome o P
+    by None f = tt
+    by (Some a) f = row_at P rows f.index a h f.here
+
+pub behind : (P : Inner → Type 0) (o : Option (Bor Inner)) → IfSome (option_map (λ r. r.now) o) P → IfSome o (λ r. P r.now)
+behind P None h = h
+behind P (Some r) h = h

@@ -2,7 +2,7 @@
 use Rattle.std.proofs.Common.{◌≡◌, ◌≢◌, ℕ, zero, suc, ◌<◌, ◌≤◌, Bool, true, false, List, [], ◌∷◌, ◌++◌, length, drop, refl, ap, ◌∙◌, inl, inr, length-append, length-drop, arith}
 use Rattle.std.proofs.lemmas.Bool.{cases_lt}
 use Rattle.std.specs.Prelude.{◌==◌, ◌||◌, nat_lt, if◌then◌else◌, slice_set}
-use Rattle.std.specs.List.{remove}
+use Rattle.std.specs.List.{remove, AllByRecursion}
 use Rattle.std.proofs.lemmas.Bool.Decides.{nat_tests}
 use Rattle.sh_image.specs.Inner.{Inner}
 use Rattle.sh_cache.specs.Cached.{added, forgotten, has_low, kept, replaced, AreApart}
@@ -75,7 +75,7 @@ apart_tail : (rows : List Inner) → AreApart rows → AreApart (drop 1 rows)
 apart_tail [] h = h
 apart_tail (r ∷ rows) h = h.1
 
-apart_forgotten : (rows : List Inner) (low : ℕ) → AreApart rows → AreApart (forgotten rows low)
+pub apart_forgotten : (rows : List Inner) (low : ℕ) → AreApart rows → AreApart (forgotten rows low)
 apart_forgotten [] low h = h
 apart_forgotten (r ∷ rows) low h = cases (r.low == low) (apart_forgotten rows low h.1)
   where
@@ -119,15 +119,58 @@ apart_added room rows a h all = elim (cases_lt (length rows) room) [
   | inr from ↦ rw (not_less_test (length rows) room from) (apart_tail (rows ++ a ∷ []) (apart_pushed rows a h all))
 ]
 
--- a cache stays one
-pub cache_replaced : (room capacity : ℕ) (rows : List Inner) (a : Inner) → IsCache room capacity rows → IsCache room capacity (replaced rows a)
-cache_replaced room capacity rows a h = record { reserved = h.reserved; within = omega (arith, length_replaced rows a, h.within); apart = apart_replaced rows a h.apart }
+pub apart_kept : (room : ℕ) (rows : List Inner) (a : Inner) → AreApart rows → AreApart (kept room rows a)
+apart_kept room rows a h = cases (has_low rows a.low) refl
+  where
+    cases : (b : Bool) → has_low rows a.low ≡ b → AreApart (if b then replaced rows a else added room rows a)
+    cases true e = apart_replaced rows a h
+    cases false e = apart_added room rows a e h
 
-pub cache_added : (room capacity : ℕ) (rows : List Inner) (a : Inner) → HasNone rows a.low → IsCache room capacity rows → IsCache room capacity (added room rows a)
-cache_added room capacity rows a none h = record { reserved = h.reserved; within = length_added room rows a h.within; apart = apart_added room rows a (no_low rows a.low none) h.apart }
+-- what holds of each row holds of those that stay
+module _ (P : Inner → Type 0) where
+  all_replaced : (rows : List Inner) (a : Inner) → P a → AllByRecursion P rows → AllByRecursion P (replaced rows a)
+  all_replaced [] a new h = h
+  all_replaced (r ∷ rows) a new h = cases (r.low == a.low) (all_replaced rows a new h.1)
+    where
+      cases : (b : Bool) → AllByRecursion P (replaced rows a) → AllByRecursion P (if b then a ∷ rows else r ∷ replaced rows a)
+      cases true rest = (new, h.1)
+      cases false rest = (h.0, rest)
+
+  all_pushed : (rows : List Inner) (a : Inner) → P a → AllByRecursion P rows → AllByRecursion P (rows ++ a ∷ [])
+  all_pushed [] a new h = (new, tt)
+  all_pushed (r ∷ rows) a new h = (h.0, all_pushed rows a new h.1)
+
+  all_tail : (rows : List Inner) → AllByRecursion P rows → AllByRecursion P (drop 1 rows)
+  all_tail [] h = h
+  all_tail (r ∷ rows) h = h.1
+
+  all_added : (room : ℕ) (rows : List Inner) (a : Inner) → P a → AllByRecursion P rows → AllByRecursion P (added room rows a)
+  all_added room rows a new h = cases (nat_lt (length rows) room) (all_pushed rows a new h)
+    where
+      cases : (b : Bool) → AllByRecursion P (rows ++ a ∷ []) → AllByRecursion P (if b then rows ++ a ∷ [] else drop 1 (rows ++ a ∷ []))
+      cases true all = all
+      cases false all = all_tail (rows ++ a ∷ []) all
+
+  all_forgotten : (rows : List Inner) (low : ℕ) → AllByRecursion P rows → AllByRecursion P (forgotten rows low)
+  all_forgotten [] low h = h
+  all_forgotten (r ∷ rows) low h = cases (r.low == low) (all_forgotten rows low h.1)
+    where
+      cases : (b : Bool) → AllByRecursion P (forgotten rows low) → AllByRecursion P (if b then rows else r ∷ forgotten rows low)
+      cases true rest = h.1
+      cases false rest = (h.0, rest)
+
+abbrev HasLevel1 : Inner → Type 0
+HasLevel1 r = r.level ≡ 1
+
+-- a cache stays one
+pub cache_replaced : (room capacity : ℕ) (rows : List Inner) (a : Inner) → a.level ≡ 1 → IsCache room capacity rows → IsCache room capacity (replaced rows a)
+cache_replaced room capacity rows a level h = record { reserved = h.reserved; within = omega (arith, length_replaced rows a, h.within); apart = apart_replaced rows a h.apart; levels = all_replaced HasLevel1 rows a level h.levels }
+
+pub cache_added : (room capacity : ℕ) (rows : List Inner) (a : Inner) → a.level ≡ 1 → HasNone rows a.low → IsCache room capacity rows → IsCache room capacity (added room rows a)
+cache_added room capacity rows a level none h = record { reserved = h.reserved; within = length_added room rows a h.within; apart = apart_added room rows a (no_low rows a.low none) h.apart; levels = all_added HasLevel1 room rows a level h.levels }
 
 pub cache_forgotten : (room capacity : ℕ) (rows : List Inner) (low : ℕ) → IsCache room capacity rows → IsCache room capacity (forgotten rows low)
-cache_forgotten room capacity rows low h = record { reserved = h.reserved; within = omega (arith, length_forgotten rows low, h.within); apart = apart_forgotten rows low h.apart }
+cache_forgotten room capacity rows low h = record { reserved = h.reserved; within = omega (arith, length_forgotten rows low, h.within); apart = apart_forgotten rows low h.apart; levels = all_forgotten HasLevel1 rows low h.levels }
 
 pub kept_there : (room : ℕ) (rows : List Inner) (a : Inner) (i : ℕ) → IsPlace rows a.low i → slice_set rows i a ≡ kept room rows a
 kept_there room rows a i h = rw (some_low rows a.low i h) (replaced_is rows a i h)

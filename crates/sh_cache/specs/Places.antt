@@ -1,5 +1,6 @@
 -- Where the row with a low fence stands, and what a cache's parts keep to.
 use Rattle.std.specs.Prelude.{◌≡◌, ◌≢◌, ℕ, ◌<◌, ◌≤◌, List, [], length, slice_index_or}
+use Rattle.std.specs.List.{AllByRecursion}
 use Rattle.sh_image.specs.Inner.{Inner}
 use Rattle.sh_cache.specs.Cached.{AreApart}
 
@@ -20,8 +21,9 @@ pub record IsPlace (rows : List Inner) (low at : ℕ) : Type 0 where
 abbrev pub HasNone : List Inner → ℕ → Type 0
 HasNone rows low = (i : ℕ) → i < length rows → low_at rows i ≢ low
 
--- there is room for the rows, all of it reserved, and no two have one low fence
+-- there is room for the rows, all of it reserved, no two have one low fence, and each is of level 1
 pub record IsCache (room capacity : ℕ) (rows : List Inner) : Type 0 where
   pub reserved : room ≤ capacity
   pub within : length rows ≤ room
   pub apart : AreApart rows
+  pub levels : AllByRecursion (λ (r : Inner). r.level ≡ 1) rows

@@ -1,12 +1,13 @@
 //! Inner nodes that a seat keeps, so that it reads them seldom.
 #![tactic(auto)]
 
-ghost use Rattle.std.specs.Prelude.{◌≡◌, ◌<◌, ◌≤◌, ℕ, List, [], false, length, option_map, slice_set, IfOk, IfSome, MatchOption};
+ghost use Rattle.std.specs.Prelude.{◌≡◌, ◌<◌, ◌≤◌, ℕ, List, [], false, true, Some, length, option_map, slice_set, IfOk, IfSome, MatchOption};
 ghost use Rattle.std.specs.Vec.{vec_capacity};
 ghost use Rattle.sh_base.specs.Parts.{parts_of};
 ghost use Rattle.sh_image.specs.Inner.{Inner};
-ghost use Rattle.sh_cache.specs.Cached.{added, better, forgotten, found, has_low, kept, AreApart, FoundBy};
+ghost use Rattle.sh_cache.specs.Cached.{added, better, covers, forgotten, found, has_low, kept, AreApart, FoundBy};
 ghost use Rattle.sh_cache.specs.Places.{HasNone, IsPlace};
+ghost use Rattle.sh_cache.specs.Acts.{rows_after, Act, StillKept};
 
 use sh_base::Config;
 use sh_image::InnerImage;
@@ -45,11 +46,20 @@ impl Cache {
     }
 
     /// Of the rows that cover a key (from the low fence on, below the high fence) the one with the greatest low fence.
-    /// None exactly where no row covers the key.
+    /// None exactly where no row covers the key. Its level is 1.
     pub fn find(&self, key: u64) -> Option<&InnerImage>
-        ensures { option_map (λ r. r.now) result ≡ found self.now.rows key }
+        ensures row { option_map (λ r. r.now) result ≡ found self.now.rows key }
+        ensures level { IfSome result (λ r. r.now.level ≡ 1) }
     {
         find_in(&self.rows, key)
+    }
+
+    /// No two rows have one low fence, and there are no more than there is room for.
+    pub fn rows_apart(&self)
+        ensures apart { AreApart self.now.rows }
+        ensures within { length self.now.rows ≤ self.now.room }
+    {
+        let _rows = &self.rows;
     }
 
     /// Keeps an inner node. It replaces the row with the same low fence and takes over its age. Where there is none it
@@ -134,6 +144,13 @@ pub fn rows_are_exact()
     ensures forgotten { (rows : List Inner) (low : ℕ) → AreApart rows → has_low (forgotten rows low) low ≡ false }
 {}
 
+/// What is found after keeps and forgets, of a cache that was empty, covers the key, was kept, and has been neither
+/// forgotten nor replaced since. No two rows have one low fence.
+pub fn what_is_found_was_kept()
+    ensures found { (room : ℕ) (acts : List Act) (key : ℕ) (row : Inner) → found (rows_after room [] acts) key ≡ Some row → StillKept acts row × (covers row key ≡ true) }
+    ensures apart { (room : ℕ) (acts : List Act) → AreApart (rows_after room [] acts) }
+{}
+
 #[cfg(test)]
 mod tests {
     use super::*;
@@ -185,6 +202,33 @@ mod tests {
         assert_eq!(rt; versions(alloc, 1)?, [0, 2, 0, 0, 0, 4, 0, 0, 4]);
         assert_eq!(rt; versions(alloc, 2)?, [1, 2, 0, 0, 2, 4, 0, 0, 4]);
         assert_eq!(rt; versions(alloc, 3)?, [1, 2, 0, 3, 2, 4, 3, 3, 4]);
+        Ok(())
+    }
+
+    // The version that is found of a row that covers the keys from 10 on below 40, and of one from 20 on below 30.
+    fn version_at(alloc: Global, key: u64) -> Result<u64, AllocError> {
+        let mut cache = Cache::new(alloc, &setting(2))?;
+        cache.keep(InnerImage::new(1, 1, 10, 40, 0));
+        cache.keep(InnerImage::new(2, 1, 20, 30, 0));
+        Ok(version(&cache, key))
+    }
+
+    #[test]
+    fn keys_at_the_fences(rt: HostRuntime) -> Result<(), AllocError> {
+        let alloc = rt.alloc();
+        for (key, found) in [
+            (9, 0),
+            (10, 1),
+            (19, 1),
+            (20, 2),
+            (29, 2),
+            (30, 1),
+            (39, 1),
+            (40, 0),
+            (u64::MAX, 0),
+        ] {
+            assert_eq!(rt; version_at(alloc, key)?, found);
+        }
         Ok(())
     }
 }

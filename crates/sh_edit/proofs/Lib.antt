@@ -1,6 +1,7 @@
 pub mod HeldLemmas
 pub mod FindLemmas
 pub mod RewriteLemmas
+pub mod EntryLemmas
 pub mod RoomLemmas
 pub mod SortLemmas
 pub mod FillLemmas

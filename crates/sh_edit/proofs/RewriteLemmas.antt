@@ -56,7 +56,7 @@ rewritten_once a i key value below once apart = once-set (map cleared a.entries)
     (λ j in_range ne is. apart j (omega (arith, in_range, length-map a.entries cleared)) ne (sym (key_at-cleared a.entries j) ∙ is))
 
 -- the rules
-all_set : {X : Type 0} (P : X → Type 0) (xs : List X) (i : ℕ) (y : X) → AllByRecursion P xs → P y → AllByRecursion P (set xs i y)
+pub all_set : {X : Type 0} (P : X → Type 0) (xs : List X) (i : ℕ) (y : X) → AllByRecursion P xs → P y → AllByRecursion P (set xs i y)
 all_set P [] i y h p = h
 all_set P (x ∷ xs) zero y h p = (p, h.1)
 all_set P (x ∷ xs) (suc i) y h p = (h.0, all_set P xs i y h.1 p)

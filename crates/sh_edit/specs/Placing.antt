@@ -21,6 +21,11 @@ PlacedBy es key (Over index old) = IsFirstWith es key index × (old ≡ value_at
 PlacedBy es key (New index) = HasNone es key × IsFirstWith es 0 index
 PlacedBy es key NoRoom = HasNone es key × HasNone es 0
 
+-- the index at which a put of the key is written: that of the first entry with it, and where there is none that of the
+-- first empty one
+abbrev pub IsPlace : List LeafEntry → ℕ → ℕ → Type 0
+IsPlace es key i = IsFirstWith es key i ⊎ (HasNone es key × IsFirstWith es 0 i)
+
 -- an entry is empty, or the first one with its key
 abbrev pub StandsFirst : List LeafEntry → ℕ → Type 0
 StandsFirst es i = (key_at es i ≡ 0) ⊎ IsFirstWith es (key_at es i) i

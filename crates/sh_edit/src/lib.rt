@@ -11,7 +11,10 @@ ghost use Rattle.sh_edit.specs.Placing.{HasNone, IsFirstWith, PlacedBy, StandsFi
 ghost use Rattle.sh_edit.specs.Rewriting.{cleared, rewritten};
 
 pub use inner::{InnerHalves, add_child, new_root, split_inner};
-pub use laws::{edits_are_the_maps, inner_nodes_keep_their_pairs, splits_are_the_maps};
+pub use laws::{
+    edits_are_the_maps, edits_keep_keys_apart, entry_writes_are_the_maps,
+    inner_nodes_keep_their_pairs, splits_are_the_maps,
+};
 use sh_base::Value;
 use sh_image::{LeafEntry, LeafImage};
 use sh_lanes::first_equal;
@@ -225,20 +228,90 @@ mod tests {
     }
 
     // The halves of a leaf that has no room for the key, and no key twice.
-    fn split(leaf: &LeafImage, key: u64, right: u32) -> Option<LeafHalves> {
-        if leaf.entries() == 0 || leaf.version() != 7 || !keys_differ(leaf) {
+    fn split(leaf: &LeafImage, key: u64, value: Value, right: u32) -> Option<LeafHalves> {
+        if leaf.entries() == 0 || leaf.version() == u64::MAX || !keys_differ(leaf) {
             return None;
         }
         match place(leaf, key) {
-            Placed::NoRoom => Some(split_leaf(leaf, key, Value::of(&[130]), right)),
+            Placed::NoRoom => Some(split_leaf(leaf, key, value, right)),
             _ => None,
         }
     }
 
+    // The leaf after a put that has room.
+    fn put(leaf: &LeafImage, key: u64, value: Value) -> Option<LeafImage> {
+        if leaf.version() == u64::MAX {
+            return None;
+        }
+        match place(leaf, key) {
+            Placed::Over { index, .. } => Some(rewrite(leaf, index, key, value)),
+            Placed::New { index } => Some(rewrite(leaf, index, key, value)),
+            Placed::NoRoom => None,
+        }
+    }
+
+    // So many words, all the same; 8 at most.
+    fn value_of(word: u64, count: usize) -> Value {
+        let words = [word; 8];
+        if 1 <= count && count <= 8 {
+            Value::of(&words[..count])
+        } else {
+            Value::of(&words)
+        }
+    }
+
+    // Whether an entry of version 0 has this key and value.
+    fn has_entry(leaf: &LeafImage, index: u32, key: u64, value: Value) -> bool {
+        if index >= leaf.entries() {
+            return false;
+        }
+        let entry = leaf.entry(index);
+        entry.version == 0 && entry.key == key && entry.value == value
+    }
+
     #[test]
-    fn a_split_parts_five_pairs_at_the_third_key(rt: HostRuntime) {
-        assert!(rt; split(&leaf_of([15, 12, 15, 11]), 13, 9).is_none());
-        let Some(halves) = split(&leaf_of([16, 12, 15, 11]), 13, 9) else {
+    fn the_fifth_put_splits_at_the_third_key(rt: HostRuntime) {
+        for count in [1, 2, 8] {
+            let mut leaf = LeafImage::new(0, 0, u64::MAX, 0, 4, value_of(0, count));
+            for key in [10, 20, 30, 40] {
+                let Some(more) = put(&leaf, key, value_of(key / 10, count)) else {
+                    assert!(rt; false, "no room");
+                    return;
+                };
+                leaf = more;
+            }
+            let Some(halves) = split(&leaf, 50, value_of(5, count), 9) else {
+                assert!(rt; false, "no split");
+                return;
+            };
+            let (left, right) = (&halves.left, &halves.right);
+            assert_eq!(rt; halves.separator, 30);
+            assert!(rt; left.keys() == [10, 20, 0, 0].as_slice());
+            assert!(rt; right.keys() == [30, 40, 50, 0].as_slice());
+            assert!(rt;
+                left.version() == 5 && left.low() == 0 && left.high() == 30 && left.next() == 9
+            );
+            assert!(rt;
+                right.version() == 0
+                    && right.low() == 30
+                    && right.high() == u64::MAX
+                    && right.next() == 0
+            );
+            assert!(rt; has_entry(left, 1, 20, value_of(2, count)));
+            assert!(rt; has_entry(left, 2, 0, value_of(0, count)));
+            assert!(rt; has_entry(right, 0, 30, value_of(3, count)));
+            assert!(rt; has_entry(right, 2, 50, value_of(5, count)));
+            assert!(rt; has_entry(right, 3, 0, value_of(0, count)));
+        }
+    }
+
+    #[test]
+    fn a_leaf_without_room_alone_is_split(rt: HostRuntime) {
+        let value = Value::of(&[130]);
+        assert!(rt; split(&leaf_of([15, 12, 15, 11]), 13, value, 9).is_none());
+        assert!(rt; split(&leaf_of([16, 12, 0, 11]), 13, value, 9).is_none());
+        assert!(rt; split(&leaf_of([16, 12, 15, 11]), 12, value, 9).is_none());
+        let Some(halves) = split(&leaf_of([16, 12, 15, 11]), 13, value, 9) else {
             assert!(rt; false, "no split");
             return;
         };
@@ -252,28 +325,57 @@ mod tests {
         assert!(rt;
             right.version() == 0 && right.low() == 13 && right.high() == 20 && right.next() == 2
         );
-        assert!(rt;
-            right.entries() == 4
-                && right.entry(0).value.words() == [130].as_slice()
-                && right.entry(1).value.words() == [15].as_slice()
-        );
+        assert!(rt; has_entry(right, 0, 13, value));
+        assert!(rt; has_entry(right, 1, 15, Value::of(&[15])));
     }
 
-    // Leaves of four entries, so inner nodes of eight pairs.
-    fn small() -> Result<Config, ConfigFault> {
+    // Its keys are 1000, 990 and so on down to 370; a key below all of them is put.
+    #[test]
+    fn the_largest_leaf_splits_at_the_33rd_key(rt: HostRuntime) {
+        for count in [1, 2, 8] {
+            let mut leaf = LeafImage::new(7, 0, u64::MAX, 0, 64, value_of(0, count));
+            for index in 0u32..64 {
+                if index < leaf.entries() {
+                    leaf.set(
+                        index,
+                        LeafEntry {
+                            version: 15,
+                            key: 1000 - 10 * u64::from(index),
+                            value: value_of(u64::from(index), count),
+                        },
+                    );
+                }
+            }
+            let Some(halves) = split(&leaf, 5, value_of(99, count), 9) else {
+                assert!(rt; false, "no split");
+                return;
+            };
+            let (left, right) = (&halves.left, &halves.right);
+            assert_eq!(rt; halves.separator, 680);
+            assert!(rt; has_entry(left, 0, 5, value_of(99, count)));
+            assert!(rt; has_entry(left, 31, 670, value_of(33, count)));
+            assert!(rt; has_entry(left, 32, 0, value_of(0, count)));
+            assert!(rt; has_entry(right, 0, 680, value_of(32, count)));
+            assert!(rt; has_entry(right, 32, 1000, value_of(0, count)));
+            assert!(rt; has_entry(right, 33, 0, value_of(0, count)));
+        }
+    }
+
+    // Leaves of so many entries, so inner nodes of twice as many pairs.
+    fn setting(leaf: u32, value_words: u32) -> Result<Config, ConfigFault> {
         Config::new(ConfigParts {
             servers: 1,
             chunks: 1,
             chunk_nodes: 16,
             locks: 1,
-            leaf: 4,
+            leaf,
             computes: 1,
             seats: 1,
             bound: 0,
             bits: 4,
             rows: 1,
             cached: 0,
-            value_words: 1,
+            value_words,
         })
     }
 
@@ -295,7 +397,7 @@ mod tests {
 
     #[test]
     fn a_pair_is_added_in_its_place(rt: HostRuntime) {
-        let Ok(cfg) = small() else {
+        let Ok(cfg) = setting(4, 1) else {
             assert!(rt; false, "no setting");
             return;
         };
@@ -312,7 +414,7 @@ mod tests {
 
     #[test]
     fn a_full_inner_node_is_split_before_the_fifth_pair(rt: HostRuntime) {
-        let Ok(cfg) = small() else {
+        let Ok(cfg) = setting(4, 1) else {
             assert!(rt; false, "no setting");
             return;
         };
@@ -344,5 +446,39 @@ mod tests {
         assert!(rt;
             has_pair(&left, 3, 30, 4) && has_pair(&right, 0, 35, 9) && has_pair(&right, 1, 40, 5)
         );
+    }
+
+    // Its separators are 0, 10 and so on up to 1270; 5 is added behind the first.
+    #[test]
+    fn the_largest_inner_node_splits_before_the_65th_pair(rt: HostRuntime) {
+        let Ok(cfg) = setting(64, 8) else {
+            assert!(rt; false, "no setting");
+            return;
+        };
+        let mut full = InnerImage::new(5, 1, 0, 2000, 7);
+        for index in 0u32..128 {
+            if full.pairs() < 128 {
+                full.push(Pair {
+                    separator: 10 * u64::from(index),
+                    child: index + 1,
+                });
+            }
+        }
+        if full.pairs() != 2 * cfg.leaf() || full.version() != 5 {
+            assert!(rt; false, "not full");
+            return;
+        }
+        let InnerHalves {
+            left,
+            right,
+            separator,
+        } = split_inner(&cfg, &full, 5, 9, 6);
+        assert_eq!(rt; separator, 630);
+        assert!(rt; left.pairs() == 64 && left.low() == 0 && left.high() == 630);
+        assert!(rt; right.pairs() == 65 && right.low() == 630 && right.high() == 2000);
+        assert!(rt;
+            has_pair(&left, 0, 0, 1) && has_pair(&left, 1, 5, 9) && has_pair(&left, 63, 620, 63)
+        );
+        assert!(rt; has_pair(&right, 0, 630, 64) && has_pair(&right, 64, 1270, 128));
     }
 }

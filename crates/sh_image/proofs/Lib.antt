@@ -7,3 +7,4 @@ pub mod ReadLemmas
 mod EmptyLemmas
 mod WriteLemmas
 pub mod UntornLemmas
+mod NodeLemmas

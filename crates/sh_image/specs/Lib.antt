@@ -4,3 +4,4 @@ pub mod Inner
 pub mod Columns
 pub mod PairColumns
 pub mod Seen
+pub mod Node

@@ -123,6 +123,40 @@ pub fn column(words: &[u64], start: usize, stride: usize, out: &mut [u64])
 mod tests {
     use super::*;
 
+    // No word, one, below one lane, one lane, and lanes with and without a rest.
+    const LENGTHS: [usize; 10] = [1, 2, 3, 4, 5, 8, 9, 64, 65, 67];
+
+    // So many words 7, and 9 behind them.
+    fn with_last(words: &mut [u64; 67], count: usize)
+        requires { count < 67 }
+    {
+        *words = [7; 67];
+        words[count] = 9;
+    }
+
+    #[test]
+    fn the_last_word_of_any_length_is_found(rt: HostRuntime) {
+        for length in LENGTHS {
+            if length == 0 || length > 67 {
+                assert!(rt; false, "a length");
+                return;
+            }
+            let mut words = [0; 67];
+            with_last(&mut words, length - 1);
+            assert_eq!(rt; first_equal(&words[..length], 9), Some(length - 1));
+            assert_eq!(rt; first_equal(&words[..length - 1], 9), None);
+            let sevens = [7; 67];
+            assert_eq!(rt;
+                first_differing(&words[..length], &sevens[..length]),
+                Some(length - 1)
+            );
+            assert_eq!(rt;
+                first_differing(&words[..length - 1], &sevens[..length - 1]),
+                None
+            );
+        }
+    }
+
     #[test]
     fn a_word_is_found_at_its_least_index(rt: HostRuntime) {
         assert_eq!(rt; first_equal(&[], 3), None);
@@ -131,10 +165,19 @@ mod tests {
         assert_eq!(rt; first_equal(&[1, 2, 3, 3, 5], 4), None);
         assert_eq!(rt; first_equal(&[1, 2, 3, 4, 5, 6, 7, 5, 9], 5), Some(4));
         assert_eq!(rt; first_equal(&[1, 2, 3, 4, 5, 6, 7, 8, 9], 9), Some(8));
+    }
+
+    #[test]
+    fn every_empty_word_is_counted(rt: HostRuntime) {
         assert_eq!(rt; count_empty(&[]), 0);
         assert_eq!(rt; count_empty(&[0]), 1);
+        assert_eq!(rt; count_empty(&[0, 1, 0]), 2);
+        assert_eq!(rt; count_empty(&[0, 1, 0, 2]), 2);
         assert_eq!(rt; count_empty(&[0, 1, 0, 2, 0]), 3);
+        assert_eq!(rt; count_empty(&[0, 1, 0, 2, 0, 0, 0, 3]), 5);
         assert_eq!(rt; count_empty(&[0, 1, 0, 2, 0, 0, 0, 3, 0, 4]), 6);
+        assert_eq!(rt; count_empty(&[0; 65]), 65);
+        assert_eq!(rt; count_empty(&[7; 65]), 0);
     }
 
     #[test]
@@ -159,5 +202,37 @@ mod tests {
         assert_eq!(rt; out, [11, 13]);
         column(&[10, 11, 12, 13, 14], 4, 2, &mut out[..1]);
         assert_eq!(rt; out, [14, 13]);
+    }
+
+    #[test]
+    fn a_column_of_stride_1_is_the_words(rt: HostRuntime) {
+        let mut out = [0; 3];
+        column(&[10, 11, 12, 13, 14], 1, 1, &mut out);
+        assert_eq!(rt; out, [11, 12, 13]);
+        column(&[10, 11, 12, 13, 14], 5, 1, &mut out[..0]);
+        assert_eq!(rt; out, [11, 12, 13]);
+    }
+
+    // The keys of two entries of 4 and of 11 words behind a header of 6.
+    #[test]
+    fn a_column_of_the_stride_of_an_entry_is_its_keys(rt: HostRuntime) {
+        let mut out = [0; 2];
+        column(
+            &[0, 1, 2, 3, 4, 5, 6, 7, 8, 9, 10, 11, 12, 13],
+            7,
+            4,
+            &mut out,
+        );
+        assert_eq!(rt; out, [7, 11]);
+        column(
+            &[
+                0, 1, 2, 3, 4, 5, 6, 7, 8, 9, 10, 11, 12, 13, 14, 15, 16, 17, 18, 19, 20, 21, 22,
+                23, 24, 25, 26, 27, 28,
+            ],
+            7,
+            11,
+            &mut out,
+        );
+        assert_eq!(rt; out, [7, 18]);
     }
 }

@@ -1,20 +1,18 @@
 -- The least number of a call that breaks a rule, and what a book is that breaks none.
-use Rattle.std.proofs.Common.{◌≡◌, ◌⊎◌, ℕ, ◌+◌, ◌<◌, ◌≤◌, List, [], ◌∷◌, ◌++◌, length, get_or, take, Option, Some, None, min, MatchOption, inl, inr, refl, sym, ap, subst, ◌∙◌, arith}
-use Rattle.std.specs.Prelude.{slice_get}
-use Rattle.std.proofs.lemmas.List.{take-append-le, take_more, take_all}
+use Rattle.std.proofs.Common.{◌≡◌, ◌↔◌, ◌⊎◌, ℕ, Bool, true, ◌+◌, ◌<◌, ◌≤◌, List, [], ◌∷◌, ◌++◌, length, get_or, take, Option, Some, None, min, MatchOption, inl, inr, refl, sym, ap, subst, ◌∙◌, arith}
+use Rattle.std.specs.Prelude.{slice_get, IsTrue}
+use Rattle.std.proofs.lemmas.List.{take-append-le, take_all, get_or_default}
 use Rattle.std.proofs.lemmas.Bool.{cases_lt}
-use Rattle.std.proofs.lemmas.Option.{slice_get_within}
+use Rattle.std.proofs.lemmas.Option.{slice_get_within, slice_get-get_or}
 use Rattle.sh_map.specs.declared.book.Done.{Done}
 use Rattle.sh_map.specs.Judge.{AllFit, IsLeastUnfit}
+use Rattle.sh_map.specs.Tables.{AreKept}
 use Rattle.sh_map.proofs.BookLemmas.{slice_get-append_left, slice_get-push_back}
+use Rattle.sh_map.proofs.WalkLemmas.{one_more, slice_get-push_end}
 
 -- the least so far of the calls that break the rule
 abbrev pub SoFar : (List Done → Done → Type 0) → List Done → Option ℕ → Type 0
 SoFar Fits dones least = MatchOption least (AllFit Fits dones) (λ n. IsLeastUnfit Fits dones n)
-
-slice_get-push_end : (xs : List Done) (d : Done) → slice_get (xs ++ d ∷ []) (length xs) ≡ Some d
-slice_get-push_end [] d = refl
-slice_get-push_end (x ∷ xs) d = slice_get-push_end xs d
 
 module _ (Fits : List Done → Done → Type 0) (xs : List Done) (d : Done) where
   -- the calls before a place stay the same
@@ -65,11 +63,15 @@ module _ (Fits : List Done → Done → Type 0) (xs : List Done) (d : Done) wher
 
 -- a walk over the calls, one on, which was read
 module _ (Fits : List Done → Done → Type 0) (dones : List Done) (at : ℕ) (d : Done) (in_range : at < length dones) (read : d ≡ get_or dones at d) where
-  one_more : take at dones ++ d ∷ [] ≡ take (at + 1) dones
-  one_more = sym (take_more dones at d in_range ∙ ap (λ (x : Done). take at dones ++ x ∷ []) (sym read))
-
   pub more_fit : (least : Option ℕ) → SoFar Fits (take at dones) least → Fits (take at dones) d → SoFar Fits (take (at + 1) dones) least
-  more_fit least h fits = subst (λ (l : List Done). SoFar Fits l least) one_more (so_far_fit Fits (take at dones) d least h fits)
+  more_fit least h fits = subst (λ (l : List Done). SoFar Fits l least) (one_more dones at d in_range read) (so_far_fit Fits (take at dones) d least h fits)
 
   pub more_unfit : (least : Option ℕ) (m : ℕ) → SoFar Fits (take at dones) least → (Fits (take at dones) d → ⊥) → MatchOption least (m ≡ d.n) (λ n. m ≡ min n d.n) → SoFar Fits (take (at + 1) dones) (Some m)
-  more_unfit least m h breaks is = subst (λ (l : List Done). SoFar Fits l (Some m)) one_more (so_far_unfit Fits (take at dones) d least m h breaks is)
+  more_unfit least m h breaks is = subst (λ (l : List Done). SoFar Fits l (Some m)) (one_more dones at d in_range read) (so_far_unfit Fits (take at dones) d least m h breaks is)
+
+-- what was kept of a call that was read
+pub kept_at : (Fits : List Done → Done → Type 0) (dones : List Done) (kept : List Bool) (at : ℕ) (d : Done) (b : Bool) → AreKept Fits dones kept → at < length dones → d ≡ get_or dones at d → b ≡ get_or kept at b → IsTrue b ↔ Fits (take at dones) d
+kept_at Fits dones kept at d b h in_range read is =
+    let same : get_or kept at true ≡ b = get_or_default kept at true b (omega (arith, h.long)) ∙ sym is in
+    let told = h.each at d (slice_get-get_or dones at d in_range ∙ ap Some (sym read)) in
+    (λ yes. told.0 (same ∙ yes), λ fits. sym same ∙ told.1 fits)

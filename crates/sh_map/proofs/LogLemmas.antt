@@ -1,6 +1,8 @@
 -- A log that gains an entry.
-use Rattle.std.proofs.Common.{◌≡◌, ◌≢◌, ◌<◌, ◌+◌, ◌∙◌, ℕ, zero, suc, ◌≤◌, List, [], ◌∷◌, ◌++◌, length, get_or, take, Some, refl, ap, subst, arith}
-use Rattle.std.specs.Prelude.{slice_get}
+use Rattle.std.proofs.Common.{◌≡◌, ◌≢◌, ◌<◌, ◌+◌, ◌-◌, sym, drop, Result, Ok, Err, ◌∙◌, ℕ, zero, suc, ◌≤◌, List, [], ◌∷◌, ◌++◌, length, get_or, take, Some, refl, ap, subst, arith}
+use Rattle.std.specs.Prelude.{slice_get, OnOk}
+use Rattle.std.proofs.Math.Seq.{take-add}
+use Rattle.sh_map.proofs.WalkLemmas.{one_more}
 use Rattle.std.proofs.lemmas.List.{take_more, take-append-le, take_all}
 use Rattle.std.specs.FinMap.{empty}
 use Rattle.sh_map.specs.declared.log.Change.{Change}
@@ -59,3 +61,16 @@ legal_more log at d in_range h next = rw (take_more log at d in_range) (IsLegal-
 
 pub map_more : (log : List Entry) (at : ℕ) (d : Entry) → at < length log → map_at log (at + 1) ≡ changed (map_at log at) (get_or log at d).change
 map_more log at d in_range = ap map_of (take_more log at d in_range) ∙ map_of-push (take at log) (get_or log at d)
+
+-- a map moved on from one point to another, entry by entry
+pub map_from_more : (m : Map) (log : List Entry) (at : ℕ) (e : Entry) → at < length log → e ≡ get_or log at e → map_from m (take (at + 1) log) ≡ changed (map_from m (take at log)) e.change
+map_from_more m log at e in_range read = ap (map_from m) (sym (one_more log at e in_range read)) ∙ map_from-append m (take at log) (e ∷ [])
+
+pub map_at_on : (log : List Entry) (a b : ℕ) → a ≤ b → map_from (map_at log a) (take (b - a) (drop a log)) ≡ map_at log b
+map_at_on log a b le =
+    let end : a + (b - a) ≡ b = omega arith in
+    sym (map_from-append empty (take a log) (take (b - a) (drop a log))) ∙ sym (ap map_of (take-add a (b - a) log)) ∙ ap (map_at log) end
+
+pub ok_weaker : {T E P Q : Type 0} → (P → Q) → (r : Result T E) → OnOk r P → OnOk r Q
+ok_weaker f (Ok x) h = f h
+ok_weaker f (Err e) h = tt

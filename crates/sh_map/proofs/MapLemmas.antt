@@ -1,14 +1,10 @@
 -- What a map has after a change.
-use Rattle.std.proofs.Common.{◌≡◌, ◌≢◌, ℕ, ◌<◌, Less, Equal, Greater, inl, inr, true, false, cond, List, Some, None, refl, sym, ap, ◌∙◌, arith, eqb}
-use Rattle.std.proofs.lemmas.Bool.Decides.{nat_tests}
+use Rattle.std.proofs.Common.{◌≡◌, ◌≢◌, ℕ, ◌<◌, Less, Equal, Greater, inl, inr, true, false, cond, List, Some, None, refl, sym, ap, ◌∙◌, arith}
 use Rattle.std.specs.Ordering.{nat_cmp, eq_by_cmp, is_eq}
 use Rattle.std.proofs.lemmas.Bool.{cases_lt, cases_eq}
 use Rattle.std.specs.Cmp.{nat_cmp_total, nat_cmp_is}
 use Rattle.std.specs.FinMap.{get-insert, get-remove, same_map, nat_cmp-IsAntisymmetric}
 use Rattle.sh_map.specs.Map.{Map, get, put, del}
-
-pub differ_test : (k q : ℕ) → k ≢ q → eqb k q ≡ false
-differ_test k q h = grind (arith, nat_tests)
 
 pub same_test : (q : ℕ) → eq_by_cmp nat_cmp q q ≡ true
 same_test q = ap is_eq (sym (nat_cmp_is q q Equal refl))

@@ -1,9 +1,9 @@
 -- When each key of a range has a point.
-use Rattle.std.proofs.Common.{◌≡◌, ◌↔◌, ◌⊎◌, ℕ, suc, ◌+◌, ◌-◌, ◌<◌, ◌≤◌, Bool, List, [], ◌∷◌, length, get_or, take, drop, map, None, Result, Ok, Err, IfOk, inl, inr, refl, sym, ap, subst, ◌∙◌, arith, length-drop, length-take-le}
-use Rattle.std.specs.Prelude.{IsTrue, All, AllPairs}
+use Rattle.std.proofs.Common.{◌≡◌, ◌↔◌, ◌⊎◌, ℕ, suc, ◌+◌, ◌-◌, ◌<◌, ◌≤◌, Bool, List, [], ◌∷◌, length, get_or, take, drop, map, Option, Some, None, Result, Ok, Err, IfOk, inl, inr, refl, sym, ap, subst, ◌∙◌, arith, length-drop, length-take-le}
+use Rattle.std.specs.Prelude.{IsTrue, IsSome, Contains, All, AllPairs}
 use Rattle.std.specs.Ordering.{nat_cmp}
 use Rattle.std.specs.Cmp.{nat_cmp_total}
-use Rattle.std.specs.FinMap.{empty, entries, find, get-entries, get-from_entries}
+use Rattle.std.specs.FinMap.{empty, find, get-from_entries}
 use Rattle.std.specs.declared.alloc.AllocError.{AllocError}
 use Rattle.std.proofs.lemmas.Bool.{cases_eq}
 use Rattle.std.proofs.Math.Seq.{take-add, take-take}
@@ -13,6 +13,10 @@ use Rattle.sh_map.specs.Map.{Map, get, pair_of}
 use Rattle.sh_map.specs.Log.{map_from, map_of, map_at}
 use Rattle.sh_map.specs.Book.{AnswersRange}
 use Rattle.sh_map.specs.Rows.{HasPoint}
+use Rattle.sh_map.specs.Tables.{AreMet, IsGiven, given}
+use Rattle.std.specs.BTreeSet.{BTreeSet}
+use Rattle.std.proofs.lemmas.List.Elements.{All-contains}
+use Rattle.sh_map.proofs.RangeLemmas.{given_becomes}
 use Rattle.sh_map.proofs.MapLemmas.{apart_test}
 use Rattle.sh_map.proofs.LogLemmas.{map_from-append}
 
@@ -27,26 +31,36 @@ found_or_not (r ∷ rows) key = elim (cases_eq key r.key) [
   ]
 ]
 
-stands_apart : (rows : List Row) (P : ℕ → Type 0) (key : ℕ) → All (λ r. P r.key) rows → (find nat_cmp key (map pair_of rows) ≡ None) ⊎ P key
-stands_apart rows P key all = elim (found_or_not rows key) [
-  | inl none ↦ inl none
-  | inr at ↦ let d : Row = record { key = 0; value = [] } in inr (subst P (at.2 d) (all at.0 d at.1))
-]
+lacks : (m : Map) (rows : List Row) (key : ℕ) → find nat_cmp key (map pair_of rows) ≡ None → get m key ≡ None → get m key ≡ given rows key
+lacks m rows key no_row no_value = no_value ∙ sym (get-from_entries nat_cmp_total (map pair_of rows) key ∙ no_row)
 
--- where the rows' keys and those that the map has are answered, all keys are
-pub points_all : (m n : Map) (log : List Entry) (rows pairs : List Row) (low upto : ℕ) → m ≡ n → map pair_of pairs ≡ entries m → All (λ r. HasPoint m log rows low upto r.key) rows → All (λ r. HasPoint m log rows low upto r.key) pairs → (key : ℕ) → HasPoint n log rows low upto key
-points_all m n log rows pairs low upto is pairs_are by_rows by_pairs key =
-    let P : ℕ → Type 0 = λ k. HasPoint m log rows low upto k in
-    subst (λ x. HasPoint x log rows low upto key) is (elim (stands_apart rows P key by_rows) [
-      | inr here ↦ here
-      | inl no_row ↦ elim (stands_apart pairs P key by_pairs) [
-        | inr here ↦ here
-        | inl no_pair ↦ record { here = λ above below. (0, omega arith, get-entries m key ∙ ap (find nat_cmp key) (sym pairs_are) ∙ no_pair ∙ sym (get-from_entries nat_cmp_total (map pair_of rows) key ∙ no_row)) }
-      ]
-    ])
+some_or_none : (o : Option (List ℕ)) → IsSome o ⊎ (o ≡ None)
+some_or_none None = inr refl
+some_or_none (Some v) = inl refl
 
-pub points_none : (m n : Map) (log : List Entry) (rows among : List Row) (low upto : ℕ) → m ≡ n → ((key : ℕ) → HasPoint n log rows low upto key) → All (λ r. HasPoint m log rows low upto r.key) among
-points_none m n log rows among low upto is all k d lt = subst (λ x. HasPoint x log rows low upto (get_or among k d).key) (sym is) (all _)
+-- where the rows' keys and those that stand in the map are given, all keys have a point, and the other way round
+module _ (m : Map) (log : List Entry) (rows : List Row) (keys : List ℕ) (low upto : ℕ) (met : BTreeSet ℕ) (are_met : AreMet log rows met) where
+  module _ (stand : (key : ℕ) → low ≤ key → key < upto → IsSome (get m key) → Contains keys key) where
+    points_from : All (λ r. IsGiven m met rows r.key) rows → All (λ key. IsGiven m met rows key) keys → (key : ℕ) → HasPoint m log rows low upto key
+    points_from by_rows by_keys key = record {
+      here = λ above below. (given_becomes m log rows met key are_met).0 (elim (found_or_not rows key) [
+        | inr at ↦ let d : Row = record { key = 0; value = [] } in subst (IsGiven m met rows) (at.2 d) (by_rows at.0 d at.1)
+        | inl no_row ↦ elim (some_or_none (get m key)) [
+          | inl some ↦ All-contains (IsGiven m met rows) keys key by_keys (stand key above below some)
+          | inr none ↦ inl (lacks m rows key no_row none)
+        ]
+      ]);
+    }
+
+    module _ (within_rows : All (λ x. (low ≤ x.key) × (x.key < upto)) rows) (within_keys : All (λ key. (low ≤ key) × (key < upto)) keys) where
+      pub points_decide : (b : Bool) → (IsTrue b ↔ (All (λ r. IsGiven m met rows r.key) rows × All (λ key. IsGiven m met rows key) keys)) → IsTrue b ↔ ((key : ℕ) → HasPoint m log rows low upto key)
+      points_decide b told = (
+        λ yes. points_from (told.0 yes).0 (told.0 yes).1,
+        λ all. told.1 (
+          λ k d lt. let w = within_rows k d lt in (given_becomes m log rows met (get_or rows k d).key are_met).1 ((all (get_or rows k d).key).here w.0 w.1),
+          λ k d lt. let w = within_keys k d lt in (given_becomes m log rows met (get_or keys k d) are_met).1 ((all (get_or keys k d)).here w.0 w.1),
+        ),
+      )
 
 -- a map q entries on from a point
 map_at-later : (log : List Entry) (a n q : ℕ) → q ≤ n → map_from (map_at log a) (take q (take n (drop a log))) ≡ map_at log (a + q)

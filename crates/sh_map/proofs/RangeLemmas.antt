@@ -1,5 +1,5 @@
 -- What rows and points say of a range.
-use Rattle.std.proofs.Common.{◌≡◌, ◌≢◌, ◌↔◌, ◌⊎◌, ℕ, zero, suc, ◌+◌, ◌-◌, ◌<◌, ◌≤◌, Bool, List, [], ◌∷◌, length, get_or, take, map, Option, inl, inr, refl, sym, ap, ◌∙◌, arith, length-take-le}
+use Rattle.std.proofs.Common.{◌≡◌, ◌↔◌, ◌⊎◌, ℕ, zero, suc, ◌+◌, ◌-◌, ◌<◌, ◌≤◌, true, false, List, [], ◌∷◌, length, get_or, take, map, Option, inl, inr, refl, sym, ap, subst, ◌∙◌, arith, length-take-le}
 use Rattle.std.proofs.lemmas.List.{take_more, get_or-take, get_or_default}
 use Rattle.std.specs.Prelude.{T, IsTrue, AllPairs, Any}
 use Rattle.std.specs.Ordering.{nat_cmp}
@@ -11,6 +11,12 @@ use Rattle.sh_map.specs.declared.book.Row.{Row}
 use Rattle.sh_map.specs.Map.{Map, get, pair_of}
 use Rattle.sh_map.specs.Log.{key_of, left_by, changed, map_from}
 use Rattle.sh_map.specs.Rows.{IsRising, Becomes}
+use Rattle.sh_map.specs.Tables.{AreMet, IsGiven, given}
+use Rattle.sh_map.proofs.MapLemmas.{apart_test}
+use Rattle.sh_map.proofs.WalkLemmas.{any_push, one_more}
+use Rattle.std.specs.List.{list_any}
+use Rattle.std.specs.BTreeMap.{is_at}
+use Rattle.std.specs.BTreeSet.{BTreeSet, contains, Updates}
 use Rattle.sh_map.proofs.LogLemmas.{changed_other}
 use Rattle.sh_map.proofs.ReplyLemmas.{changed_here}
 use Rattle.sh_map.proofs.RowsLemmas.{less_is, both}
@@ -58,9 +64,45 @@ becomes_cases m (x ∷ log) key had (suc q) le is = elim (becomes_cases (changed
   ]
 ]
 
--- a test of the entries is one of the points, where the key didn't have it before
-pub becomes_decides : (m : Map) (log : List Entry) (key : ℕ) (had wanted : Option (List ℕ)) (t : Bool) → had ≡ wanted → (get m key ≢ had) → (IsTrue t ↔ Any (λ e. (key_of e.change ≡ key) × (left_by e.change ≡ had)) log) → IsTrue t ↔ Becomes m log key wanted
-becomes_decides m log key had wanted t same not_before told = (
-  λ yes. let any = told.0 yes in becomes_by_entry m log key wanted any.0 any.1 any.2 any.3 any.4.0 (any.4.1 ∙ same),
-  λ b. elim (becomes_cases m log key had b.0 b.1 (b.2 ∙ sym same)) [ inl before ↦ absurd (not_before before) | inr any ↦ told.1 any ],
+-- a key is given by the map or the entries met where it is so at a point of the entries
+pub given_becomes : (m : Map) (log : List Entry) (rows : List Row) (met : BTreeSet ℕ) (key : ℕ) → AreMet log rows met → IsGiven m met rows key ↔ Becomes m log key (given rows key)
+given_becomes m log rows met key are_met = (
+  λ is. elim is [
+    | inl before ↦ (0, omega arith, before)
+    | inr is_met ↦ let any = (are_met.each key).0 is_met in becomes_by_entry m log key (given rows key) any.0 any.1 any.2 any.3 any.4.0 any.4.1
+  ],
+  λ b. elim (becomes_cases m log key (given rows key) b.0 b.1 b.2) [ inl before ↦ inl before | inr any ↦ inr ((are_met.each key).1 any) ],
 )
+
+pub met_none : (rows : List Row) (met : BTreeSet ℕ) → met.keys ≡ [] → AreMet [] rows met
+met_none rows met empty = record {
+  each = λ key. (
+    λ yes. absurd (let no : contains nat_cmp met key ≡ false = ap (list_any (is_at (nat_cmp key))) empty in cc),
+    λ some. absurd (omega (arith, some.2)),
+  );
+}
+
+-- a walk over the entries, one on, which was read
+module _ (log : List Entry) (at : ℕ) (e : Entry) (in_range : at < length log) (read : e ≡ get_or log at e) (rows : List Row) (met : BTreeSet ℕ) (h : AreMet (take at log) rows met) where
+  met_push : (new : BTreeSet ℕ) → ((key : ℕ) → IsTrue (contains nat_cmp new key) ↔ (IsTrue (contains nat_cmp met key) ⊎ ((key_of e.change ≡ key) × (left_by e.change ≡ given rows key)))) → AreMet (take (at + 1) log) rows new
+  met_push new each = subst (λ (l : List Entry). AreMet l rows new) (one_more log at e in_range read) (record {
+    each = λ key.
+        let push = any_push (λ (x : Entry). (key_of x.change ≡ key) × (left_by x.change ≡ given rows key)) (take at log) e in (
+          λ yes. push.1 (elim ((each key).0 yes) [ inl old ↦ inl ((h.each key).0 old) | inr here ↦ inr here ]),
+          λ some. (each key).1 (elim (push.0 some) [ inl old ↦ inl ((h.each key).1 old) | inr here ↦ inr here ]),
+        );
+  })
+
+  pub met_more : (key : ℕ) (new : BTreeSet ℕ) → key ≡ key_of e.change → left_by e.change ≡ given rows key → Updates nat_cmp met new key true → AreMet (take (at + 1) log) rows new
+  met_more key new is left updates = met_push new (λ q. elim (cases_eq q key) [
+    | inl same ↦ (
+      λ _. inr (sym is ∙ sym same, left ∙ ap (given rows) (sym same)),
+      λ _. ap (contains nat_cmp new) same ∙ updates.1,
+    )
+    | inr differ ↦
+        let stays : contains nat_cmp new q ≡ contains nat_cmp met q = updates.2 q (apart_test key q (λ e. differ (sym e))) in
+        (λ yes. inl (sym stays ∙ yes), λ some. elim some [ inl old ↦ stays ∙ old | inr here ↦ absurd (differ (sym here.0 ∙ sym is)) ])
+  ])
+
+  pub met_same : (left_by e.change ≡ given rows (key_of e.change) → ⊥) → AreMet (take (at + 1) log) rows met
+  met_same other = met_push met (λ q. (λ yes. inl yes, λ some. elim some [ inl old ↦ old | inr here ↦ absurd (other (here.1 ∙ ap (given rows) (sym here.0))) ]))

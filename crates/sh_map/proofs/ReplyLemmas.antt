@@ -1,12 +1,12 @@
 -- What a key has after a log.
-use Rattle.std.proofs.Common.{◌≡◌, ◌≢◌, ℕ, ◌+◌, ◌<◌, List, length, get_or, sym, ap, ◌∙◌}
+use Rattle.std.proofs.Common.{◌≡◌, ℕ, ◌+◌, ◌<◌, List, length, get_or, sym, ap, ◌∙◌}
 use Rattle.sh_map.specs.declared.log.Change.{Change}
 use Rattle.sh_map.specs.declared.log.Change.TheVariants.{Put, Del}
 use Rattle.sh_map.specs.declared.log.Entry.{Entry}
 use Rattle.sh_map.specs.Map.{Map, get}
 use Rattle.sh_map.specs.Log.{key_of, left_by, changed, map_at}
 use Rattle.sh_map.proofs.MapLemmas.{get-put, get-del}
-use Rattle.sh_map.proofs.LogLemmas.{changed_other, map_more}
+use Rattle.sh_map.proofs.LogLemmas.{map_more}
 
 pub changed_here : (m : Map) (change : Change) → get (changed m change) (key_of change) ≡ left_by change
 changed_here m (Put key value) = get-put m key value
@@ -16,12 +16,6 @@ changed_here m (Del key) = get-del m key
 module _ (log : List Entry) (at : ℕ) (e : Entry) (in_range : at < length log) (read : e ≡ get_or log at e) where
   pub map_next : map_at log (at + 1) ≡ changed (map_at log at) e.change
   map_next = map_more log at e in_range ∙ ap (λ (x : Entry). changed (map_at log at) x.change) (sym read)
-
-  pub left_here : (q : ℕ) → key_of e.change ≡ q → left_by e.change ≡ get (map_at log (at + 1)) q
-  left_here q is = sym (ap (λ m. get m q) map_next ∙ ap (get (changed (map_at log at) e.change)) (sym is) ∙ changed_here (map_at log at) e.change)
-
-  pub left_kept : (q : ℕ) → key_of e.change ≢ q → get (map_at log at) q ≡ get (map_at log (at + 1)) q
-  left_kept q ne = sym (ap (λ m. get m q) map_next ∙ changed_other (map_at log at) e.change q (λ is. ne (sym is)))
 
 -- a change is known by its key and what it leaves
 pub same_change : (a b : Change) → key_of a ≡ key_of b → left_by a ≡ left_by b → a ≡ b

@@ -1,5 +1,5 @@
 -- Where a book breaks a rule, and which break is the first.
-use Rattle.std.specs.Prelude.{◌≡◌, ◌⊎◌, ℕ, ◌<◌, ◌≤◌, List, length, take, slice_get, All, Any, Some}
+use Rattle.std.specs.Prelude.{◌≡◌, ◌⊎◌, ℕ, ◌<◌, ◌≤◌, List, [], length, take, slice_get, All, Any, Some}
 use Rattle.sh_map.specs.declared.call.Call.{Call}
 use Rattle.sh_map.specs.declared.call.Call.TheVariants.{Range}
 use Rattle.sh_map.specs.declared.call.Reply.{Reply}
@@ -10,6 +10,8 @@ use Rattle.sh_map.specs.declared.misfit.Misfit.{Misfit}
 use Rattle.sh_map.specs.declared.misfit.Misfit.TheVariants as misfit
 use Rattle.sh_map.specs.declared.misfit.Rule.{Rule}
 use Rattle.sh_map.specs.declared.misfit.Rule.TheVariants as rule
+use Rattle.sh_map.specs.declared.sweep.Part.{Part}
+use Rattle.sh_map.specs.declared.sweep.Part.TheVariants as part
 use Rattle.sh_map.specs.Log.{map_at, IsNext}
 use Rattle.sh_map.specs.Book.{AnswersRange, AnswersAt, IsOwn, IsLastOfSeat, IsLater}
 
@@ -42,6 +44,15 @@ FitsRows log before d = RowsAnswer log d d.call d.reply
 
 abbrev pub FitsOrder : List Done → Done → Type 0
 FitsOrder before d = (d.first ≤ d.point) × All (λ x. Follows x d) before
+
+-- a part of an answer, and the point by whose map it is judged
+abbrev pub FitsPart : Part → List Entry → Done → Type 0
+FitsPart part.Reply log d = FitsReply log [] d
+FitsPart part.Rows log d = FitsRows log [] d
+
+abbrev pub point_for : Part → Done → ℕ
+point_for part.Reply d = d.point
+point_for part.Rows d = d.first
 
 -- the rule of each kind
 abbrev pub FitsRule : Rule → List Entry → List Done → Done → Type 0

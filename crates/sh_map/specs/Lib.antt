@@ -7,3 +7,4 @@ pub mod Rows
 pub mod Judge
 pub mod Made
 pub mod Laws
+pub mod Tables

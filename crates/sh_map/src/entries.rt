@@ -2,9 +2,11 @@
 ghost use Rattle.std.specs.Prelude.{IsTrue, ◌↔◌, ◌≡◌, ◌<◌, ◌⊎◌, IfOk, MatchOption, ◌≢◌, length, All, Any, ℕ};
 ghost use Rattle.sh_map.specs.Log.{IsNext};
 ghost use Rattle.sh_map.specs.Judge.{AllEntriesFit, FitsEntry};
-ghost use Rattle.sh_map.specs.Book.{IsOwn, IsLastOfSeat, made};
+ghost use Rattle.sh_map.specs.Book.{made};
 
-use crate::{Call, Change, Done, Entry, PlainMap, Reply};
+use crate::owners::{has_owner, last_places, owned_places};
+use crate::tree_map::TreeMap;
+use crate::{Call, Change, Done, Entry, Reply};
 use sh_base::Value;
 use std::alloc::{AllocError, Global};
 
@@ -20,7 +22,7 @@ pub(crate) fn same(a: &Option<Value>, b: &Option<Value>) -> bool
 }
 
 // Whether an entry may come next: its old value is what the map has, and a delete has one.
-fn is_next(map: &PlainMap, entry: &Entry) -> bool
+fn is_next(map: &TreeMap, entry: &Entry) -> bool
     ensures { IsTrue result ↔ IsNext map.now entry.now }
 {
     let removes = match entry.change {
@@ -41,36 +43,6 @@ pub(crate) fn made(call: Call, reply: Reply) -> u64
     }
 }
 
-// Whether the entry at a place is this call's own.
-fn is_own(at: u64, done: &Done) -> bool
-    ensures { IsTrue result ↔ IsOwn at done.now }
-{
-    made(done.call, done.reply) == 1 && done.point == at
-}
-
-// Whether none of these entries is of the seat.
-fn has_none_of(seat: u32, log: &[Entry]) -> bool
-    ensures { IsTrue result ↔ All (λ e. e.seat ≢ seat) log.now }
-{
-    log.iter().all(|entry| entry.seat != seat)
-}
-
-// Whether no later entry is of the seat of the one at a place.
-fn is_last_of_seat(log: &[Entry], at: usize) -> bool
-    requires { at < length log.now }
-    ensures { IsTrue result ↔ IsLastOfSeat log.now at }
-{
-    has_none_of(log[at].seat, &log[at + 1..])
-}
-
-// Whether an entry is a finished call's own or its seat's last.
-fn has_owner(log: &[Entry], dones: &[Done], at: usize) -> bool
-    requires { at < length log.now }
-    ensures { IsTrue result ↔ (Any (IsOwn at) dones.now ⊎ IsLastOfSeat log.now at) }
-{
-    dones.iter().any(|done| is_own(at as u64, done)) || is_last_of_seat(log, at)
-}
-
 /// The first entry that doesn't fit the map of the entries before it, or is nobody's own and not its seat's last.
 pub(crate) fn first_unfit_entry(
     alloc: Global,
@@ -82,9 +54,11 @@ pub(crate) fn first_unfit_entry(
         (λ at. (at < length log.now) × (FitsEntry log.now dones.now at → ⊥)
         × ((i : ℕ) → i < at → FitsEntry log.now dones.now i))) }
 {
-    let mut map = PlainMap::new(alloc);
+    let owned = owned_places(alloc, log.len(), dones)?;
+    let lasts = last_places(alloc, log)?;
+    let mut map = TreeMap::new(alloc);
     for (at, entry) in log.iter().enumerate() {
-        if !is_next(&map, entry) || !has_owner(log, dones, at) {
+        if !is_next(&map, entry) || !has_owner(log, dones, &owned, &lasts, at) {
             return Ok(Some(at as u64));
         }
         map.apply(entry.change)?;

@@ -8,9 +8,13 @@ mod laws;
 mod log;
 mod made;
 mod misfit;
+mod order;
+mod owners;
 mod plain_map;
 mod ranges;
 mod replies;
+mod sweep;
+mod tree_map;
 
 pub use book::{Book, Done, Dones, Row, Rows};
 pub use call::{Call, Reply};
@@ -21,10 +25,12 @@ pub use misfit::{Misfit, judge};
 pub use plain_map::PlainMap;
 
 #[cfg(test)]
+mod books;
+
+#[cfg(test)]
 mod tests {
     use super::*;
     use sh_base::{Config, Value};
-    use std::alloc::{AllocError, Global};
     use std::test::Fail;
 
     #[test]
@@ -96,130 +102,6 @@ mod tests {
         let rows = rows.as_slice();
         assert_eq!(rt; rows.len(), 1);
         assert_eq!(rt; rows[0].key, 4);
-        Ok(())
-    }
-
-    fn put(word: u64) -> Change {
-        Change::Put {
-            key: 5,
-            value: Value::of(&[word]),
-        }
-    }
-
-    // Seat 0 puts 5 to 50 and then to 51; its second call ends so.
-    fn seat_0(
-        alloc: Global,
-        reply: Reply,
-        first: u64,
-        point: u64,
-    ) -> Result<Vec<Done>, AllocError> {
-        let mut dones = Vec::new(alloc);
-        dones.push(Done {
-            n: 1,
-            seat: 0,
-            call: Call::Put {
-                key: 5,
-                value: Value::of(&[50]),
-            },
-            reply: Reply::None,
-            first: 0,
-            point: 0,
-            rows: Rows::new(alloc),
-        })?;
-        dones.push(Done {
-            n: 2,
-            seat: 0,
-            call: Call::Put {
-                key: 5,
-                value: Value::of(&[51]),
-            },
-            reply,
-            first,
-            point,
-            rows: Rows::new(alloc),
-        })?;
-        Ok(dones)
-    }
-
-    fn log(old: Option<Value>) -> [Entry; 2] {
-        [
-            Entry {
-                seat: 0,
-                change: put(50),
-                old: None,
-            },
-            Entry {
-                seat: 0,
-                change: put(51),
-                old,
-            },
-        ]
-    }
-
-    #[test]
-    fn verdicts_on_two_puts(rt: HostRuntime) -> Result<(), Fail> {
-        let alloc = rt.alloc();
-        let fifty = Value::of(&[50]);
-        let lawful = log(Some(fifty));
-        for (reply, first, point, want) in [
-            (Reply::Some(fifty), 1, 1, None),
-            (Reply::None, 1, 1, Some(Misfit::Reply { n: 2 })),
-            (Reply::Some(fifty), 1, 0, Some(Misfit::Reply { n: 2 })),
-            (Reply::Some(fifty), 0, 1, Some(Misfit::Order { n: 2 })),
-            (Reply::Full, 1, 2, None),
-            (Reply::Full, 1, 3, Some(Misfit::Reply { n: 2 })),
-            (Reply::Full, 2, 1, Some(Misfit::Order { n: 2 })),
-        ] {
-            let dones = seat_0(alloc, reply, first, point)?;
-            assert!(rt;
-                judge(alloc, &lawful, &dones)? == want,
-                "{reply:?} from {first} at {point}"
-            );
-        }
-        let mut dones = seat_0(alloc, Reply::Some(fifty), 1, 1)?;
-        assert!(rt; judge(alloc, &log(None), &dones)? == Some(Misfit::Entry { at: 1 }));
-        dones.reverse();
-        dones.pop();
-        assert!(rt; judge(alloc, &lawful, &dones)? == Some(Misfit::Entry { at: 0 }));
-        let mut dones = seat_0(alloc, Reply::Some(fifty), 1, 1)?;
-        dones.pop();
-        assert!(rt; judge(alloc, &lawful, &dones)? == None);
-        Ok(())
-    }
-
-    #[test]
-    fn verdicts_on_a_range(rt: HostRuntime) -> Result<(), Fail> {
-        let alloc = rt.alloc();
-        let lawful = log(Some(Value::of(&[50])));
-        for (key, word, upto, first, point, want) in [
-            (5, 51, 9, 2, 2, None),
-            (5, 50, 9, 1, 2, None),
-            (5, 50, 9, 2, 2, Some(Misfit::Row { n: 3 })),
-            (5, 51, 9, 0, 1, Some(Misfit::Row { n: 3 })),
-            (6, 60, 9, 0, 2, Some(Misfit::Row { n: 3 })),
-            (5, 51, 5, 2, 2, Some(Misfit::Row { n: 3 })),
-            (5, 51, 10, 2, 2, Some(Misfit::Reply { n: 3 })),
-        ] {
-            let mut dones = seat_0(alloc, Reply::Some(Value::of(&[50])), 1, 1)?;
-            let mut rows = Rows::new(alloc);
-            rows.push(Row {
-                key,
-                value: Value::of(&[word]),
-            })?;
-            dones.push(Done {
-                n: 3,
-                seat: 1,
-                call: Call::Range { low: 2, high: 9 },
-                reply: Reply::Rows { upto },
-                first,
-                point,
-                rows,
-            })?;
-            assert!(rt;
-                judge(alloc, &lawful, &dones)? == want,
-                "{key} to {word} from {first}"
-            );
-        }
         Ok(())
     }
 

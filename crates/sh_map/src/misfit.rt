@@ -1,11 +1,12 @@
 // What is wrong with a book.
 ghost use Rattle.std.specs.Prelude.{IsTrue, ◌↔◌, ◌≡◌, IfOk, MatchOption, min};
 ghost use Rattle.sh_map.specs.Book.{IsLawful};
-ghost use Rattle.sh_map.specs.Judge.{AllFit, FitsOrder, FitsRule, Follows, IsFirstMisfit, IsLeastUnfit};
+ghost use Rattle.sh_map.specs.Judge.{AllFit, FitsRule, IsFirstMisfit, IsLeastUnfit};
+ghost use Rattle.sh_map.specs.Tables.{AreKept};
 
-use crate::entries::{first_unfit_entry, made};
-use crate::ranges::do_rows_answer;
-use crate::replies::is_answered;
+use crate::entries::first_unfit_entry;
+use crate::order::are_in_order;
+use crate::sweep::{Part, are_right};
 use crate::{Done, Entry};
 use std::alloc::{AllocError, Global};
 
@@ -32,37 +33,19 @@ enum Rule {
     Order,
 }
 
-// Whether a call follows one before it, in number and in its seat's order.
-fn follows(earlier: &Done, done: &Done) -> bool
-    ensures { IsTrue result ↔ Follows earlier.now done.now }
-{
-    let made = made(earlier.call, earlier.reply);
-    earlier.n < done.n
-        && (earlier.seat != done.seat
-            || (earlier.point <= done.first && made <= done.first - earlier.point))
-}
-
-// Whether a call begins no later than its point, and follows those before it.
-fn is_in_order(before: &[Done], done: &Done) -> bool
-    ensures { IsTrue result ↔ FitsOrder before.now done.now }
-{
-    done.first <= done.point && before.iter().all(|earlier| follows(earlier, done))
-}
-
-// Whether a call keeps a rule.
-fn keeps(
+// For each finished call, whether it keeps a rule.
+fn are_kept(
     alloc: Global,
     rule: Rule,
     log: &[Entry],
-    before: &[Done],
-    done: &Done,
-) -> Result<bool, AllocError>
-    ensures { IfOk result (λ kept. IsTrue kept ↔ FitsRule rule log.now before.now done.now) }
+    dones: &[Done],
+) -> Result<Vec<bool>, AllocError>
+    ensures { IfOk result (λ kept. AreKept (FitsRule rule log.now) dones.now kept.items) }
 {
     match rule {
-        Rule::Reply => Ok(is_answered(log, done)),
-        Rule::Rows => do_rows_answer(alloc, log, done),
-        Rule::Order => Ok(is_in_order(before, done)),
+        Rule::Reply => are_right(alloc, Part::Reply, log, dones),
+        Rule::Rows => are_right(alloc, Part::Rows, log, dones),
+        Rule::Order => are_in_order(alloc, dones),
     }
 }
 
@@ -87,9 +70,10 @@ fn least_unfit(
         (AllFit (FitsRule rule log.now) dones.now)
         (λ n. IsLeastUnfit (FitsRule rule log.now) dones.now n)) }
 {
+    let kept = are_kept(alloc, rule, log, dones)?;
     let mut least = None;
     for (at, done) in dones.iter().enumerate() {
-        if !keeps(alloc, rule, log, &dones[..at], done)? {
+        if !kept[at] {
             least = Some(least_with(least, done.n));
         }
     }
@@ -98,7 +82,8 @@ fn least_unfit(
 
 /// Whether the book of this log and these finished calls is lawful, or else its first misfit: of the kinds `Entry`,
 /// `Reply`, `Row` and `Order` the first that there is, and of its kind the one with the least place or number. The time
-/// grows with the square of the number of entries and calls.
+/// grows with the number of entries and calls, times its logarithm, and for each range with its rows, the keys of its
+/// bounds that stood at its `first`, and the entries from there to its point.
 pub fn judge(alloc: Global, log: &[Entry], dones: &[Done]) -> Result<Option<Misfit>, AllocError>
     ensures { IfOk result (λ found. MatchOption found
         (IsLawful log.now dones.now)

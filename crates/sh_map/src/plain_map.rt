@@ -2,10 +2,9 @@
 ghost use Rattle.std.specs.Prelude.{◌≡◌, IfOk, IfErr, OnOk, OnErr, map};
 ghost use Rattle.std.specs.FinMap.{empty, entries, from_entries};
 ghost use Rattle.sh_map.specs.Map.{get, put, del, pair_of};
-ghost use Rattle.sh_map.specs.Log.{changed, map_of};
 ghost use Rattle.sh_map.specs.Rows.{IsAt, IsGapFor, IsRising};
 
-use crate::{Change, Entry, Row, Rows};
+use crate::{Row, Rows};
 use sh_base::Value;
 use std::alloc::{AllocError, Global};
 use std::marker::Model;
@@ -97,36 +96,6 @@ impl PlainMap {
         let PlainMap { rows } = self;
         Rows::of(rows)
     }
-}
-
-impl PlainMap {
-    /// Makes a change. After want of memory the map is as it was.
-    pub(crate) fn apply(&mut self, change: Change) -> Result<(), AllocError>
-        ensures ok { OnOk result (self.new ≡ changed self.old change) }
-        ensures err { OnErr result (self.new ≡ self.old) }
-    {
-        match change {
-            Change::Put { key, value } => {
-                self.put(key, value)?;
-            }
-            Change::Del { key } => {
-                self.del(key);
-            }
-        }
-        Ok(())
-    }
-}
-
-/// The map of a log.
-#[tactic(auto, using(crate::proofs::LogLemmas::map_more))]
-pub(crate) fn map_of(alloc: Global, log: &[Entry]) -> Result<PlainMap, AllocError>
-    ensures { IfOk result (λ m. m ≡ map_of log.now) }
-{
-    let mut map = PlainMap::new(alloc);
-    for entry in log {
-        map.apply(entry.change)?;
-    }
-    Ok(map)
 }
 
 /// The value that rising rows give a key, if there is a row of it.

@@ -1,17 +1,17 @@
 // Whether the rows of a range answer it.
-ghost use Rattle.std.specs.Prelude.{ℕ, IsTrue, ◌↔◌, ◌≡◌, ◌<◌, ◌≤◌, length, map, All, AllPairs, Any, IfOk};
-ghost use Rattle.std.specs.FinMap.{from_entries};
-ghost use Rattle.sh_map.specs.Map.{get, pair_of};
-ghost use Rattle.sh_map.specs.Log.{key_of, left_by, map_of};
+ghost use Rattle.std.specs.Prelude.{ℕ, IsTrue, ◌↔◌, ◌≡◌, ◌<◌, ◌≤◌, length, All, AllPairs, IfOk};
+ghost use Rattle.sh_map.specs.Log.{map_at};
 ghost use Rattle.sh_map.specs.Book.{AnswersRange};
 ghost use Rattle.sh_map.specs.Judge.{RowsAnswer};
-ghost use Rattle.sh_map.specs.Rows.{Becomes, HasPoint, IsRising};
+ghost use Rattle.sh_map.specs.Rows.{HasPoint, IsRising};
+ghost use Rattle.sh_map.specs.Tables.{AreMet, IsGiven};
 
 use crate::entries::same;
-use crate::plain_map::{map_of, value_in};
-use crate::{Call, Done, Entry, PlainMap, Reply, Row};
-use sh_base::Value;
+use crate::plain_map::value_in;
+use crate::tree_map::TreeMap;
+use crate::{Call, Done, Entry, Reply, Row};
 use std::alloc::{AllocError, Global};
+use std::collections::BTreeSet;
 
 // Whether the rows' keys rise.
 fn are_rising(rows: &[Row]) -> bool
@@ -32,86 +32,85 @@ fn are_within(rows: &[Row], low: u64, upto: u64) -> bool
     rows.iter().all(|row| low <= row.key && row.key < upto)
 }
 
-// Whether some entry leaves this at the key.
-fn leaves(log: &[Entry], key: u64, had: &Option<Value>) -> bool
-    ensures { IsTrue result ↔ Any (λ e. (key_of e.change ≡ key) × (left_by e.change ≡ had.now)) log.now }
-{
-    log.iter().any(|entry| entry.change.key() == key && same(&entry.change.left(), had))
-}
-
-// Whether a key has, at some point of these entries from this map on, what the rows give it.
-fn becomes(before: &PlainMap, during: &[Entry], rows: &[Row], key: u64) -> bool
+// The keys that some entry leaves as the rows give them.
+fn keys_met(alloc: Global, entries: &[Entry], rows: &[Row]) -> Result<BTreeSet<u64>, AllocError>
     requires { IsRising rows.now }
-    ensures { IsTrue result
-        ↔ Becomes before.now during.now key (get (from_entries (map pair_of rows.now)) key) }
+    ensures { IfOk result (λ met. AreMet entries.now rows.now met) }
 {
-    let had = value_in(rows, key);
-    let now = before.get(key);
-    same(&now, &had) || leaves(during, key, &had)
+    let mut met = BTreeSet::new(alloc);
+    for entry in entries {
+        let key = entry.change.key();
+        if same(&entry.change.left(), &value_in(rows, key)) {
+            met.insert(key)?;
+        }
+    }
+    Ok(met)
 }
 
-// Whether a key of low..upto has so; of other keys nothing is asked.
-fn has_point(
-    before: &PlainMap,
-    during: &[Entry],
-    rows: &[Row],
-    low: u64,
-    upto: u64,
-    key: u64,
-) -> bool
+// Whether a key has what the rows give it, in the map or among those met.
+fn is_given(before: &TreeMap, met: &BTreeSet<u64>, rows: &[Row], key: u64) -> bool
     requires { IsRising rows.now }
-    ensures { IsTrue result ↔ HasPoint before.now during.now rows.now low upto key }
+    ensures { IsTrue result ↔ IsGiven before.now met.now rows.now key }
 {
-    key < low || upto <= key || becomes(before, during, rows, key)
+    same(&before.get(key), &value_in(rows, key)) || met.contains(&key)
 }
 
-// Whether each of these keys that lies in low..upto is answered.
-fn are_answered(
-    before: &PlainMap,
-    during: &[Entry],
-    rows: &[Row],
-    low: u64,
-    upto: u64,
-    among: &[Row],
-) -> bool
+// Whether each of these keys is given so.
+fn are_given(before: &TreeMap, met: &BTreeSet<u64>, rows: &[Row], keys: &[u64]) -> bool
     requires { IsRising rows.now }
-    ensures { IsTrue result
-        ↔ All (λ r. HasPoint before.now during.now rows.now low upto r.key) among.now }
+    ensures { IsTrue result ↔ All (λ key. IsGiven before.now met.now rows.now key) keys.now }
 {
-    among
-        .iter()
-        .all(|row| has_point(before, during, rows, low, upto, row.key))
+    keys.iter().all(|key| is_given(before, met, rows, *key))
 }
 
-// Whether each key of low..upto has, at some point of the entries behind the earlier ones, what the rows give it. Only
-// keys with a row, and those that the earlier entries left, need a look.
+// Whether each row's key is given so.
+fn are_rows_given(before: &TreeMap, met: &BTreeSet<u64>, rows: &[Row]) -> bool
+    requires { IsRising rows.now }
+    ensures { IsTrue result ↔ All (λ r. IsGiven before.now met.now rows.now r.key) rows.now }
+{
+    rows.iter().all(|row| is_given(before, met, rows, row.key))
+}
+
+// Whether each row's key and each of these keys is given so.
+fn are_all_given(before: &TreeMap, met: &BTreeSet<u64>, rows: &[Row], keys: &[u64]) -> bool
+    requires { IsRising rows.now }
+    ensures { IsTrue result ↔ (All (λ r. IsGiven before.now met.now rows.now r.key) rows.now
+        × All (λ key. IsGiven before.now met.now rows.now key) keys.now) }
+{
+    are_rows_given(before, met, rows) && are_given(before, met, rows, keys)
+}
+
+// Whether each key of low..upto has, at some point of the entries from this map on, what the rows give it. Only keys
+// with a row, and those that stand in the map, need a look.
 fn have_points(
     alloc: Global,
-    earlier: &[Entry],
+    before: &TreeMap,
     during: &[Entry],
     rows: &[Row],
     low: u64,
     upto: u64,
 ) -> Result<bool, AllocError>
-    requires { IsRising rows.now }
+    requires rising { IsRising rows.now }
+    requires within { All (λ x. (low ≤ x.key) × (x.key < upto)) rows.now }
+    requires bounds { low ≤ upto }
     ensures { IfOk result (λ yes. IsTrue yes
-        ↔ ((key : ℕ) → HasPoint (map_of earlier.now) during.now rows.now low upto key)) }
+        ↔ ((key : ℕ) → HasPoint before.now during.now rows.now low upto key)) }
 {
-    let before = map_of(alloc, earlier)?;
-    Ok(
-        are_answered(&before, during, rows, low, upto, rows)
-            && are_answered(&before, during, rows, low, upto, before.pairs()),
-    )
+    let met = keys_met(alloc, during, rows)?;
+    let standing = before.keys_in(alloc, low, upto)?;
+    Ok(are_all_given(before, &met, rows, &standing))
 }
 
 // Whether a range that ends here is answered by its rows.
 fn answers_rows(
     alloc: Global,
+    before: &TreeMap,
     log: &[Entry],
     done: &Done,
     low: u64,
     upto: u64,
 ) -> Result<bool, AllocError>
+    requires { done.now.first ≤ length log.now → before.now ≡ map_at log.now done.now.first }
     ensures { IfOk result (λ yes. IsTrue yes
         ↔ ((done.now.point ≤ length log.now)
         × AnswersRange log.now done.now.first done.now.point low upto done.now.rows)) }
@@ -127,16 +126,22 @@ fn answers_rows(
         return Ok(false);
     }
     let (first, point) = (done.first as usize, done.point as usize);
-    have_points(alloc, &log[..first], &log[first..point], rows, low, upto)
+    have_points(alloc, before, &log[first..point], rows, low, upto)
 }
 
-/// Whether the rows of a range answer it. Other calls have none.
-pub(crate) fn do_rows_answer(alloc: Global, log: &[Entry], done: &Done) -> Result<bool, AllocError>
+/// Whether the rows of a range answer it. Other calls have none. The map is that of `first`, where the log has that.
+pub(crate) fn do_rows_answer(
+    alloc: Global,
+    before: &TreeMap,
+    log: &[Entry],
+    done: &Done,
+) -> Result<bool, AllocError>
+    requires { done.now.first ≤ length log.now → before.now ≡ map_at log.now done.now.first }
     ensures { IfOk result (λ yes. IsTrue yes ↔ RowsAnswer log.now done.now done.now.call done.now.reply) }
 {
     match (done.call, done.reply) {
         (Call::Range { low, .. }, Reply::Rows { upto }) => {
-            answers_rows(alloc, log, done, low, upto)
+            answers_rows(alloc, before, log, done, low, upto)
         }
         _ => Ok(true),
     }

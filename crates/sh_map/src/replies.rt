@@ -1,26 +1,14 @@
 // Whether a reply is the one of its point.
-ghost use Rattle.std.specs.Prelude.{IsTrue, ◌↔◌, ◌≡◌, ◌<◌, ◌≤◌, length, slice_get};
+ghost use Rattle.std.specs.Prelude.{IsTrue, ◌↔◌, ◌≡◌, ◌≤◌, length, slice_get};
 ghost use Rattle.sh_map.specs.Map.{get};
-ghost use Rattle.sh_map.specs.Log.{map_of, map_at};
+ghost use Rattle.sh_map.specs.Log.{map_at};
 ghost use Rattle.sh_map.specs.Book.{entry_of};
 ghost use Rattle.sh_map.specs.Judge.{AnswersAside};
 
 use crate::entries::same;
+use crate::tree_map::TreeMap;
 use crate::{Call, Change, Done, Entry, Reply};
 use sh_base::Value;
-
-// What a key has after these entries.
-fn left_at(log: &[Entry], key: u64) -> Option<Value>
-    ensures { result ≡ get (map_of log.now) key }
-{
-    let mut had = None;
-    for entry in log {
-        if entry.change.key() == key {
-            had = entry.change.left();
-        }
-    }
-    had
-}
 
 // Whether two changes are the same.
 #[tactic(auto, using(crate::proofs::ReplyLemmas::same_change))]
@@ -42,22 +30,21 @@ fn has_entry(log: &[Entry], at: u64, seat: u32, change: Change, old: Option<Valu
     }
 }
 
-// Whether a key has this at a point within the log.
-fn has_at(log: &[Entry], point: u64, key: u64, had: Option<Value>) -> bool
-    requires { point ≤ length log.now }
-    ensures { IsTrue result ↔ (get (map_at log.now point) key ≡ had) }
+// Whether a key has this in a map.
+fn has(map: &TreeMap, key: u64, had: Option<Value>) -> bool
+    ensures { IsTrue result ↔ (get map.now key ≡ had) }
 {
-    same(&left_at(&log[..point as usize], key), &had)
+    same(&map.get(key), &had)
 }
 
 // Whether a get of this key is answered at its point.
-fn answers_get(log: &[Entry], done: &Done, key: u64) -> bool
-    requires { done.now.point ≤ length log.now }
+fn answers_get(map: &TreeMap, log: &[Entry], done: &Done, key: u64) -> bool
+    requires { map.now ≡ map_at log.now done.now.point }
     ensures { IsTrue result ↔ AnswersAside log.now done.now (Call.Get key) done.now.reply }
 {
     match done.reply {
-        Reply::Some(value) => has_at(log, done.point, key, Some(value)),
-        Reply::None => has_at(log, done.point, key, None),
+        Reply::Some(value) => has(map, key, Some(value)),
+        Reply::None => has(map, key, None),
         _ => false,
     }
 }
@@ -76,15 +63,15 @@ fn answers_put(log: &[Entry], done: &Done, key: u64, value: Value) -> bool
 }
 
 // Whether a delete of this key is answered at its point.
-fn answers_del(log: &[Entry], done: &Done, key: u64) -> bool
-    requires { done.now.point ≤ length log.now }
+fn answers_del(map: &TreeMap, log: &[Entry], done: &Done, key: u64) -> bool
+    requires { map.now ≡ map_at log.now done.now.point }
     ensures { IsTrue result ↔ AnswersAside log.now done.now (Call.Del key) done.now.reply }
 {
     match done.reply {
         Reply::Some(old) => {
             has_entry(log, done.point, done.seat, Change::Del { key }, Some(old))
         }
-        Reply::None => has_at(log, done.point, key, None),
+        Reply::None => has(map, key, None),
         Reply::Worn { .. } => true,
         _ => false,
     }
@@ -101,16 +88,18 @@ fn answers_range(log: &[Entry], done: &Done, low: u64, high: u64) -> bool
 }
 
 /// Whether a finished call is answered at its point, the rows of a range aside.
-pub(crate) fn is_answered(log: &[Entry], done: &Done) -> bool
+/// The map is that of its point, where the log has that.
+pub(crate) fn is_answered(map: &TreeMap, log: &[Entry], done: &Done) -> bool
+    requires { done.now.point ≤ length log.now → map.now ≡ map_at log.now done.now.point }
     ensures { IsTrue result ↔ ((done.now.point ≤ length log.now) × AnswersAside log.now done.now done.now.call done.now.reply) }
 {
     if done.point > log.len() as u64 {
         return false;
     }
     match done.call {
-        Call::Get { key } => answers_get(log, done, key),
+        Call::Get { key } => answers_get(map, log, done, key),
         Call::Put { key, value } => answers_put(log, done, key, value),
-        Call::Del { key } => answers_del(log, done, key),
+        Call::Del { key } => answers_del(map, log, done, key),
         Call::Range { low, high } => answers_range(log, done, low, high),
     }
 }

@@ -1,5 +1,5 @@
 -- Each event keeps what a READ under way knows, and each load adds to it.
-use Rattle.std.proofs.Common.{◌≡◌, ◌≢◌, ◌⊎◌, ℕ, ◌+◌, ◌<◌, ◌≤◌, List, length, get_or, set, refl, sym, ap, ◌∙◌, inl, inr, arith}
+use Rattle.std.proofs.Common.{◌≡◌, ◌≢◌, ◌⊎◌, ℕ, suc, ◌+◌, ◌<◌, ◌≤◌, List, ◌∷◌, length, get_or, set, refl, sym, ap, ◌∙◌, inl, inr, arith}
 use Rattle.std.proofs.lemmas.Bool.{cases_lt, cases_eq}
 use Rattle.std.proofs.lemmas.List.{get_or-set_same, get_or-set_other, length-set}
 use Rattle.sh_base.specs.declared.config.ConfigParts.{ConfigParts}
@@ -7,7 +7,7 @@ use Rattle.sh_base.specs.Setting.{node_size}
 use Rattle.sh_base.specs.Layout.{entry_at, rear_at, entry_rear_at}
 use Rattle.sh_base.proofs.LayoutLemmas.{entry_within, entry_size_is, node_size_is, rear_at_low}
 use Rattle.sh_read.specs.Moments.{Writing, Idle, Whole, One, word, IsWriting, IsMoment, Next, still, begin_whole, more_whole, end_whole, begin_one, more_one, end_one}
-use Rattle.sh_read.specs.Reading.{IsHead, IsIn, NotWhole, NotOne, IsCalm, FitsEntry, FitsRead}
+use Rattle.sh_read.specs.Reading.{IsHead, IsIn, NotWhole, NotOne, IsCalm, FitsEntry, FitsRead, StoodIn, StoodWith}
 use Rattle.sh_read.proofs.Words.{entry_end, word_head, word_other, word_rear, word_front, word_first, rear_below, ended_head, ended_other}
 
 abbrev get_or_in : List ℕ → ℕ → ℕ
@@ -235,3 +235,41 @@ module _ (p : ConfigParts) (level : ℕ) where
     part = r.part;
     whole = λ l c i k low agree. let seen = r.whole l c i k low agree in (seen.0, h seen.0 seen.1, seen.2);
   }
+
+  -- while no node WRITE has stored
+  pub FitsRead-calm : (Was Now : List ℕ → Type 0) (s : List ℕ) (w : Writing) (from : ℕ) (got : List ℕ) → (IsCalm p s w got → (b : List ℕ) → Was b → Now b) → FitsRead p level Was s w from got → FitsRead p level Now s w from got
+  FitsRead-calm Was Now s w from got h r = record {
+    long = r.long;
+    begun = r.begun;
+    version = r.version;
+    head = r.head;
+    part = r.part;
+    whole = λ l c i k low agree. let seen = r.whole l c i k low agree in (seen.0, h c seen.0 seen.1, seen.2);
+  }
+
+  -- the header stays while no node WRITE has stored
+  pub header_stays : (s t : List ℕ) (w v : Writing) (got : List ℕ) → Next p s w t v → IsMoment p level s w → get_or got (rear_at p) 0 ≤ get_or s 0 0 → IsCalm p t v got → (o : ℕ) → o < 6 → get_or s o 0 ≡ get_or t o 0
+  header_stays s t w v got still m version c o low = refl
+  header_stays s t w v got (begin_whole e) m version c o low = absurd c.none
+  header_stays s t w v got (more_whole e) m version c o low = absurd c.none
+  header_stays s t w v got (end_whole e) m version c o low = absurd (omega (arith, version, c.same, m.writing.1))
+  header_stays s t w v got (begin_one e) m version c o low = refl
+  header_stays s t w v got (more_one e) m version c o low = refl
+  header_stays s t w v got (end_one {new = new} {i = j} {done = done} e same) m version c o low =
+      let more : done + 1 ≡ 3 + p.value_words = omega (arith, e) in
+      sym (ended_head p level s j new t o m.writing.0 m.writing.5 (λ o. same o ∙ ap (λ n. word p s (One j new n) o) more) (inl low))
+
+  -- ---- with the header that stands now
+  module _ (stood : List (List ℕ)) where
+    pub stood-next : (s t : List ℕ) (w v : Writing) (from : ℕ) (got : List ℕ) → Next p s w t v → IsMoment p level s w → IsMoment p level t v → FitsRead p level (StoodWith stood s) s w from got → FitsRead p level (StoodWith stood t) t v from got
+    stood-next s t w v from got next m m' r =
+        FitsRead-calm (StoodWith stood s) (StoodWith stood t) t v from got (λ c b was. (was.0, λ o low. was.1 o low ∙ header_stays s t w v got next m r.version c o low)) (FitsRead-next (StoodWith stood s) s t w v from got next m m' r)
+
+    pub stood-load : (s : List ℕ) (w : Writing) (at : ℕ) (got : List ℕ) → IsMoment p level s w → StoodIn stood s → FitsRead p level (StoodWith stood s) s w (at + 1) got → FitsRead p level (StoodWith stood s) s w at (set got at (word p s w at))
+    stood-load s w at got m was = FitsRead-load (StoodWith stood s) s w at got m (was, λ o low. refl)
+
+    pub stood-more : (b s : List ℕ) (w : Writing) (from : ℕ) (got : List ℕ) → FitsRead p level (StoodWith stood s) s w from got → FitsRead p level (StoodWith (b ∷ stood) s) s w from got
+    stood-more b s w from got = FitsRead-weaker (StoodWith stood s) (StoodWith (b ∷ stood) s) s w from got (λ x was. (among was.0, was.1))
+      where
+        among : {x : List ℕ} → StoodIn stood x → StoodIn (b ∷ stood) x
+        among h = (suc h.0, h.1, omega (arith, h.2), h.3, h.4)

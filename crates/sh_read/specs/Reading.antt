@@ -1,8 +1,11 @@
 -- What a READ of a node under way knows, at each moment.
-use Rattle.std.specs.Prelude.{◌≡◌, ◌≢◌, ◌⊎◌, ℕ, ◌+◌, ◌<◌, ◌≤◌, List, length, slice_index, Any}
+use Rattle.std.specs.Prelude.{◌≡◌, ◌≢◌, ◌⊎◌, ℕ, ◌+◌, ◌<◌, ◌≤◌, List, length, drop, slice_index, slice_index_or, Any}
 use Rattle.sh_base.specs.declared.config.ConfigParts.{ConfigParts}
 use Rattle.sh_base.specs.Setting.{entry_size, node_size}
 use Rattle.sh_base.specs.Layout.{entry_at, rear_at, entry_rear_at}
+use Rattle.sh_image.specs.declared.leaf.LeafEntry.{LeafEntry}
+use Rattle.sh_image.specs.Entries.{entries_in}
+use Rattle.sh_image.specs.Leaf.{Leaf, IsEntry, Spells, empty_entry}
 use Rattle.sh_read.specs.Moments.{Writing, Idle, Whole, One}
 
 -- the words that only node WRITEs store: of an inner node all
@@ -38,6 +41,18 @@ pub record FitsEntry (p : ConfigParts) (standing : List ℕ) (w : Writing) (from
 abbrev pub StoodIn : List (List ℕ) → List ℕ → Type 0
 StoodIn stood ws = Any (λ x. x ≡ ws) stood
 
+-- these words stood at some moment, with the header that stands now
+abbrev pub StoodWith : List (List ℕ) → List ℕ → List ℕ → Type 0
+StoodWith stood standing ws = StoodIn stood ws × ((o : ℕ) → o < 6 → slice_index ws o ≡ slice_index standing o)
+
+-- the words spell a leaf
+abbrev pub IsLeafNode : ConfigParts → List ℕ → Type 0
+IsLeafNode p ws = (a : Leaf) × Spells p ws a
+
+-- an entry of the leaf that words spell, if they are a leaf's
+abbrev pub entry_of : ConfigParts → List ℕ → ℕ → LeafEntry
+entry_of p ws i = slice_index_or (entries_in p.value_words p.leaf (drop 6 ws)) i (empty_entry p)
+
 -- The words got from offset from on are loaded. Was holds of what stood at some moment since the rear version was loaded.
 pub record FitsRead (p : ConfigParts) (level : ℕ) (Was : List ℕ → Type 0) (standing : List ℕ) (w : Writing) (from : ℕ) (got : List ℕ) : Type 0 where
   pub long : length got ≡ node_size p
@@ -46,3 +61,11 @@ pub record FitsRead (p : ConfigParts) (level : ℕ) (Was : List ℕ → Type 0) 
   pub head : IsCalm p standing w got → (o : ℕ) → IsHead p level o → from ≤ o → slice_index got o ≡ slice_index standing o
   pub part : level ≡ 0 → IsCalm p standing w got → (i : ℕ) → i < p.leaf → entry_at p i < from → from ≤ entry_rear_at p i → FitsEntry p standing w from got i
   pub whole : level ≡ 0 → IsCalm p standing w got → (i : ℕ) → i < p.leaf → from ≤ entry_at p i → slice_index got (entry_rear_at p i) ≡ slice_index got (entry_at p i) → (s : List ℕ) × Was s × ((o : ℕ) → IsIn p i o → slice_index got o ≡ slice_index s o)
+
+-- An entry of a leaf that is loaded whole: it stood so in a node with the header that stands now, and it meets the rules
+-- between the fences that stand now.
+pub record IsGoodEntry (p : ConfigParts) (stood : List (List ℕ)) (standing got : List ℕ) (i : ℕ) : Type 0 where
+  pub node : List ℕ
+  pub before : StoodWith stood standing node
+  pub same : entry_of p got i ≡ entry_of p node i
+  pub rules : IsEntry p (slice_index standing 2) (slice_index standing 3) (entry_of p got i)

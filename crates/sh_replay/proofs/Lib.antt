@@ -6,4 +6,5 @@ pub mod RunLemmas
 pub mod LaidLemmas
 pub mod WorldLemmas
 pub mod PairLemmas
+pub mod ServingLemmas
 pub mod TextLemmas

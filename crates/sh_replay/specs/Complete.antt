@@ -1,25 +1,30 @@
 -- A replay that meets nothing in its way.
-use Rattle.std.specs.Prelude.{ℕ, ◌≡◌, ◌≢◌, ◌<◌, ◌≤◌, ◌-◌, ◌^◌, List, length, Option, Some}
-use Rattle.sh_base.specs.Setting.{default_parts}
+use Rattle.std.specs.Prelude.{ℕ, Bool, ◌≡◌, ◌≢◌, ◌<◌, ◌≤◌, ◌-◌, ◌^◌, List, length, Option, Some, None}
 use Rattle.sh_sheet.specs.declared.item.Item.{Item}
 use Rattle.sh_sheet.specs.declared.status.Status.{Status}
 use Rattle.sh_sheet.specs.declared.status.Status.TheVariants as status
-use Rattle.sh_sheet.specs.Sheet.{Items, most_calls, sheet_of}
+use Rattle.sh_sheet.specs.declared.item.Mode.TheVariants.{Replay}
+use Rattle.sh_sheet.specs.Sheet.{Items, AreFew, sheet_of}
+use Rattle.sh_words.specs.Order.{Asked}
+use Rattle.sh_replay.specs.Serving.{first_unserved}
 
 -- a count of faults that stays, below its last value
 abbrev pub HasNoFault : ℕ → ℕ → Type 0
 HasNoFault before now = (now ≡ before) × (now ≢ 2 ^ 64 - 1)
 
--- There is no word, the source's bytes are told and not too many, its rows are lawful and not too many, and neither the
--- source nor the sink failed.
-pub record IsFree (words : ℕ) (left : Option (List ℕ)) (before now fell fallen : ℕ) : Type 0 where
+-- The words are accepted, the source's bytes are told and not too many, its rows are lawful, not too many and all served,
+-- and neither the source nor the sink failed.
+pub record IsFree (asked : Option Asked) (left : Option (List ℕ)) (before now fell fallen : ℕ) : Type 0 where
+  pub order : Asked
   pub bytes : List ℕ
+  pub headed : Bool
   pub items : List Item
-  pub no_word : words ≡ 0
+  pub accepted : asked ≡ Some order
   pub told : left ≡ Some bytes
   pub short : length bytes < 16777217
-  pub reads : sheet_of default_parts bytes ≡ Items items
-  pub few : length items ≤ most_calls
+  pub reads : sheet_of order.parts Replay bytes ≡ Items headed items
+  pub few : AreFew order.parts items
+  pub served : first_unserved items ≡ None
   pub source : HasNoFault before now
   pub sink : HasNoFault fell fallen
 

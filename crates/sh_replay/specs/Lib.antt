@@ -4,6 +4,7 @@ pub mod Decisions
 pub mod Runs
 pub mod Pairs
 pub mod Worlds
+pub mod Serving
 pub mod Headline
 pub mod Causes
 pub mod Complete

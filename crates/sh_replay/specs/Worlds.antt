@@ -6,9 +6,8 @@ use Rattle.sh_base.specs.Layout.{node_word, node_part, root_word, counter_word}
 use Rattle.sh_map.specs.declared.log.Entry.{Entry}
 use Rattle.sh_map.specs.declared.book.Done.{Done}
 use Rattle.sh_map.specs.declared.book.Row.{Row}
-use Rattle.sh_map.specs.Map.{pair_of}
 use Rattle.sh_sheet.specs.declared.item.Item.{Item}
-use Rattle.sh_replay.specs.Pairs.{pairs_in}
+use Rattle.sh_replay.specs.Pairs.{rows_in}
 use Rattle.sh_image.specs.Leaf.{Leaf, leaf_words, empty_entry}
 use Rattle.sh_replay.specs.Leaves.{first_leaf}
 use Rattle.sh_replay.specs.Runs.{item_of, IsRun}
@@ -55,5 +54,5 @@ pub record IsServing (p : ConfigParts) (w : World) : Type 0 where
 pub record HasServed (p : ConfigParts) (items : List Item) (w : World) (rows : List Row) : Type 0 where
   pub calls : map item_of (dones_of w) ≡ items
   pub run : IsRun p (words_of w) (log_of w) (dones_of w)
-  pub pairs : map pair_of rows ≡ pairs_in p (words_of w)
+  pub rows_are : rows ≡ rows_in p (words_of w)
   pub few : length rows ≤ 64

@@ -4,9 +4,9 @@ ghost use Rattle.sh_base.specs.Parts.{parts_of};
 ghost use Rattle.sh_base.specs.Setting.{node_size};
 ghost use Rattle.sh_map.specs.Calls.{IsInRange};
 ghost use Rattle.sh_sheet.specs.declared.item.Item.TheVariants.{Ask};
-ghost use Rattle.sh_sheet.specs.Sheet.{IsLawfulItem};
 ghost use Rattle.sh_replay.specs.Replies.{IsOneKey};
 ghost use Rattle.sh_replay.specs.Runs.{item_of};
+ghost use Rattle.sh_replay.specs.Serving.{IsServable};
 ghost use Rattle.sh_replay.specs.Worlds.{words_of, log_of, dones_of, bare_words, IsBlank, AreLaid, IsServing};
 
 use crate::World;
@@ -103,7 +103,7 @@ impl World {
     ) -> Result<(), AllocError>
         requires run { IsServing (parts_of cfg.now) self.old }
         requires fresh { dones_of self.old ≡ [] }
-        requires lawful { All (IsLawfulItem (parts_of cfg.now)) items.now }
+        requires lawful { All (IsServable (parts_of cfg.now)) items.now }
         requires few { length items.now ≤ 1000000 }
         ensures run { IsServing (parts_of cfg.now) self.new }
         ensures ok { OnOk result (map item_of (dones_of self.new) ≡ items.now) }

@@ -6,7 +6,7 @@ use Rattle.std.proofs.lemmas.List.{append-nil, take_rest}
 use Rattle.std.proofs.lemmas.List.Splits.{slice_split_first, length-slice_split}
 use Rattle.std.proofs.lemmas.Option.{cond_some}
 use Rattle.sh_sheet.specs.Number.{number_of}
-use Rattle.sh_sheet.specs.Sheet.{colon_parts, joined, numbers_of, value_in}
+use Rattle.sh_sheet.specs.Row.{colon_parts, joined, numbers_of, value_in}
 
 -- a byte that is a colon
 abbrev is_colon : ℕ → Bool

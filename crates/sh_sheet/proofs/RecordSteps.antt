@@ -1,6 +1,5 @@
 -- The records of a text from a state on, one by one.
-use Rattle.std.proofs.Common.{ℕ, zero, suc, ◌≡◌, ◌≤◌, ◌<◌, ◌+◌, ◌-◌, Bool, true, false, List, [], ◌∷◌, ◌++◌, length, Option, Some, None, refl, sym, ap, subst, ◌∙◌, inl, arith, add-one, append_assoc}
-use Rattle.std.proofs.lemmas.List.{append-nil}
+use Rattle.std.proofs.Common.{ℕ, zero, suc, ◌≡◌, ◌≤◌, ◌<◌, ◌+◌, ◌-◌, Bool, true, false, List, [], ◌∷◌, ◌++◌, length, Option, Some, None, refl, sym, ap, subst, ◌∙◌, inl, arith, add-one}
 use Rattle.std.specs.Prelude.{if◌then◌else◌}
 use Rattle.csv.specs.Machine.{Read, next_record, step, is_end, fields_after, field_after, ends_at_end}
 use Rattle.csv.specs.Reading.{records_from, records_next, default_config, ReadRecord, Ready, Reached, source_of, reader_config, reader_state, reader_trim, took_first}
@@ -10,7 +9,6 @@ use Rattle.csv.specs.declared.parser.State.{State}
 use Rattle.csv.specs.declared.parser.State.TheVariants as st
 use Rattle.csv.specs.declared.reader.Reader.{Reader}
 use Rattle.csv.specs.declared.reader.Trim.TheVariants as trim
-use Rattle.sh_sheet.specs.Records.{records_in}
 
 -- the records of a text from a state on
 abbrev pub records_at : State → List ℕ → List (List (List ℕ))
@@ -104,39 +102,43 @@ records_more s (c ∷ rest) p e =
 pub records_end : (s : State) (xs : List ℕ) → next_record default_config s [] [] xs ≡ None → records_at s xs ≡ []
 records_end s xs e = ap (λ n. records_from default_config n s xs) (add-one (length xs)) ∙ last_turn (length xs) s xs e
 
--- a reader that has read these records of the bytes, and may go on
-pub record IsReading {R : Type 0} (left : R → Option (List ℕ)) (bytes : List ℕ) (read : List (List (List ℕ))) (reader : Reader R) (turns : ℕ) : Type 0 where
+-- a reader that has just these records left, and may go on
+pub record IsReading {R : Type 0} (left : R → Option (List ℕ)) (reader : Reader R) (turns : ℕ) (rows : List (List (List ℕ))) : Type 0 where
   pub plain : reader_trim reader ≡ trim.None
   pub ready : Ready reader
   pub config : reader_config reader ≡ default_config
   pub more : 0 < turns
   pub rest : List ℕ
   pub known : source_of left reader ≡ Some rest
-  pub whole : records_in bytes ≡ read ++ records_at (reader_state reader) rest
+  pub whole : rows ≡ records_at (reader_state reader) rest
 
 joined : (s : State) (xs : List ℕ) (p : Read) (fields : List (List ℕ)) (t : State) (ys : List ℕ) → records_at s xs ≡ p.0 ∷ records_at p.1 p.2
     → fields ≡ p.0 → p.1 ≡ t → p.2 ≡ ys → records_at s xs ≡ fields ∷ records_at t ys
 joined s xs p fields t ys e at_fields at_state at_rest = cc
 
 -- after one more record
-pub reading_more : {R : Type 0} (left : R → Option (List ℕ)) (bytes : List ℕ) (read : List (List (List ℕ))) (a b : Reader R) (n m : ℕ) (fields : List (List ℕ))
-    → IsReading left bytes read a n → ReadRecord left a b true fields → took_first b ≡ true → 0 < m → IsReading left bytes (read ++ fields ∷ []) b m
+pub reading_more : {R : Type 0} (left : R → Option (List ℕ)) (a b : Reader R) (n m : ℕ) (rows : List (List (List ℕ))) (fields : List (List ℕ))
+    → IsReading left a n rows → ReadRecord left a b true fields → took_first b ≡ true → 0 < m
+    → (more : List (List (List ℕ))) × (rows ≡ fields ∷ more) × IsReading left b m more
 unfolding Reached
-reading_more left bytes read a b n m fields was took first turns =
+reading_more left a b n m rows fields was took first turns =
     let next = rows-more left a b fields default_config a.state was.rest was.rest [] was.config was.known (refl, refl) took in
-    let (z, at_z, (p, is_p, at_fields, (at_state, at_rest))) = next in
-    record {
-      plain = took.3 ∙ was.plain;
-      ready = inl first;
-      config = took.2 ∙ was.config;
-      more = turns;
-      rest = z;
-      known = at_z;
-      whole = was.whole ∙ (ap (λ t. read ++ t) (joined a.state was.rest p fields b.state z (records_more a.state was.rest p is_p) at_fields at_state at_rest) ∙ sym (append_assoc read (fields ∷ []) (records_at b.state z)));
-    }
+    let (z, at_z, (p, is_p, at_fields, (at_state, at_rest))) = next in (
+      records_at b.state z,
+      was.whole ∙ joined a.state was.rest p fields b.state z (records_more a.state was.rest p is_p) at_fields at_state at_rest,
+      record {
+        plain = took.3 ∙ was.plain;
+        ready = inl first;
+        config = took.2 ∙ was.config;
+        more = turns;
+        rest = z;
+        known = at_z;
+        whole = refl;
+      },
+    )
 
 -- after the last record
-pub reading_end : {R : Type 0} (left : R → Option (List ℕ)) (bytes : List ℕ) (read : List (List (List ℕ))) (a b : Reader R) (n : ℕ) (fields : List (List ℕ))
-    → IsReading left bytes read a n → ReadRecord left a b false fields → read ≡ records_in bytes
-reading_end left bytes read a b n fields was none =
-    sym (was.whole ∙ (ap (λ t. read ++ t) (records_end a.state was.rest (rows-end left a b fields default_config was.rest was.config was.known none)) ∙ append-nil read))
+pub reading_end : {R : Type 0} (left : R → Option (List ℕ)) (a b : Reader R) (n : ℕ) (rows : List (List (List ℕ))) (fields : List (List ℕ))
+    → IsReading left a n rows → ReadRecord left a b false fields → rows ≡ []
+reading_end left a b n rows fields was none =
+    was.whole ∙ records_end a.state was.rest (rows-end left a b fields default_config was.rest was.config was.known none)

@@ -1,9 +1,10 @@
 -- The fields of a row, one by one.
-use Rattle.std.proofs.Common.{ℕ, zero, suc, ◌≡◌, ◌≢◌, List, [], ◌∷◌, ◌++◌, length, get_or, Some, None, refl, arith, false}
+use Rattle.std.proofs.Common.{ℕ, zero, suc, ◌≡◌, ◌≢◌, List, [], ◌∷◌, length, get_or, Some, None, Err, refl, arith, false}
 use Rattle.csv.specs.Records.{field_at}
 use Rattle.sh_base.specs.declared.config.ConfigParts.{ConfigParts}
-use Rattle.sh_sheet.specs.Sheet.{Reading, Items, Refused, item_in, is_head}
-use Rattle.sh_sheet.specs.declared.item.Item.{Item}
+use Rattle.sh_sheet.specs.Row.{item_in, is_heading}
+use Rattle.sh_sheet.specs.declared.item.Mode.{Mode}
+use Rattle.sh_sheet.specs.declared.status.RowCause.TheVariants.{FieldCount}
 
 -- no field at the place
 pub field_none : (fields : List (List ℕ)) (i : ℕ) → None ≡ field_at fields i → [] ≡ get_or fields i []
@@ -28,24 +29,19 @@ four (op ∷ seat ∷ a ∷ []) h = absurd (omega arith)
 four (op ∷ seat ∷ a ∷ b ∷ []) h = refl
 four (op ∷ seat ∷ a ∷ b ∷ c ∷ more) h = absurd (omega arith)
 
--- any other number of fields is no item, and no head
-pub not_four : (p : ConfigParts) (fields : List (List ℕ)) → length fields ≢ 4 → None ≡ item_in p fields
-not_four p [] h = refl
-not_four p (op ∷ []) h = refl
-not_four p (op ∷ seat ∷ []) h = refl
-not_four p (op ∷ seat ∷ a ∷ []) h = refl
-not_four p (op ∷ seat ∷ a ∷ b ∷ []) h = absurd (h refl)
-not_four p (op ∷ seat ∷ a ∷ b ∷ c ∷ more) h = refl
+-- any other number of fields is refused, and is no heading
+pub not_four : (p : ConfigParts) (mode : Mode) (marks : List ℕ) (fields : List (List ℕ)) → length fields ≢ 4 → Err FieldCount ≡ item_in p mode marks fields
+not_four p mode marks [] h = refl
+not_four p mode marks (op ∷ []) h = refl
+not_four p mode marks (op ∷ seat ∷ []) h = refl
+not_four p mode marks (op ∷ seat ∷ a ∷ []) h = refl
+not_four p mode marks (op ∷ seat ∷ a ∷ b ∷ []) h = absurd (h refl)
+not_four p mode marks (op ∷ seat ∷ a ∷ b ∷ c ∷ more) h = refl
 
-pub not_four_head : (fields : List (List ℕ)) → length fields ≢ 4 → false ≡ is_head fields
-not_four_head [] h = refl
-not_four_head (op ∷ []) h = refl
-not_four_head (op ∷ seat ∷ []) h = refl
-not_four_head (op ∷ seat ∷ a ∷ []) h = refl
-not_four_head (op ∷ seat ∷ a ∷ b ∷ []) h = absurd (h refl)
-not_four_head (op ∷ seat ∷ a ∷ b ∷ c ∷ more) h = refl
-
--- these items, and then what is read behind them
-abbrev pub with_items : List Item → Reading → Reading
-with_items items (Items more) = Items (items ++ more)
-with_items items (Refused row why) = Refused row why
+pub not_four_heading : (fields : List (List ℕ)) → length fields ≢ 4 → false ≡ is_heading fields
+not_four_heading [] h = refl
+not_four_heading (op ∷ []) h = refl
+not_four_heading (op ∷ seat ∷ []) h = refl
+not_four_heading (op ∷ seat ∷ a ∷ []) h = refl
+not_four_heading (op ∷ seat ∷ a ∷ b ∷ []) h = absurd (h refl)
+not_four_heading (op ∷ seat ∷ a ∷ b ∷ c ∷ more) h = refl

@@ -1,10 +1,8 @@
-pub mod Intake
-pub mod Lists
+pub mod Generate
 pub mod Number
 pub mod Parts
-pub mod Port
+pub mod Reader
 pub mod Records
+pub mod Row
 pub mod Sheet
 pub mod Status
-pub mod Text
-pub mod Write

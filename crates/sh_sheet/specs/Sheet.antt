@@ -1,104 +1,119 @@
--- What the rows of a sheet say.
-use Rattle.std.specs.Prelude.{ℕ, ◌≡◌, ◌+◌, ◌-◌, ◌^◌, ◌<◌, ◌==◌, Bool, false, ◌&&◌, nat_le, nat_lt, List, [], ◌∷◌, length, codes, Option, Some, None, option_map, if◌then◌else◌}
-use Rattle.std.specs.List.{slice_split}
-use Rattle.std.specs.Option.{option_and_then}
-use Rattle.std.specs.Str.{bytes_eq}
+-- What a sheet says.
+use Rattle.std.specs.Prelude.{ℕ, ◌≡◌, ◌+◌, ◌-◌, ◌<◌, ◌≤◌, ◌⊎◌, Bool, true, false, nat_le, List, [], ◌∷◌, ◌++◌, length, take, Option, Some, None, Result, Ok, Err, if◌then◌else◌}
+use Rattle.std.specs.List.{Contains, filter_map, slice_get, sum_by}
 use Rattle.sh_base.specs.declared.config.ConfigParts.{ConfigParts}
-use Rattle.sh_map.specs.declared.call.Call.{Call}
-use Rattle.sh_map.specs.declared.call.Call.TheVariants.{Get, Put, Del, Range}
+use Rattle.sh_base.specs.Setting.{all_seats}
+use Rattle.sh_map.specs.declared.call.Call.TheVariants.{Range}
 use Rattle.sh_map.specs.Calls.{IsInRange}
-use Rattle.sh_sheet.specs.Number.{number_of}
 use Rattle.sh_sheet.specs.Records.{records_in}
+use Rattle.sh_sheet.specs.Row.{item_in, is_heading}
 use Rattle.sh_sheet.specs.declared.status.RowCause.{RowCause}
-use Rattle.sh_sheet.specs.declared.status.RowCause.TheVariants as cause
+use Rattle.sh_sheet.specs.declared.item.Mode.{Mode}
 use Rattle.sh_sheet.specs.declared.item.Item.{Item}
-use Rattle.sh_sheet.specs.declared.item.Item.TheVariants.{Ask}
+use Rattle.sh_sheet.specs.declared.item.Item.TheVariants.{Ask, Mark, After, Turn}
 use Rattle.sh_sheet.specs.declared.item.SheetFault.{SheetFault}
 use Rattle.sh_sheet.specs.declared.item.SheetFault.TheVariants as fault
 
--- the parts of a text between its colons
-abbrev pub colon_parts : List ℕ → List (List ℕ)
-colon_parts text = slice_split (λ b. b == 58) text
+-- what a sheet is seen as: whether its first row is a heading, and the items of its other rows
+pub record Contents : Type 0 where
+  pub headed : Bool
+  pub items : List Item
 
--- a number, and the numbers behind it
-abbrev pub joined : Option ℕ → Option (List ℕ) → Option (List ℕ)
-joined (Some n) (Some ns) = Some (n ∷ ns)
-joined n ns = None
-
--- the numbers of these parts, if each is one
-abbrev pub numbers_of : List (List ℕ) → Option (List ℕ)
-numbers_of [] = Some []
-numbers_of (part ∷ parts) = joined (number_of part) (numbers_of parts)
-
--- the value of so many words that a field says, if it says one: its words as numbers, joined by colons
-abbrev pub value_in : ℕ → List ℕ → Option (List ℕ)
-value_in count text = if length (colon_parts text) == count then numbers_of (colon_parts text) else None
-
--- a number from 1 to 2^64-2
-abbrev pub key_of : ℕ → Option ℕ
-key_of n = if nat_le 1 n && nat_lt n (2 ^ 64 - 1) then Some n else None
-
--- the call that an operation, a key and a field b ask for, if they ask for one
-abbrev pub call_in : ConfigParts → List ℕ → ℕ → List ℕ → Option Call
-call_in p op key b =
-    if bytes_eq op (codes "put") then option_map (λ value. Put key value) (value_in p.value_words b)
-    else if bytes_eq op (codes "get") && length b == 0 then Some (Get key)
-    else if bytes_eq op (codes "del") && length b == 0 then Some (Del key)
-    else None
-
--- the item of a row, if it is a lawful put, get or del of seat 0
-abbrev pub item_in : ConfigParts → List (List ℕ) → Option Item
-item_in p (op ∷ seat ∷ a ∷ b ∷ []) =
-    option_and_then (λ n. if n == 0 then option_and_then (λ key. option_map (λ call. Ask 0 call) (call_in p op key b)) (option_and_then key_of (number_of a)) else None) (number_of seat)
-item_in p row = None
-
--- what a sheet says: its items, or the first row that is refused, and why
+-- what a sheet's bytes say: its items, behind a heading or not, or the first row that is refused, and why
 pub data Reading : Type 0 where
-  Items : List Item → Reading
+  Items : Bool → List Item → Reading
   Refused : ℕ → RowCause → Reading
 
--- the item of row n, and the reading of the rows behind it
-abbrev pub read_on : ℕ → Option Item → Reading → Reading
-read_on n None rest = Refused n cause.NotYet
-read_on n (Some item) (Items items) = Items (item ∷ items)
-read_on n (Some item) (Refused row why) = Refused row why
+-- the number of the row of item i, the first of which is item 0: rows are numbered from 1, and a heading is a row
+abbrev pub row_of : Bool → ℕ → ℕ
+row_of heading i = if heading then i + 2 else i + 1
 
--- the reading of these rows, the first of which is row n
-abbrev pub rows_from : ConfigParts → ℕ → List (List (List ℕ)) → Reading
-rows_from p n [] = Items []
-rows_from p n (row ∷ rows) = read_on n (item_in p row) (rows_from p (n + 1) rows)
+-- the number of a mark
+abbrev pub mark_of : Item → Option ℕ
+mark_of (Mark seat n) = Some n
+mark_of other = None
 
--- a row with exactly the fields op, seat, a, b
-abbrev pub is_head : List (List ℕ) → Bool
-is_head (op ∷ seat ∷ a ∷ b ∷ []) = bytes_eq op (codes "op") && bytes_eq seat (codes "seat") && bytes_eq a (codes "a") && bytes_eq b (codes "b")
-is_head row = false
+-- the numbers of the marks among these items
+abbrev pub marks_in : List Item → List ℕ
+marks_in found = filter_map mark_of found
 
--- the reading of all rows; they are numbered from 1, and a first row that is a head is skipped
-abbrev pub rows_in : ConfigParts → List (List (List ℕ)) → Reading
-rows_in p [] = Items []
-rows_in p (row ∷ rows) = if is_head row then rows_from p 2 rows else rows_from p 1 (row ∷ rows)
+-- the reading behind a row that gives this, behind i others: what follows its item, or its refusal
+abbrev pub row_then : Bool → ℕ → Result Item RowCause → (Item → Reading) → Reading
+row_then heading i (Ok item) next = next item
+row_then heading i (Err why) next = Refused (row_of heading i) why
+
+-- the reading of these rows, behind rows that gave these items
+abbrev pub rows_from : ConfigParts → Mode → Bool → List Item → List (List (List ℕ)) → Reading
+rows_from p mode heading found [] = Items heading found
+rows_from p mode heading found (row ∷ rows) = row_then heading (length found) (item_in p mode (marks_in found) row) (λ item. rows_from p mode heading (found ++ item ∷ []) rows)
+
+-- the reading of all rows; a first row that is a heading is skipped
+abbrev pub rows_in : ConfigParts → Mode → List (List (List ℕ)) → Reading
+rows_in p mode [] = Items false []
+rows_in p mode (row ∷ rows) = if is_heading row then rows_from p mode true [] rows else rows_from p mode false [] (row ∷ rows)
 
 -- the reading of a sheet's bytes
-abbrev pub sheet_of : ConfigParts → List ℕ → Reading
-sheet_of p bytes = rows_in p (records_in bytes)
+abbrev pub sheet_of : ConfigParts → Mode → List ℕ → Reading
+sheet_of p mode bytes = rows_in p mode (records_in bytes)
+
+-- whether an item is a call, as a number
+abbrev pub calls_of : Item → ℕ
+calls_of (Ask seat call) = 1
+calls_of other = 0
+
+-- the turns that an item asks for
+abbrev pub turns_of : Item → ℕ
+turns_of (Turn seat count) = count
+turns_of other = 0
+
+-- the most rows that an item's answer may have: for a range as many as it has numbers, and at most a range's buffer
+abbrev pub rows_of : ConfigParts → Item → ℕ
+rows_of p (Ask seat (Range low high)) = if nat_le p.rows (high - low) then p.rows else high - low
+rows_of p other = 0
 
 -- the most calls that a sheet may ask for
 abbrev pub most_calls : ℕ
 most_calls = 1000000
 
--- every row is lawful, and there are too many calls
-abbrev pub IsTooMany : Reading → Type 0
-IsTooMany (Items items) = most_calls < length items
-IsTooMany (Refused row why) = ⊥
+-- the most turns that a sheet may ask for
+abbrev pub most_turns : ℕ
+most_turns = 50000000
+
+-- the most rows that a sheet's ranges may be answered with
+abbrev pub most_rows : ℕ
+most_rows = 4194304
+
+-- there aren't too many calls, turns or rows of ranges
+pub record AreFew (p : ConfigParts) (found : List Item) : Type 0 where
+  pub calls : sum_by calls_of found ≤ most_calls
+  pub turns : sum_by turns_of found ≤ most_turns
+  pub rows : sum_by (rows_of p) found ≤ most_rows
+
+-- every row is lawful, and there are too many calls, turns or rows of ranges
+abbrev pub IsTooMany : ConfigParts → Reading → Type 0
+IsTooMany p (Items heading found) = (most_calls < sum_by calls_of found) ⊎ (most_turns < sum_by turns_of found) ⊎ (most_rows < sum_by (rows_of p) found)
+IsTooMany p (Refused row why) = ⊥
 
 -- why a sheet isn't read
-abbrev pub IsFault : Reading → SheetFault → Type 0
-IsFault reading (fault.Row row why) = reading ≡ Refused row why
-IsFault reading fault.TooMany = IsTooMany reading
-IsFault reading fault.NoMemory = Unit {0}
+abbrev pub IsFault : ConfigParts → Reading → SheetFault → Type 0
+IsFault p reading (fault.Row row why) = reading ≡ Refused row why
+IsFault p reading fault.TooMany = IsTooMany p reading
+IsFault p reading fault.NoMemory = Unit {0}
 
--- an item that a read sheet may have: a call of one key, in range for the setting, by seat 0
+-- an item's seat is one of the setting's, and its call is in range for the setting
 abbrev pub IsLawfulItem : ConfigParts → Item → Type 0
-IsLawfulItem p (Ask seat (Range low high)) = ⊥
-IsLawfulItem p (Ask seat call) = (seat ≡ 0) × IsInRange p call
-IsLawfulItem p item = ⊥
+IsLawfulItem p (Ask seat call) = (seat < all_seats p) × IsInRange p call
+IsLawfulItem p (Mark seat n) = seat < all_seats p
+IsLawfulItem p (After seat n) = seat < all_seats p
+IsLawfulItem p (Turn seat count) = seat < all_seats p
+
+-- behind marks of these numbers, a mark is new, and an after names one of them
+abbrev pub IsLawfulMark : List ℕ → Item → Type 0
+IsLawfulMark marks (Mark seat n) = Contains marks n → ⊥
+IsLawfulMark marks (After seat n) = Contains marks n
+IsLawfulMark marks other = Unit {0}
+
+-- each item is lawful behind the marks of the items before it: no two marks have one number, and an after names an
+-- earlier mark
+abbrev pub AreMarksLawful : List Item → Type 0
+AreMarksLawful found = (i : ℕ) (item : Item) → slice_get found i ≡ Some item → IsLawfulMark (marks_in (take i found)) item

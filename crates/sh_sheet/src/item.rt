@@ -4,7 +4,7 @@ ghost use Rattle.sh_sheet.specs.declared.item.SheetFault.TheVariants.{NoMemory};
 
 use crate::RowCause;
 use sh_map::Call;
-use std::alloc::AllocError;
+use std::alloc::{AllocError, AllocFailed};
 
 /// What a sheet is read for: a run by threads, or a replay.
 #[derive(Clone, Copy, Debug, PartialEq, Eq)]
@@ -41,6 +41,14 @@ impl From<AllocError> for SheetFault {
     ghost from_gives = { λ _ e. e ≡ NoMemory };
 
     fn from(_: AllocError) -> Self {
+        SheetFault::NoMemory
+    }
+}
+
+impl<T: Drop> From<AllocFailed<T>> for SheetFault {
+    ghost from_gives = { λ _ e. e ≡ NoMemory };
+
+    fn from(_: AllocFailed<T>) -> Self {
         SheetFault::NoMemory
     }
 }

@@ -1,28 +1,6 @@
 // The records of a sheet.
-ghost use Rattle.std.specs.Prelude.{◌≡◌, ◌∷◌, ◌++◌, [], codes, IfOk, map};
-ghost use Rattle.csv.specs.Records.{fields_of};
+ghost use Rattle.std.specs.Prelude.{◌≡◌, ◌∷◌, ◌++◌, [], codes};
 ghost use Rattle.sh_sheet.specs.Records.{records_in};
-
-use csv::{ByteRecord, ReaderBuilder};
-use std::alloc::{AllocError, Global};
-
-/// The records of these bytes: no header row, any number of fields, no trimming. The only error is want of memory.
-pub fn records_of(alloc: Global, bytes: &[u8]) -> Result<Vec<ByteRecord>, AllocError>
-    ensures { IfOk result (λ v. map fields_of v.items ≡ records_in bytes.now) }
-{
-    let reader = ReaderBuilder::new()
-        .has_headers(false)
-        .flexible(true)
-        .from_reader(alloc, bytes);
-    let mut records = Vec::new(alloc);
-    for read in reader.into_byte_records() {
-        match read {
-            Ok(record) => records.push(record)?,
-            Err(_) => return Err(AllocError),
-        }
-    }
-    Ok(records)
-}
 
 /// What some sheets say, as laws: how lines, quotes and marks are read.
 pub fn known_sheets()

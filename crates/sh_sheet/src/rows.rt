@@ -1,15 +1,19 @@
 // One row of a sheet.
-ghost use Rattle.std.specs.Prelude.{get_or, ◌≡◌, ◌≤◌, ◌∷◌, ◌==◌, [], length, ◌≢◌, Option, None, Some, MatchOption, option_map};
+ghost use Rattle.std.specs.Prelude.{get_or, ℕ, ◌≡◌, ◌≤◌, ◌∷◌, ◌==◌, [], length, ◌≢◌, Option, None, Some, MatchOption, option_map};
 ghost use Rattle.std.specs.List.{position};
-ghost use Rattle.std.specs.Option.{option_and_then};
 ghost use Rattle.csv.specs.Records.{fields_of};
 ghost use Rattle.sh_base.specs.Parts.{parts_of};
 ghost use Rattle.sh_sheet.specs.Number.{number_of};
-ghost use Rattle.sh_sheet.specs.Sheet.{call_in, colon_parts, is_head, item_in, key_of, value_in};
-ghost use Rattle.sh_sheet.specs.declared.item.Item.TheVariants.{Ask};
+ghost use Rattle.sh_sheet.specs.Row.{colon_parts, deed_of, is_heading, item_in, value_in};
+ghost use Rattle.sh_map.specs.declared.call.Call.TheVariants.{Put, Range};
+ghost use Rattle.sh_sheet.specs.Sheet.{marks_in};
+ghost use Rattle.sh_sheet.specs.Reader.{HasMarks};
+ghost use Rattle.sh_sheet.specs.declared.deed.Deed.TheVariants.{Ask};
 ghost use Rattle.sh_sheet.specs.Parts.{parts_behind};
 
-use crate::parse_number;
+use crate::deed::{Deed, Op};
+use crate::found::Found;
+use crate::{Item, Mode, RowCause, parse_number};
 use csv::ByteRecord;
 use sh_base::{Config, Value};
 use sh_map::Call;
@@ -55,43 +59,40 @@ fn parse_value(text: &[u8], count: usize) -> Option<Value>
     Some(Value::of(&words[..at]))
 }
 
-// A number that may be a key.
-fn parse_key(text: &[u8]) -> Option<u64>
-    ensures { result ≡ option_and_then key_of (number_of text.now) }
+// The put of a key and a field that says a value.
+fn put_of(words: u32, key: u64, b: &[u8]) -> Option<Deed>
+    requires low { 1 ≤ words }
+    requires high { words ≤ 8 }
+    ensures { result ≡ option_map (λ value. Ask (Put key value)) (value_in words b.now) }
 {
-    let key = parse_number(text)?;
-    if 1 <= key && key < u64::MAX {
-        Some(key)
-    } else {
-        None
-    }
+    let value = parse_value(b, words as usize)?;
+    Some(Deed::Ask(Call::Put { key, value }))
 }
 
-// The call that an operation, a key and a field ask for, if they ask for one.
-fn call_in(cfg: &Config, op: &[u8], key: u64, b: &[u8]) -> Option<Call>
-    ensures { result ≡ call_in (parts_of cfg.now) op.now key b.now }
+// The range from a low to a field that says a number.
+fn range_of(low: u64, b: &[u8]) -> Option<Deed>
+    ensures { result ≡ option_map (λ high. Ask (Range low high)) (number_of b.now) }
 {
-    if op == b"put".as_slice() {
-        let value = parse_value(b, cfg.value_words() as usize)?;
-        Some(Call::Put { key, value })
-    } else if op == b"get".as_slice() && b.is_empty() {
-        Some(Call::Get { key })
-    } else if op == b"del".as_slice() && b.is_empty() {
-        Some(Call::Del { key })
-    } else {
-        None
-    }
+    let high = parse_number(b)?;
+    Some(Deed::Ask(Call::Range { low, high }))
 }
 
-// The call that four fields ask for, by seat 0.
-fn call_of_fields(cfg: &Config, op: &[u8], seat: &[u8], a: &[u8], b: &[u8]) -> Option<Call>
-    ensures { option_map (λ call. Ask 0 call) result ≡ item_in (parts_of cfg.now) (op.now ∷ seat.now ∷ a.now ∷ b.now ∷ []) }
+// What an operation asks for with the number a and the field b, if b is as it has to be.
+fn deed_of(words: u32, op: Op, a: u64, b: &[u8]) -> Option<Deed>
+    requires low { 1 ≤ words }
+    requires high { words ≤ 8 }
+    ensures { result ≡ deed_of words op a b.now }
 {
-    if parse_number(seat)? != 0 {
-        return None;
+    match op {
+        Op::Put => put_of(words, a, b),
+        Op::Range => range_of(a, b),
+        _ if !b.is_empty() => None,
+        Op::Get => Some(Deed::Ask(Call::Get { key: a })),
+        Op::Del => Some(Deed::Ask(Call::Del { key: a })),
+        Op::Mark => Some(Deed::Mark(a)),
+        Op::After => Some(Deed::After(a)),
+        Op::Turn => Some(Deed::Turn(a)),
     }
-    let key = parse_key(a)?;
-    call_in(cfg, op, key, b)
 }
 
 // The fields of a row of four.
@@ -130,19 +131,59 @@ fn four_fields(row: &ByteRecord) -> Option<Fields<'_>>
     })
 }
 
-/// The call that a row asks for by seat 0, if it is a lawful put, get or del.
-#[tactic(auto, using(crate::proofs::RowFields::not_four))]
-pub(crate) fn call_of_row(cfg: &Config, row: &ByteRecord) -> Option<Call>
-    ensures { option_map (λ call. Ask 0 call) result ≡ item_in (parts_of cfg.now) (fields_of row.now) }
+// The item of four fields, or the first test that they fail.
+fn item_of_fields(
+    cfg: &Config,
+    mode: Mode,
+    found: &Found,
+    fields: Fields<'_>,
+) -> Result<Item, RowCause>
+    requires { HasMarks found.now.marks found.now.items.items }
+    ensures { result ≡ item_in (parts_of cfg.now) mode (marks_in found.now.items.items) (fields.entry.op.now ∷ fields.entry.seat.now ∷ fields.entry.a.now ∷ fields.entry.b.now ∷ []) }
 {
-    let fields = four_fields(row)?;
-    call_of_fields(cfg, fields.op, fields.seat, fields.a, fields.b)
+    let op = Op::named(fields.op).ok_or(RowCause::BadOp)?;
+    if !op.is_here(mode) {
+        return Err(RowCause::TurnNotHere);
+    }
+    let seat = parse_number(fields.seat).ok_or(RowCause::BadNumber)?;
+    let a = parse_number(fields.a).ok_or(RowCause::BadNumber)?;
+    let deed = deed_of(cfg.value_words(), op, a, fields.b).ok_or(RowCause::BadNumber)?;
+    if seat >= u64::from(cfg.all_seats()) {
+        return Err(RowCause::BadSeat);
+    }
+    if !deed.has_key() {
+        return Err(RowCause::BadKey);
+    }
+    if !deed.has_bounds() {
+        return Err(RowCause::BadBounds);
+    }
+    if !found.has_mark(&deed) {
+        return Err(RowCause::BadMark);
+    }
+    Ok(deed.by_seat(seat as u32))
 }
 
-/// Whether a row is the head of a sheet.
-#[tactic(auto, using(crate::proofs::RowFields::not_four_head))]
-pub(crate) fn is_head(row: &ByteRecord) -> bool
-    ensures { result ≡ is_head (fields_of row.now) }
+/// The item of a row behind what is found so far, or the first test that the row fails.
+#[tactic(auto, using(crate::proofs::RowFields::not_four))]
+pub(crate) fn item_in(
+    cfg: &Config,
+    mode: Mode,
+    found: &Found,
+    row: &ByteRecord,
+) -> Result<Item, RowCause>
+    requires { HasMarks found.now.marks found.now.items.items }
+    ensures { result ≡ item_in (parts_of cfg.now) mode (marks_in found.now.items.items) (fields_of row.now) }
+{
+    match four_fields(row) {
+        Some(fields) => item_of_fields(cfg, mode, found, fields),
+        None => Err(RowCause::FieldCount),
+    }
+}
+
+/// Whether a row is the heading of a sheet.
+#[tactic(auto, using(crate::proofs::RowFields::not_four_heading))]
+pub(crate) fn is_heading(row: &ByteRecord) -> bool
+    ensures { result ≡ is_heading (fields_of row.now) }
 {
     match four_fields(row) {
         Some(fields) => fields.op == b"op".as_slice()

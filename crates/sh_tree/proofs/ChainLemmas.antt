@@ -9,11 +9,10 @@ use Rattle.sh_image.specs.declared.inner.Pair.{Pair}
 use Rattle.sh_image.specs.declared.inner.Image.{Image}
 use Rattle.sh_image.specs.declared.inner.Image.TheVariants.{Leaf as LeafImage, Inner as InnerImage}
 use Rattle.sh_image.specs.Inner.{pairs_in, separator_at}
-use Rattle.sh_image.specs.Leaf.{IsLeaf}
 use Rattle.sh_image.proofs.InnerLemmas.{inner_spelled, inner_spelled_one}
 use Rattle.sh_image.proofs.LeafLemmas.{spelled_one}
 use Rattle.sh_tree.specs.Lists.{first_of, is_in, AreDifferent}
-use Rattle.sh_tree.specs.Nodes.{NodeIn, leaf_at, inner_at, low_at, high_at, next_at}
+use Rattle.sh_tree.specs.Nodes.{NodeIn, inner_at, low_at, high_at, next_at}
 use Rattle.sh_tree.specs.Tree.{IsChain, IsLeafOf, IsChildIn, IsInnerOf, AreLevels, top_of, leaves_of, IsTree, children_of}
 use Rattle.sh_tree.proofs.ListLemmas.{in_cases, in_head, in_front, all_join, few_nodes}
 
@@ -28,9 +27,6 @@ module _ (p : ConfigParts) (words : List ℕ) where
   -- ---- a node of a level
   abbrev pub IsFenced : ℕ → Type 0
   IsFenced n = low_at p words n < high_at p words n
-
-  pub leaf_of : (n : ℕ) → IsLeafOf p words n → IsLeaf p (leaf_at p words n)
-  leaf_of n h = h.spelled.lawful
 
   pub leaf_level : (n : ℕ) → IsLeafOf p words n → get_or (node_part p words n) 1 0 ≡ 0
   leaf_level n h = ap (λ l. get_or l 1 0) h.spelled.words

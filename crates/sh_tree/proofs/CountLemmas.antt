@@ -4,14 +4,13 @@ use Rattle.std.specs.List.{concat, AllByRecursion}
 use Rattle.std.proofs.lemmas.List.{length-map, take_more, drop_more, drop_all}
 use Rattle.std.proofs.Math.Nat.{min-eq_left}
 use Rattle.sh_base.specs.declared.config.ConfigParts.{ConfigParts}
-use Rattle.sh_base.specs.Setting.{nodes}
 use Rattle.sh_base.specs.Layout.{node_part}
 use Rattle.sh_image.proofs.InnerLemmas.{length-pairs_in}
 use Rattle.sh_tree.specs.Lists.{outside, AreDifferent}
 use Rattle.sh_tree.specs.Nodes.{inner_at}
 use Rattle.sh_tree.specs.Tree.{IsChain, IsInnerOf, AreLevels, IsTree, children_of, unnamed_from, unposted_in}
 use Rattle.sh_tree.proofs.ListLemmas.{all_at, outside_none, outside_head, outside_all, different_front, different_behind}
-use Rattle.sh_tree.proofs.ChainLemmas.{top_chain, top_fenced, child_first, children_rise, children_among, rising_differ, all_nodes}
+use Rattle.sh_tree.proofs.ChainLemmas.{top_chain, top_fenced, child_first, children_rise, children_among, rising_differ}
 
 module _ (p : ConfigParts) (words : List ℕ) where
   -- the same number, by lengths: each level's nodes, less so many as are named
@@ -89,8 +88,6 @@ module _ (p : ConfigParts) (words : List ℕ) where
       left_on level (drop (i + 1) levels) named more count total (subst (λ (l : List ℕ). AreLevels p words (l ∷ drop (i + 1) levels)) (sym is) (level_at levels i h below)) pairs
       (subst (λ (l : List ℕ). count + left_over named (l ∷ drop (i + 1) levels) ≡ total) (sym is) (ap (λ l. count + left_over named l) (sym (drop_more levels i [] below)) ∙ so_far))
 
-  -- what is left over when all levels are counted, of a tree, fits the pool's nodes
-  pub all_counted : (levels : List (List ℕ)) (i named count : ℕ) → IsTree p words levels → length levels ≤ i → count + left_over named (drop i levels) ≡ left_over 1 levels → (count ≡ unposted_in p words levels) × (count ≤ nodes p)
-  all_counted levels i named count h past so_far =
-      let none : left_over named (drop i levels) ≡ 0 = ap (left_over named) (drop_all i levels past) in
-      (omega (arith, so_far, none, unposted_left levels h), omega (arith, so_far, none, left_few 1 levels, all_nodes p words levels h))
+  -- when all levels are counted nothing is left over
+  pub all_counted : (levels : List (List ℕ)) (i named count : ℕ) → IsTree p words levels → length levels ≤ i → count + left_over named (drop i levels) ≡ left_over 1 levels → count ≡ unposted_in p words levels
+  all_counted levels i named count h past so_far = omega (arith, so_far, ap (left_over named) (drop_all i levels past), unposted_left levels h)

@@ -1,10 +1,10 @@
 -- The map that the leaves hold, leaf by leaf.
-use Rattle.std.proofs.Common.{◌≡◌, ◌≢◌, ◌⊎◌, ℕ, zero, suc, ◌+◌, ◌-◌, ◌<◌, ◌≤◌, Bool, true, false, cond, Option, Some, None, List, [], ◌∷◌, ◌++◌, length, get_or, eqb, drop, take, refl, sym, ap, subst, ◌∙◌, inl, inr, arith}
+use Rattle.std.proofs.Common.{◌≡◌, ◌⊎◌, ℕ, zero, suc, ◌+◌, ◌-◌, ◌<◌, ◌≤◌, Bool, true, false, cond, Option, Some, None, List, [], ◌∷◌, ◌++◌, length, get_or, eqb, drop, take, refl, sym, ap, subst, ◌∙◌, inl, inr, arith}
 use Rattle.std.specs.Prelude.{slice_get}
 use Rattle.std.specs.List.{AllByRecursion}
 use Rattle.std.specs.Ordering.{nat_cmp, eq_by_cmp}
 use Rattle.std.specs.Cmp.{nat_cmp_total}
-use Rattle.std.specs.FinMap.{find, from_entries, get-from_entries, empty}
+use Rattle.std.specs.FinMap.{find, from_entries, get-from_entries}
 use Rattle.std.proofs.lemmas.Bool.{cases_eq, cases_lt}
 use Rattle.std.proofs.lemmas.List.{drop_more, append-nil, take_more}
 use Rattle.std.proofs.lemmas.List.Concat.{flat_map-append}
@@ -12,7 +12,7 @@ use Rattle.std.proofs.lemmas.Option.{get_or_from_slice_get}
 use Rattle.sh_base.specs.declared.config.ConfigParts.{ConfigParts}
 use Rattle.sh_base.specs.Setting.{node_size}
 use Rattle.sh_base.specs.Layout.{node_word, node_part}
-use Rattle.sh_map.specs.Map.{Map, put}
+use Rattle.sh_map.specs.Map.{Map}
 use Rattle.sh_map.proofs.MapLemmas.{same_by_keys}
 use Rattle.sh_image.specs.declared.leaf.LeafEntry.{LeafEntry}
 use Rattle.sh_image.specs.Leaf.{Leaf, IsEntry, Spells}
@@ -24,13 +24,6 @@ use Rattle.sh_tree.specs.Tree.{IsChain, IsLeafOf, pairs_along}
 use Rattle.sh_tree.specs.Adding.{Adds}
 
 -- ---- a leaf's entries, from the last to the first
-by_test : (b : Bool) (e : LeafEntry) (es : List LeafEntry) (pairs : List (ℕ × List ℕ)) (old new : Map) → eqb e.key 0 ≡ b → old ≡ from_entries pairs → (b ≡ true → new ≡ old) → (b ≡ false → new ≡ put old e.key e.value) → new ≡ from_entries (pairs_of (e ∷ []) ++ pairs)
-by_test true e es pairs old new is before empty some = rw is (empty refl ∙ before)
-by_test false e es pairs old new is before empty some = rw is (some refl ∙ ap (λ (m : Map). put m e.key e.value) before)
-
-pub added : (e : LeafEntry) (old new : Map) → (e.key ≡ 0 → new ≡ old) → (e.key ≢ 0 → new ≡ put old e.key e.value) → Adds old (e ∷ []) new
-added e old new empty some pairs before = by_test (eqb e.key 0) e [] pairs old new refl before (λ is. empty (grind (arith, is))) (λ is. some (grind (arith, is)))
-
 one_before : (b : Bool) (e : LeafEntry) (es : List LeafEntry) (pairs : List (ℕ × List ℕ)) → eqb e.key 0 ≡ b → pairs_of (e ∷ []) ++ (pairs_of es ++ pairs) ≡ pairs_of (e ∷ es) ++ pairs
 one_before true e es pairs is = rw is refl
 one_before false e es pairs is = rw is refl
@@ -65,9 +58,6 @@ turned xs ys apart = same_by_keys _ _ (λ q. get-from_entries nat_cmp_total (xs 
 ] ∙ sym (get-from_entries nat_cmp_total (ys ++ xs) q))
 
 module _ (p : ConfigParts) (words : List ℕ) where
-  entries_of : ℕ → List LeafEntry
-  entries_of n = (leaf_at p words n).entries
-
   -- the words that are read as a leaf's
   pub part_is : (n at size : ℕ) → at ≡ node_word p n → size ≡ node_size p → take (at + size - at) (drop at words) ≡ node_part p words n
   part_is n at size is long = let e : at + size - at ≡ node_size p = omega (arith, long) in λ t. take (e t) (drop (is t) words)

@@ -32,10 +32,6 @@ in_front (x ∷ xs) ys n h = elim (in_cases x n xs h) [
   | inr rest ↦ in_more x n (xs ++ ys) (in_front xs ys n rest)
 ]
 
-pub in_behind : (xs ys : List ℕ) (n : ℕ) → is_in ys n ≡ true → is_in (xs ++ ys) n ≡ true
-in_behind [] ys n h = h
-in_behind (x ∷ xs) ys n h = in_more x n (xs ++ ys) (in_behind xs ys n h)
-
 -- all that a list has passes what its elements pass
 pub all_in : (P : ℕ → Type 0) (xs : List ℕ) (n : ℕ) → AllByRecursion P xs → is_in xs n ≡ true → P n
 all_in P [] n h among = absurd (cc)

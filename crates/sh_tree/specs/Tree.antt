@@ -70,8 +70,8 @@ map_in p words levels = from_entries (pairs_along p words (leaves_of levels))
 abbrev pub children_of : ConfigParts → List ℕ → List ℕ → List ℕ
 children_of p words nodes = flat_map (λ n. map (λ x. x.child) (inner_at p words n).pairs) nodes
 
--- the nodes of the levels that aren't the first of theirs and aren't named by the level above; above the top one stands
--- a level that names these
+-- How many nodes of these levels aren't the first of theirs and aren't named by the level above. The level above all of
+-- them names the nodes `named`.
 abbrev pub unnamed_from : ConfigParts → List ℕ → (named : List ℕ) → List (List ℕ) → ℕ
 unnamed_from p words named [] = 0
 unnamed_from p words named (chain ∷ below) = outside named (drop 1 chain) + unnamed_from p words (children_of p words chain) below

@@ -13,12 +13,12 @@ none c = subst (λ xs. HasNone xs c.args.image.low) c.deref.ensures.value (subst
 pub invariant_of-self : goal.invariant_of-self
 invariant_of-self c =
     let i = c.self.inside in
-    subst (IsCache i.room i.rows.cap) (sym (replaced_is i.rows.items c.args.image c.in-Some.at (there c))) (cache_replaced i.room i.rows.cap i.rows.items c.args.image c.self.invariant)
+    subst (IsCache i.room i.rows.cap) (sym (replaced_is i.rows.items c.args.image c.in-Some.at (there c))) (cache_replaced i.room i.rows.cap i.rows.items c.args.image c.requires c.self.invariant)
 
 pub invariant_of-self-in-None : goal.invariant_of-self-in-None
 invariant_of-self-in-None c =
     let i = c.self.inside in
-    rw (c.add.ensures.rows, c.add.ensures.capacity) (cache_added i.room i.rows.cap i.rows.items c.args.image (none c) c.self.invariant)
+    rw (c.add.ensures.rows, c.add.ensures.capacity) (cache_added i.room i.rows.cap i.rows.items c.args.image c.requires (none c) c.self.invariant)
 
 pub returns-in-Some : goal.returns-in-Some
 returns-in-Some c =

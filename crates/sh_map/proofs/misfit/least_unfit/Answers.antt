@@ -3,9 +3,9 @@ use Rattle.std.proofs.lemmas.Bool.{false≢true}
 use Rattle.std.proofs.lemmas.List.{take_all}
 use Rattle.sh_map.specs.declared.book.Done.{Done}
 use Rattle.sh_map.specs.Judge.{FitsRule}
-use Rattle.sh_map.proofs.JudgeLemmas.{SoFar, more_fit, more_unfit}
+use Rattle.sh_map.proofs.JudgeLemmas.{SoFar, kept_at, more_fit, more_unfit}
 use Rattle.sh_map.proofs.misfit.least_unfit.Goals as goal
-use Rattle.sh_map.proofs.misfit.least_unfit.Goals.{then-not-branch, else-not-branch}
+use Rattle.sh_map.proofs.misfit.least_unfit.Goals.{then-not-index, else-not-index}
 
 pub loop-at-preserved : goal.loop-at-preserved
 loop-at-preserved c =
@@ -14,9 +14,10 @@ loop-at-preserved c =
     let at = c.loop-at.at in
     let done = c.index-dones-at.result in
     let SoFarNow : Option ℕ → Type 0 = λ least. SoFar Fits (take (at + 1) dones) least in
-    elim c.if-not-branch.branch [
-      | then-not-branch w ↦ subst SoFarNow (sym w.least-is) (more_unfit Fits dones at done c.loop-at-test.true c.index-dones-at.is c.loop-at.least w.least_with.result c.loop-at.invariant (λ fits. false≢true (sym w.if-not-branch.true ∙ c.in_ok-keeps.ensures.1 fits)) w.least_with.ensures)
-      | else-not-branch w ↦ subst SoFarNow (sym w.least-is) (more_fit Fits dones at done c.loop-at-test.true c.index-dones-at.is c.loop-at.least c.loop-at.invariant (c.in_ok-keeps.ensures.0 w.if-not-branch.false))
+    let told = kept_at Fits dones c.in_ok-kept.kept.items at done c.index.result.now c.in_ok-kept.ensures c.loop-at-test.true c.index-dones-at.is c.index.ensures in
+    elim c.if-not-index.branch [
+      | then-not-index w ↦ subst SoFarNow (sym w.least-is) (more_unfit Fits dones at done c.loop-at-test.true c.index-dones-at.is c.loop-at.least w.least_with.result c.loop-at.invariant (λ fits. false≢true (sym w.if-not-index.true ∙ told.1 fits)) w.least_with.ensures)
+      | else-not-index w ↦ subst SoFarNow (sym w.least-is) (more_fit Fits dones at done c.loop-at-test.true c.index-dones-at.is c.loop-at.least c.loop-at.invariant (told.0 w.if-not-index.false))
     ]
 
 pub returns : goal.returns

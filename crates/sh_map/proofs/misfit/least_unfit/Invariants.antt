@@ -4,4 +4,4 @@ use Rattle.sh_map.proofs.JudgeLemmas.{SoFar}
 use Rattle.sh_map.proofs.misfit.least_unfit.Given as goal
 
 abbrev pub invariant-loop-at : goal.invariant-loop-at
-invariant-loop-at l = SoFar (FitsRule l.rule l.log) (take l.at l.dones) l.least
+invariant-loop-at l = SoFar (FitsRule l.fn.rule l.fn.log) (take l.at l.dones) l.least

@@ -1,12 +1,9 @@
-use Rattle.std.proofs.Common.{◌≡◌, ◌≤◌, ◌+◌, ◌-◌, length, drop, map, vec_len}
-use Rattle.std.specs.Vec.{vec_capacity}
-use Rattle.csv.specs.Records.{fields_of}
+use Rattle.std.proofs.Common.{Bor, List, ℕ, Some}
 use Rattle.sh_base.specs.Parts.{parts_of}
-use Rattle.sh_sheet.specs.Sheet.{rows_from}
-use Rattle.sh_sheet.proofs.RowFields.{with_items}
+use Rattle.sh_sheet.specs.Reader.{HasMarks}
+use Rattle.sh_sheet.proofs.RowSteps.{IsTaking}
 use Rattle.sh_sheet.proofs.sheet.read_rows.Given as goal
 
-abbrev pub invariant-loop-row : goal.invariant-loop-row
-invariant-loop-row l = (l.number ≡ l.first + l.row-index)
-    × (vec_len l.items + (length l.rows - l.row-index) ≤ vec_capacity l.items)
-    × (rows_from (parts_of l.cfg) l.first (map fields_of l.rows) ≡ with_items l.items.items (rows_from (parts_of l.cfg) l.number (map fields_of (drop l.row-index l.rows))))
+abbrev pub invariant-loop-read : goal.invariant-loop-read
+invariant-loop-read l = HasMarks l.found.marks l.found.items.items
+    × IsTaking (λ (s : Bor (List ℕ)). Some s.now) (parts_of l.cfg) l.mode l.fn.bytes l.found.headed l.found.items.items l.read-iterator.rdr l.read-iterator.left

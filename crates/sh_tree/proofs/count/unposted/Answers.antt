@@ -29,4 +29,4 @@ pub returns : goal.returns
 returns c = λ levels h.
     let p = c.args.cfg.now.parts in
     let firsts : c.deref-first-items.result.now ≡ map first_of levels = c.deref-first-items.ensures.value ∙ c.in_ok-firsts.ensures.firsts levels h in
-    (all_counted p c.args.words.now levels c.loop-first.first-index c.loop-first.named c.loop-first.count h (omega (arith, c.loop-first-test.false, ap length firsts, length-map levels first_of)) (c.loop-first.invariant levels h)).0
+    all_counted p c.args.words.now levels c.loop-first.first-index c.loop-first.named c.loop-first.count h (omega (arith, c.loop-first-test.false, ap length firsts, length-map levels first_of)) (c.loop-first.invariant levels h)

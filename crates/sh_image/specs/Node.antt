@@ -1,0 +1,29 @@
+-- Leaves and inner nodes alike: one relation between words and the node that they spell.
+use Rattle.std.specs.Prelude.{ℕ, List}
+use Rattle.sh_base.specs.declared.config.ConfigParts.{ConfigParts}
+use Rattle.sh_image.specs.Leaf.{leaf_words, IsLeaf, Spells}
+use Rattle.sh_image.specs.Inner.{inner_words, IsInner, SpellsInner}
+use Rattle.sh_image.specs.declared.inner.Image.{Image}
+use Rattle.sh_image.specs.declared.inner.Image.TheVariants.{Leaf, Inner}
+use Rattle.sh_image.specs.declared.read.Seen.{Seen}
+use Rattle.sh_image.specs.declared.read.Seen.TheVariants.{Leaf as LeafSeen, Inner as InnerSeen}
+
+-- the words of a node
+abbrev pub words_of : ConfigParts → Image → List ℕ
+words_of p (Leaf a) = leaf_words a
+words_of p (Inner a) = inner_words p a
+
+-- it meets the rules of its kind
+abbrev pub IsImage : ConfigParts → Image → Type 0
+IsImage p (Leaf a) = IsLeaf p a
+IsImage p (Inner a) = IsInner p a
+
+-- the words spell this node, and it meets the rules
+abbrev pub SpellsImage : ConfigParts → List ℕ → Image → Type 0
+SpellsImage p ws (Leaf a) = Spells p ws a
+SpellsImage p ws (Inner a) = SpellsInner p ws a
+
+-- what a reader answers where it sees this node
+abbrev pub seen_of : Image → Seen
+seen_of (Leaf a) = LeafSeen a
+seen_of (Inner a) = InnerSeen a

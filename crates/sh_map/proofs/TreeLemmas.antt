@@ -1,0 +1,64 @@
+-- What a tree of keys and values says as a map.
+use Rattle.std.proofs.Common.{◌≡◌, ℕ, ◌<◌, ◌≤◌, List, [], ◌∷◌, ◌++◌, Some, None, inl, inr, refl, sym, ap, subst, ◌∙◌, cond, true, arith, Less, Equal, false}
+use Rattle.std.specs.Prelude.{All, Contains, IsSome}
+use Rattle.std.specs.declared.ops.Bound.TheVariants.{Included, Excluded}
+use Rattle.std.specs.Ordering.{nat_cmp, eq_by_cmp, is_gt}
+use Rattle.std.specs.Cmp.{nat_cmp_total, nat_cmp_is}
+use Rattle.std.specs.FinMap.{find, from_entries, get-from_entries}
+use Rattle.std.specs.Map.{lookup, keys_of}
+use Rattle.std.specs.BTreeMap.{BTreeMap, is_at, Updates}
+use Rattle.std.specs.BTreeMap as tree
+use Rattle.std.specs.BTreeMap.Range.{IsInRange, entries_between, range_contains}
+use Rattle.std.proofs.lemmas.Map.Keys.{le_from_not_gt}
+use Rattle.std.proofs.lemmas.Map.Entries.{lookup-filter-keys}
+use Rattle.std.proofs.lemmas.Map.Views.{range_contains-from_IsInRange, Contains-keys_from_lookup, tells_apart}
+use Rattle.std.proofs.lemmas.Map.Lookups.{exact_unsigned}
+use Rattle.std.proofs.lemmas.List.Elements.{All-map}
+use Rattle.std.proofs.lemmas.List.{append-nil, append_assoc}
+use Rattle.std.proofs.lemmas.Bool.{cases_lt}
+use Rattle.std.proofs.lemmas.Cmp.{ranked}
+use Rattle.sh_map.specs.Map.{get, put, del}
+use Rattle.sh_map.proofs.MapLemmas.{apart_test, is_put, is_del}
+use Rattle.sh_map.proofs.RowsLemmas.{less_is}
+
+find_is_lookup : (q : ℕ) (es : List (ℕ × List ℕ)) → find nat_cmp q es ≡ lookup (is_at (nat_cmp q)) es
+find_is_lookup q [] = refl
+find_is_lookup q (e ∷ es) = ap (cond (eq_by_cmp nat_cmp q e.0) (Some e.1)) (find_is_lookup q es)
+
+pub tree_get : (t : BTreeMap ℕ (List ℕ)) (q : ℕ) → get (from_entries t.entries) q ≡ tree.get nat_cmp t q
+tree_get t q = get-from_entries nat_cmp_total t.entries q ∙ find_is_lookup q t.entries
+
+module _ (old new : BTreeMap ℕ (List ℕ)) (key : ℕ) where
+  pub tree_put : (value : List ℕ) → Updates nat_cmp old new key (Some value) → from_entries new.entries ≡ put (from_entries old.entries) key value
+  tree_put value h = is_put _ _ key value (tree_get new key ∙ h.1) (λ q differ. tree_get new q ∙ h.2 q (apart_test key q (λ e. differ (sym e))) ∙ sym (tree_get old q))
+
+  pub tree_del : Updates nat_cmp old new key None → from_entries new.entries ≡ del (from_entries old.entries) key
+  tree_del h = is_del _ _ key (tree_get new key ∙ h.1) (λ q differ. tree_get new q ∙ h.2 q (apart_test key q (λ e. differ (sym e))) ∙ sym (tree_get old q))
+
+-- a walk over the entries of a part of the tree, one on
+pub keys_more : (old : List ℕ) (rest new : List (ℕ × List ℕ)) (e : ℕ × List ℕ) (all : List ℕ) → old ++ keys_of rest ≡ all → rest ≡ e ∷ new → (old ++ e.0 ∷ []) ++ keys_of new ≡ all
+keys_more old rest new e all h is = append_assoc old (e.0 ∷ []) (keys_of new) ∙ ap (λ es. old ++ keys_of es) (sym is) ∙ h
+
+pub keys_all : (old : List ℕ) (rest : List (ℕ × List ℕ)) (all : List ℕ) → old ++ keys_of rest ≡ all → rest ≡ [] → old ≡ all
+keys_all old rest all h is = sym (append-nil old) ∙ ap (λ es. old ++ keys_of es) (sym is) ∙ h
+
+not_gt_from_le : (a b : ℕ) → a ≤ b → is_gt (nat_cmp a b) ≡ false
+not_gt_from_le a b h = elim (cases_lt a b) [
+  | inl below ↦ ap is_gt (sym (nat_cmp_is a b Less below))
+  | inr above ↦ let same : a ≡ b = omega arith in ap is_gt (sym (nat_cmp_is a b Equal same))
+]
+
+-- the keys of the part from low up to but without upto
+module _ (t : BTreeMap ℕ (List ℕ)) (low upto : ℕ) (part : List (ℕ × List ℕ)) where
+  pub keys_within : All (λ e. IsInRange nat_cmp (Included low) (Excluded upto) e.0) part → All (λ key. (low ≤ key) × (key < upto)) (keys_of part)
+  keys_within h = All-map (λ key. (low ≤ key) × (key < upto)) (λ (e : ℕ × List ℕ). e.0) part (λ k d lt. let r = h k d lt in (le_from_not_gt low _ r.0, ranked _ upto Less (sym r.1)))
+
+  is_in_range : (key : ℕ) → low ≤ key → key < upto → IsInRange nat_cmp (Included low) (Excluded upto) key
+  is_in_range key above below = (not_gt_from_le low key above, less_is key upto below)
+
+  pub keys_each : part ≡ entries_between nat_cmp (Included low) (Excluded upto) t.entries → (key : ℕ) → low ≤ key → key < upto → IsSome (tree.get nat_cmp t key) → Contains (keys_of part) key
+  keys_each is key above below some =
+      let inside : (k : ℕ) → is_at (nat_cmp key) k ≡ true → range_contains nat_cmp (Included low) (Excluded upto) k ≡ true =
+      λ k same. subst (λ x. range_contains nat_cmp (Included low) (Excluded upto) x ≡ true) (tells_apart exact_unsigned key k same) (range_contains-from_IsInRange nat_cmp_total (Included low) (Excluded upto) key (is_in_range key above below)) in
+      let found : lookup (is_at (nat_cmp key)) part ≡ tree.get nat_cmp t key = ap (lookup (is_at (nat_cmp key))) is ∙ lookup-filter-keys (is_at (nat_cmp key)) (range_contains nat_cmp (Included low) (Excluded upto)) true inside t.entries in
+      Contains-keys_from_lookup (tells_apart exact_unsigned) key part (subst IsSome (sym found) some)

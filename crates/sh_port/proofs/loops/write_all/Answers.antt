@@ -1,0 +1,23 @@
+use Rattle.std.proofs.Common.{arith, drop, length-drop, length-take, sym, take, ◌∙◌}
+use Rattle.std.proofs.lemmas.List.{take-append-drop}
+use Rattle.std.proofs.lemmas.Result.{err_from_is_err_and}
+use Rattle.sh_port.proofs.Bytes.{appends_keeps, appends_take}
+use Rattle.sh_port.proofs.loops.write_all.Goals as goal
+
+pub writes-preserved : goal.writes-preserved
+writes-preserved g c =
+    let bound = simp (length-take, length-drop) at c.in_ok-at.ensures.bound in (
+      omega arith,
+      appends_take _ _ _ _ _ _ c.writes.invariant.1 c.in_ok-at.ensures.bytes,
+      c.in_ok-at.ensures.cause.ok ∙ c.writes.invariant.2,
+    )
+
+pub returns-in_err-at-clause-err : goal.returns-in_err-at-clause-err
+returns-in_err-at-clause-err g c =
+    let p = err_from_is_err_and c.from_residual.result c.from_residual.ensures.1 in
+    rw p.1 (record {
+      front = take c.writes.at c.args.piece.now;
+      rest = drop c.writes.at c.args.piece.now;
+      whole = sym (take-append-drop c.writes.at c.args.piece.now);
+      written = appends_keeps _ _ _ _ c.writes.invariant.1 c.in_err-at.ensures.bytes;
+    })

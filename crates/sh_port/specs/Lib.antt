@@ -1,0 +1,3 @@
+pub mod Intake
+pub mod Lists
+pub mod Port

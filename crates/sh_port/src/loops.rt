@@ -1,0 +1,61 @@
+// A whole input read, and a whole text written.
+ghost use Rattle.std.specs.Prelude.{◌≡◌, OnOk, OnErr, MatchResult};
+ghost use Rattle.std.specs.Io.KnownBytes.{Appends};
+ghost use Rattle.sh_port.specs.Port.{HasCause, AppendsFront};
+ghost use Rattle.sh_port.specs.Intake.{TookAll, StoppedBy};
+
+use crate::{Failed, Sink, Source};
+use std::alloc::Global;
+
+/// The bytes of an input.
+pub type Bytes = Vec<u8>;
+
+/// The most bytes of an input: 16 MiB.
+pub const MOST_BYTES: usize = 16_777_216;
+
+/// Why an input wasn't read.
+#[derive(Clone, Copy, Debug, PartialEq, Eq)]
+pub enum Intake {
+    /// A call of the source failed.
+    Fault,
+    /// There are more than [`MOST_BYTES`] bytes.
+    TooLong,
+    /// Memory is wanting.
+    NoMemory,
+}
+
+/// All the bytes that are left. `Ok` comes only where the source's last answer was the end, `Fault` only where its
+/// count of faults rose, and `TooLong` exactly where one byte more than [`MOST_BYTES`] was taken.
+pub fn read_all<S: Source>(alloc: Global, source: &mut S) -> Result<Bytes, Intake>
+    ensures { MatchResult result (λ v. TookAll (S.left source.old) (S.left source.new) (S.faults source.old) (S.faults source.new) v.items) (λ e. StoppedBy (S.left source.old) (S.left source.new) (S.faults source.old) (S.faults source.new) e) }
+{
+    let mut bytes = Vec::new(alloc);
+    let mut buffer = [0u8; 4096];
+    'reads: while bytes.len() <= MOST_BYTES {
+        let room = (MOST_BYTES + 1 - bytes.len()).min(4096);
+        let n = match source.read(&mut buffer[..room]) {
+            Ok(n) => n,
+            Err(_) => return Err(Intake::Fault),
+        };
+        if n == 0 {
+            return Ok(bytes);
+        }
+        if bytes.extend_from_slice(&buffer[..n]).is_err() {
+            return Err(Intake::NoMemory);
+        }
+    }
+    Err(Intake::TooLong)
+}
+
+/// Writes the whole piece. Where a call of the sink fails, the sink holds a front of the piece more.
+pub fn write_all<K: Sink>(sink: &mut K, piece: &[u8]) -> Result<(), Failed>
+    ensures ok { OnOk result (Appends (K.held sink.old) (K.held sink.new) piece.now) }
+    ensures err { OnErr result (AppendsFront (K.held sink.old) (K.held sink.new) piece.now) }
+    ensures cause { HasCause (K.faults sink.old) (K.faults sink.new) result }
+{
+    let mut at = 0;
+    'writes: while at < piece.len() {
+        at += sink.write(&piece[at..])?;
+    }
+    Ok(())
+}

@@ -1,0 +1,54 @@
+-- A READ's answers by their causes.
+use Rattle.std.proofs.Common.{◌≡◌, ℕ, ◌≤◌, Bool, true, false, List, length, refl, ap, subst, sym, inl, inr, arith}
+use Rattle.std.specs.Prelude.{nat_lt, if◌then◌else◌, Option, Some, None}
+use mathlib.Core.Bool.{false≢true}
+use Rattle.std.proofs.lemmas.Bool.Decides.{nat_tests}
+use Rattle.sh_base.specs.declared.config.ConfigParts.{ConfigParts}
+use Rattle.sh_base.specs.Setting.{node_size}
+use Rattle.sh_image.specs.declared.inner.Image.{Image}
+use Rattle.sh_image.specs.declared.inner.Image.TheVariants.{Leaf as LeafImage, Inner as InnerImage}
+use Rattle.sh_image.specs.declared.read.Seen.{Seen}
+use Rattle.sh_image.specs.declared.read.Seen.TheVariants.{Leaf as LeafSeen, Inner as InnerSeen, Torn, TornEntry, Odd as OddSeen}
+use Rattle.sh_image.specs.Seen.{SeenBy}
+use Rattle.sh_read.specs.declared.state.Progress.TheVariants.{More}
+use Rattle.sh_read.specs.Judging.{seen_of}
+use Rattle.sh_read.specs.Reads.{Reads, accepted, answer_to, image_in, progress_with}
+use Rattle.sh_read.specs.Causes.{seen_as, AnsweredBy}
+use Rattle.sh_read.proofs.JudgingLemmas.{judged_by}
+
+not_less_test : (a b : ℕ) → b ≤ a → nat_lt a b ≡ false
+not_less_test a b h = grind (arith, nat_tests)
+
+module _ (p : ConfigParts) (words : List ℕ) where
+  answered : (seen : Seen) → SeenBy p words seen → AnsweredBy p words (answer_to seen)
+  answered (LeafSeen a) h = (LeafImage a, h)
+  answered (InnerSeen a) h = (InnerImage a, h)
+  answered (Torn rear front) h = inl h
+  answered (TornEntry index rear front) h = inr (index, h)
+  answered OddSeen h = h
+
+  pub answered_by : 1 ≤ p.value_words → length words ≡ node_size p → AnsweredBy p words (progress_with p words)
+  answered_by some long = subst (λ b. AnsweredBy p words (if b then More else answer_to (seen_of p words))) (sym (not_less_test (length words) (node_size p) (omega (arith, long)))) (answered (seen_of p words) (judged_by p words some long))
+
+-- the image is the one that was seen
+abbrev is_there : Option Image → Bool
+is_there None = false
+is_there (Some image) = true
+
+abbrev given : Image → Option Image → Image
+given other None = other
+given other (Some image) = image
+
+seen_image : (seen : Seen) (image : Image) → image_in seen ≡ Some image → seen ≡ seen_as image
+seen_image (LeafSeen a) image h = ap (λ o. seen_as (given (LeafImage a) o)) h
+seen_image (InnerSeen a) image h = ap (λ o. seen_as (given (InnerImage a) o)) h
+seen_image (Torn rear front) image h = absurd (false≢true (ap is_there h))
+seen_image (TornEntry index rear front) image h = absurd (false≢true (ap is_there h))
+seen_image OddSeen image h = absurd (false≢true (ap is_there h))
+
+pub image_spelled : (p : ConfigParts) → 1 ≤ p.value_words → (r : Reads) (image : Image) → length r.loaded ≤ node_size p → accepted p r ≡ Some image → SeenBy p r.loaded (seen_as image)
+image_spelled p some r image few h = by (nat_lt (length r.loaded) (node_size p)) refl
+  where
+    by : (b : Bool) → nat_lt (length r.loaded) (node_size p) ≡ b → SeenBy p r.loaded (seen_as image)
+    by true e = absurd (false≢true (ap is_there (rw e at h)))
+    by false e = subst (SeenBy p r.loaded) (seen_image (seen_of p r.loaded) image (rw e at h)) (judged_by p r.loaded some (grind (arith, nat_tests, e, few)))

@@ -1,0 +1,123 @@
+-- The words that a READ keeps, as they are loaded.
+use Rattle.std.proofs.Common.{◌≡◌, ◌≢◌, ℕ, zero, suc, ◌+◌, ◌-◌, ◌<◌, ◌≤◌, Bool, true, false, List, [], ◌∷◌, length, take, drop, set, refl, sym, ap, ◌∙◌, length-drop, arith}
+use Rattle.std.specs.Prelude.{nat_lt, Some, None}
+use Rattle.std.proofs.lemmas.Bool.Decides.{nat_tests}
+use Rattle.std.proofs.lemmas.List.{drop_all, length-set, length-take-le}
+use Rattle.sh_base.specs.declared.config.ConfigParts.{ConfigParts}
+use Rattle.sh_base.specs.Setting.{node_size, IsNode, IsSetting}
+use Rattle.sh_base.specs.Layout.{node_word}
+use Rattle.sh_base.proofs.LayoutLemmas.{node_size_is, rear_at_small, take_set_in}
+use Rattle.sh_image.specs.declared.read.Seen.{Seen}
+use Rattle.sh_image.specs.declared.read.Seen.TheVariants.{Leaf as LeafSeen, Inner as InnerSeen, Torn, TornEntry, Odd as OddSeen}
+use Rattle.sh_read.specs.declared.state.Progress.TheVariants.{More}
+use Rattle.sh_read.specs.Judging.{seen_of}
+use Rattle.sh_read.specs.Reads.{reads_with, accepted, answer_to, fed_by, left_by, progress_of, wanted}
+use Rattle.sh_read.specs.Kept.{loaded_in, left_after, reader_of, IsKept}
+
+less_test : (a b : ℕ) → a < b → nat_lt a b ≡ true
+less_test a b h = grind (arith, nat_tests)
+
+not_less_test : (a b : ℕ) → b ≤ a → nat_lt a b ≡ false
+not_less_test a b h = grind (arith, nat_tests)
+
+-- the words behind a word that is set
+set_front : (xs : List ℕ) (k w : ℕ) → k < length xs → drop k (set xs k w) ≡ w ∷ drop (suc k) xs
+set_front [] k w h = absurd (omega arith)
+set_front (x ∷ xs) zero w h = refl
+set_front (x ∷ xs) (suc k) w h = set_front xs k w (omega arith)
+
+module _ (p : ConfigParts) (setting : IsSetting p) where
+  pub size_small : node_size p ≤ 711
+  size_small = omega (arith, node_size_is p, rear_at_small p setting)
+
+  pub size_some : 1 ≤ node_size p
+  size_some = omega (arith, node_size_is p)
+
+  module _ (left : ℕ) (words : List ℕ) (room : length words ≡ 711) (within : left ≤ node_size p) where
+    length_taken : length (take (node_size p) words) ≡ node_size p
+    length_taken = length-take-le (node_size p) words (omega (arith, room, size_small))
+
+    pub length_loaded : length (loaded_in p left words) ≡ node_size p - left
+    length_loaded = length-drop left (take (node_size p) words) ∙ ap (λ n. n - left) length_taken
+
+    -- one word more
+    pub loaded_more : (word : ℕ) → 1 ≤ left → loaded_in p (left - 1) (set words (left - 1) word) ≡ word ∷ loaded_in p left words
+    loaded_more word some =
+        let front : suc (left - 1) ≡ left = omega (arith, some) in
+        ap (drop (left - 1)) (take_set_in (node_size p) words (left - 1) word (omega (arith, some, within)))
+        ∙ set_front (take (node_size p) words) (left - 1) word (omega (arith, length_taken, some, within))
+        ∙ ap (λ n. word ∷ drop n (take (node_size p) words)) front
+
+    -- a word is wanted where one is left
+    pub some_left : (node : ℕ) → wanted p (reads_with node (loaded_in p left words)) ≢ None → 1 ≤ left
+    some_left node h = by (nat_lt (length (loaded_in p left words)) (node_size p)) refl
+      where
+        by : (b : Bool) → nat_lt (length (loaded_in p left words)) (node_size p) ≡ b → 1 ≤ left
+        by true e = grind (arith, nat_tests, e, length_loaded, within)
+        by false e = absurd (h (rw e refl))
+
+    pub wants : (node : ℕ) → 0 < left → Some (node_word p node + (left - 1)) ≡ wanted p (reads_with node (loaded_in p left words))
+    wants node some = rw (length_loaded, less_test (node_size p - left) (node_size p) (omega (arith, some, within))) (ap Some (omega (arith, some, within)))
+
+    pub wants_none : (node : ℕ) → left ≡ 0 → None ≡ wanted p (reads_with node (loaded_in p left words))
+    wants_none node none = rw (length_loaded, not_less_test (node_size p - left) (node_size p) (omega (arith, none))) refl
+
+    module _ (node word : ℕ) (some : 1 ≤ left) where
+      length_fed : length (word ∷ loaded_in p left words) ≡ suc (node_size p - left)
+      length_fed = ap suc length_loaded
+
+      pub fed_more : 0 < left - 1 → reader_of p node (left - 1) (set words (left - 1) word) ≡ record { setting = p; reads = fed_by p (reads_with node (loaded_in p left words)) word }
+      fed_more more =
+          let test : nat_lt (length (word ∷ loaded_in p left words)) (node_size p) ≡ true = ap (λ n. nat_lt n (node_size p)) length_fed ∙ less_test _ _ (omega (arith, some, within, more)) in
+          rw (loaded_more word some, test) refl
+
+      pub answers_more : 0 < left - 1 → More ≡ progress_of p (reads_with node (loaded_in p left words)) word
+      answers_more more =
+          let test : nat_lt (length (word ∷ loaded_in p left words)) (node_size p) ≡ true = ap (λ n. nat_lt n (node_size p)) length_fed ∙ less_test _ _ (omega (arith, some, within, more)) in
+          rw test refl
+
+      full : left - 1 ≡ 0 → nat_lt (length (word ∷ loaded_in p left words)) (node_size p) ≡ false
+      full last = ap (λ n. nat_lt n (node_size p)) length_fed ∙ not_less_test _ _ (omega (arith, some, within, last))
+
+      all_is : left - 1 ≡ 0 → take (node_size p) (set words (left - 1) word) ≡ word ∷ loaded_in p left words
+      all_is last = sym (ap (λ n. drop n (take (node_size p) (set words (left - 1) word))) last) ∙ loaded_more word some
+
+      pub answers_last : (seen : Seen) → left - 1 ≡ 0 → seen ≡ seen_of p (take (node_size p) (set words (left - 1) word)) → answer_to seen ≡ progress_of p (reads_with node (loaded_in p left words)) word
+      answers_last seen last is = rw (full last) (ap answer_to (is ∙ ap (seen_of p) (all_is last)))
+
+module _ (p : ConfigParts) (setting : IsSetting p) (node : ℕ) (words : List ℕ) (room : length words ≡ 711) where
+  all_words : length (take (node_size p) words) ≡ node_size p
+  all_words = length-take-le (node_size p) words (omega (arith, room, size_small p setting))
+
+  none_words : loaded_in p (node_size p) words ≡ []
+  none_words = drop_all (node_size p) (take (node_size p) words) (omega (arith, all_words))
+
+  -- the READ that a reader's answer leaves
+  ended : (seen : Seen) → reads_with node (loaded_in p (left_after seen (node_size p)) words) ≡ left_by seen (reads_with node (take (node_size p) words))
+  ended (LeafSeen a) = refl
+  ended (InnerSeen a) = refl
+  ended (Torn rear front) = ap (reads_with node) none_words
+  ended (TornEntry index rear front) = ap (reads_with node) none_words
+  ended OddSeen = refl
+
+  none_found : None ≡ accepted p (reads_with node (loaded_in p (node_size p) words))
+  none_found = rw (none_words, less_test 0 (node_size p) (omega (arith, size_some p setting))) refl
+
+module _ (p : ConfigParts) (setting : IsSetting p) (left node word : ℕ) (words : List ℕ) (room : length words ≡ 711) (within : left ≤ node_size p) (some : 1 ≤ left) where
+  pub fed_last : (seen : Seen) (after : ℕ) → left - 1 ≡ 0 → seen ≡ seen_of p (take (node_size p) (set words (left - 1) word)) → after ≡ left_after seen (node_size p) → reader_of p node after (set words (left - 1) word) ≡ record { setting = p; reads = fed_by p (reads_with node (loaded_in p left words)) word }
+  fed_last seen after last is after_is =
+      let all = all_is p setting left words room within node word some last in
+      let step : reads_with node (loaded_in p after (set words (left - 1) word)) ≡ fed_by p (reads_with node (loaded_in p left words)) word =
+      ap (λ n. reads_with node (loaded_in p n (set words (left - 1) word))) after_is
+      ∙ ended p setting node (set words (left - 1) word) (length-set words (left - 1) word ∙ room) seen
+      ∙ (λ i. left_by ((is ∙ ap (seen_of p) all) i) (reads_with node (all i)))
+      ∙ sym (rw (full p setting left words room within node word some last) refl) in
+      λ i. record { setting = p; reads = step i }
+
+pub kept_new : (p : ConfigParts) (setting : IsSetting p) (node left : ℕ) (words : List ℕ) → IsNode p node → length words ≡ 711 → left ≡ node_size p → IsKept p node left words None
+kept_new p setting node left words here room is = record {
+  here = here;
+  within = omega (arith, is);
+  room = room;
+  found = none_found p setting node words room ∙ sym (ap (λ n. accepted p (reads_with node (loaded_in p n words))) is);
+}

@@ -1,0 +1,22 @@
+-- What a READ answers to all the words of its node, each answer by its cause.
+use Rattle.std.specs.Prelude.{◌⊎◌, ℕ, List}
+use Rattle.sh_base.specs.declared.config.ConfigParts.{ConfigParts}
+use Rattle.sh_image.specs.declared.inner.Image.{Image}
+use Rattle.sh_image.specs.declared.inner.Image.TheVariants.{Leaf as LeafImage, Inner as InnerImage}
+use Rattle.sh_image.specs.declared.read.Seen.{Seen}
+use Rattle.sh_image.specs.declared.read.Seen.TheVariants.{Leaf as LeafSeen, Inner as InnerSeen, Torn, TornEntry, Odd as OddSeen}
+use Rattle.sh_image.specs.Seen.{SeenBy}
+use Rattle.sh_read.specs.declared.state.Progress.{Progress}
+use Rattle.sh_read.specs.declared.state.Progress.TheVariants.{More, Accepted, Again, Odd}
+
+-- a reader's answer to words that spell the image
+abbrev pub seen_as : Image → Seen
+seen_as (LeafImage a) = LeafSeen a
+seen_as (InnerImage a) = InnerSeen a
+
+-- The words spell a node; the node's two versions differ, or those of the first such entry; or neither.
+abbrev pub AnsweredBy : ConfigParts → List ℕ → Progress → Type 0
+AnsweredBy p words More = ⊥
+AnsweredBy p words Accepted = (image : Image) × SeenBy p words (seen_as image)
+AnsweredBy p words (Again rear front) = SeenBy p words (Torn rear front) ⊎ ((index : ℕ) × SeenBy p words (TornEntry index rear front))
+AnsweredBy p words Odd = SeenBy p words OddSeen

@@ -1,0 +1,132 @@
+// A READ that is fed its words one at a time.
+ghost use Rattle.std.specs.Prelude.{◌≡◌, ◌≢◌, ◌≤◌, length, None, Some};
+ghost use Rattle.sh_base.specs.Parts.{parts_of};
+ghost use Rattle.sh_base.specs.Setting.{node_size, IsNode, IsSetting};
+ghost use Rattle.sh_read.specs.declared.state.Progress.TheVariants.{Accepted};
+ghost use Rattle.sh_read.specs.Judging.{seen_of};
+ghost use Rattle.sh_read.specs.Reads.{accepted, answer_to, fed_by, image_in, progress_of, start_of, wanted};
+ghost use Rattle.sh_read.specs.Kept.{left_after};
+
+use crate::{Progress, Reading};
+use sh_base::Config;
+use sh_image::{Image, Seen, read_image};
+
+impl Reading {
+    /// A READ of a node, with nothing loaded. Condition: a node of this setting.
+    pub fn new(cfg: &Config, node: u32) -> Reading
+        requires { IsNode (parts_of cfg.now) node }
+        ensures { result ≡ record { setting = parts_of cfg.now; reads = start_of node } }
+    {
+        Reading {
+            cfg: *cfg,
+            node,
+            left: cfg.node_size(),
+            words: blank(),
+            image: None,
+        }
+    }
+
+    /// The address of the word that is to be loaded next: from the node's last word down to its first. None exactly
+    /// where all words are loaded.
+    pub fn want(&self) -> Option<u32>
+        ensures { result ≡ wanted self.now.setting self.now.reads }
+    {
+        if self.left == 0 {
+            return None;
+        }
+        Some(self.cfg.node_word(self.node) + (self.left - 1))
+    }
+
+    /// Takes the word that was wanted. The last one is judged with all the others: `Accepted` and `Odd` are the answers
+    /// to a node and to no node, and `Again` to words with two versions that differ; the READ then stands at its start.
+    /// Condition: a word is wanted.
+    pub fn fed(&mut self, word: u64) -> Progress
+        requires { wanted self.old.setting self.old.reads ≢ None }
+        ensures reads { self.new ≡ record self.old { reads = fed_by self.old.setting self.old.reads word } }
+        ensures answer { result ≡ progress_of self.old.setting self.old.reads word }
+        ensures image { result ≡ Accepted → accepted self.new.setting self.new.reads ≢ None }
+    {
+        self.left -= 1;
+        self.words[self.left as usize] = word;
+        if self.left > 0 {
+            return Progress::More;
+        }
+        let size = self.cfg.node_size();
+        let seen = judged(&self.cfg, &self.words[..size as usize]);
+        let progress = answer(&seen);
+        self.left = left(&seen, size);
+        self.image = image_of(seen);
+        progress
+    }
+
+    /// The node is one of the setting, and no more words are loaded than it has.
+    pub fn within_its_node(&self)
+        ensures setting { IsSetting self.now.setting }
+        ensures node { IsNode self.now.setting self.now.reads.node }
+        ensures words { length self.now.reads.loaded ≤ node_size self.now.setting }
+    {
+        let _words = &self.words;
+    }
+
+    /// The image of the node that was read. Condition: its words were accepted.
+    pub fn image(&self) -> &Image
+        requires { accepted self.now.setting self.now.reads ≢ None }
+        ensures { accepted self.now.setting self.now.reads ≡ Some result.now }
+    {
+        self.image.as_ref().unwrap()
+    }
+}
+
+// Room for the words of the largest node.
+fn blank() -> [u64; 711]
+    ensures { length result ≡ 711 }
+{
+    [0; 711]
+}
+
+// What is judged of a node's words.
+fn judged(cfg: &Config, words: &[u64]) -> Seen
+    requires { length words.now ≡ node_size (parts_of cfg.now) }
+    ensures { result ≡ seen_of (parts_of cfg.now) words.now }
+{
+    read_image(cfg, words)
+}
+
+// The answer to what was judged.
+fn answer(seen: &Seen) -> Progress
+    ensures { result ≡ answer_to seen.now }
+{
+    match *seen {
+        Seen::Leaf(_) => Progress::Accepted,
+        Seen::Inner(_) => Progress::Accepted,
+        Seen::Torn { rear, front } => Progress::Again { rear, front },
+        Seen::TornEntry { rear, front, .. } => Progress::Again { rear, front },
+        Seen::Odd => Progress::Odd,
+    }
+}
+
+// How many words are to be loaded behind what was judged: of torn words all.
+fn left(seen: &Seen, size: u32) -> u32
+    ensures { result ≡ left_after seen.now size }
+{
+    match seen {
+        Seen::Torn { .. } => size,
+        Seen::TornEntry { .. } => size,
+        Seen::Leaf(_) => 0,
+        Seen::Inner(_) => 0,
+        Seen::Odd => 0,
+    }
+}
+
+// The image that was judged.
+fn image_of(seen: Seen) -> Option<Image>
+    ensures { result ≡ image_in seen }
+{
+    match seen {
+        Seen::Leaf(image) => Some(Image::Leaf(image)),
+        Seen::Inner(image) => Some(Image::Inner(image)),
+        Seen::Torn { .. } => None,
+        Seen::TornEntry { .. } => None,
+        Seen::Odd => None,
+    }
+}

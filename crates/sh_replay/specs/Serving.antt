@@ -1,0 +1,51 @@
+-- What a replay serves for now: of words, and of items.
+use Rattle.std.specs.Prelude.{ℕ, ◌≡◌, ◌==◌, ◌&&◌, ◌||◌, Bool, true, false, not, is_some, List, Option, Some, None, option_and_then, if◌then◌else◌}
+use Rattle.std.specs.List.{position}
+use Rattle.sh_base.specs.declared.config.ConfigParts.{ConfigParts}
+use Rattle.sh_map.specs.declared.call.Call.{Call}
+use Rattle.sh_map.specs.declared.call.Call.TheVariants.{Get, Put, Del, Range}
+use Rattle.sh_map.specs.Calls.{IsInRange}
+use Rattle.sh_sheet.specs.declared.item.Item.{Item}
+use Rattle.sh_sheet.specs.declared.item.Item.TheVariants.{Ask, Mark, After, Turn}
+use Rattle.sh_sheet.specs.declared.item.Mode.TheVariants.{Replay}
+use Rattle.sh_sheet.specs.Sheet.{row_of}
+use Rattle.sh_words.specs.Order.{Asked, order_of}
+use Rattle.sh_words.specs.Uses.{Text}
+
+-- an order is served where it asks neither for the events nor for calls that are made
+abbrev pub if_served : Asked → Option Asked
+if_served o = if o.events || is_some o.make then None else Some o
+
+-- what the words ask for, where they are accepted
+abbrev pub accepted : List Text → Option Asked
+accepted words = option_and_then if_served (order_of Replay words)
+
+-- a get, a put or a delete
+abbrev pub is_one_key : Call → Bool
+is_one_key (Get key) = true
+is_one_key (Put key value) = true
+is_one_key (Del key) = true
+is_one_key (Range low high) = false
+
+-- an item that is served: a get, a put or a delete by seat 0
+abbrev pub is_served : Item → Bool
+is_served (Ask seat call) = seat == 0 && is_one_key call
+is_served (Mark seat number) = false
+is_served (After seat number) = false
+is_served (Turn seat count) = false
+
+-- the place of the first item that isn't served
+abbrev pub first_unserved : List Item → Option ℕ
+first_unserved items = position (λ i. not (is_served i)) items
+
+-- Such an item is at this row of the sheet, and no earlier one is such.
+pub record IsUnserved (headed : Bool) (items : List Item) (row : ℕ) : Type 0 where
+  pub at : ℕ
+  pub first : first_unserved items ≡ Some at
+  pub row_is : row ≡ row_of headed at
+
+-- an item that is served, in range for the setting
+abbrev pub IsServable : ConfigParts → Item → Type 0
+IsServable p (Ask seat (Range low high)) = ⊥
+IsServable p (Ask seat call) = (seat ≡ 0) × IsInRange p call
+IsServable p item = ⊥

@@ -1,0 +1,49 @@
+// What a replay serves for now.
+ghost use Rattle.std.specs.Prelude.{◌≡◌, map, Some, None, IfOk, IsErrOf};
+ghost use Rattle.sh_words.specs.Order.{asked_of};
+ghost use Rattle.sh_words.specs.declared.order.WordFault.TheVariants.{Usage};
+ghost use Rattle.sh_replay.specs.Serving.{accepted, first_unserved, is_one_key, is_served};
+
+use sh_map::Call;
+use sh_sheet::{Item, Mode};
+use sh_words::{Order, WordFault, read_words};
+use std::alloc::Global;
+
+/// What the words ask for, where it is served: an order without events and without calls that are made.
+pub fn read_order(alloc: Global, words: &[&str]) -> Result<Order, WordFault>
+    ensures order { IfOk result (λ o. accepted (map (λ w. w.now) words.now) ≡ Some (asked_of o)) }
+    ensures usage { IsErrOf result WordFault.Usage → accepted (map (λ w. w.now) words.now) ≡ None }
+{
+    let order = read_words(alloc, words, Mode::Replay)?;
+    if order.events || order.make.is_some() {
+        return Err(WordFault::Usage);
+    }
+    Ok(order)
+}
+
+// Whether a call is about one key.
+fn is_one_key(call: &Call) -> bool
+    ensures { result ≡ is_one_key call.now }
+{
+    match call {
+        Call::Range { .. } => false,
+        Call::Get { .. } | Call::Put { .. } | Call::Del { .. } => true,
+    }
+}
+
+// Whether an item is served: a get, a put or a delete by seat 0.
+fn is_served(item: &Item) -> bool
+    ensures { result ≡ is_served item.now }
+{
+    match item {
+        Item::Ask { seat, call } => *seat == 0 && is_one_key(call),
+        Item::Mark { .. } | Item::After { .. } | Item::Turn { .. } => false,
+    }
+}
+
+/// The place of the first item that isn't served.
+pub fn first_unserved(items: &[Item]) -> Option<usize>
+    ensures { result ≡ first_unserved items.now }
+{
+    items.iter().position(|item| !is_served(item))
+}

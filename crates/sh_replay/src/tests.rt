@@ -1,0 +1,231 @@
+// Whole replays, from the words and bytes in to the bytes out.
+use super::*;
+use sh_port::{ListSink, ListSource, SureSink, SureSource};
+use sh_sheet::{RowCause, Status};
+use std::alloc::{AllocError, Global};
+use std::test::Fail;
+
+const SHEET: &[u8] = b"put,0,5,50\nget,0,5,\ndel,0,5,\nget,0,5,\n";
+
+const LINES: &[u8] =
+    b"1,0,put,5,50,none,,0\n2,0,get,5,,some,50,1\n3,0,del,5,,some,50,1\n4,0,get,5,,none,,2\nend,4,0,0\n";
+
+// How a replay of these words and bytes ended, what it wrote, and whether its world is blank. Reads and writes move
+// pieces of so many bytes, and the calls with these numbers fail; a number of 0 fails none.
+fn replay_in_pieces(
+    alloc: Global,
+    words: &[&str],
+    input: Vec<u8>,
+    piece: usize,
+    failing_read: u64,
+    failing_write: u64,
+) -> Result<(Status, Vec<u8>, bool), AllocError> {
+    let piece = piece.max(1);
+    let mut source = ListSource::new(input, piece, vec![in alloc; failing_read]?);
+    let mut sink = ListSink::new(alloc, 1_048_576, piece, vec![in alloc; failing_write]?)?;
+    let mut world = World::blank(alloc);
+    let status = replay_top(alloc, words, &mut world, &mut source, &mut sink);
+    let blank = world.words().is_empty() && world.log().is_empty() && world.dones().is_empty();
+    let written = sink.bytes().to_vec(alloc)?;
+    Ok((status, written, blank))
+}
+
+// The same in one piece, and nothing fails.
+fn replay(
+    alloc: Global,
+    words: &[&str],
+    input: &[u8],
+) -> Result<(Status, Vec<u8>, bool), AllocError> {
+    replay_in_pieces(alloc, words, input.to_vec(alloc)?, 4096, 0, 0)
+}
+
+fn is(ended: &(Status, Vec<u8>, bool), status: Status, written: &[u8], blank: bool) -> bool {
+    ended.0 == status && ended.1.as_slice() == written && ended.2 == blank
+}
+
+#[test]
+fn sheets_are_answered_line_by_line(rt: HostRuntime) -> Result<(), Fail> {
+    let alloc = rt.alloc();
+    for (input, output) in [
+        (SHEET, LINES),
+        (b"".as_slice(), b"end,0,0,0\n".as_slice()),
+        (
+            b"put,0,5,50\nput,0,5,51\n",
+            b"1,0,put,5,50,none,,0\n2,0,put,5,51,some,50,1\nend,2,1,51\n",
+        ),
+        (
+            b"op,seat,a,b\r\nput,0,1,7\r\nput,0,18446744073709551614,8\r\nget,0,1,\r\nget,0,18446744073709551614,",
+            b"1,0,put,1,7,none,,0\n2,0,put,18446744073709551614,8,none,,1\n3,0,get,1,,some,7,2\n4,0,get,18446744073709551614,,some,8,2\nend,4,2,15\n",
+        ),
+    ] {
+        assert!(rt; is(&replay(alloc, &[], input)?, Status::Ok, output, false));
+    }
+    Ok(())
+}
+
+#[test]
+fn words_set_the_leaf_the_bits_the_values_and_the_map(rt: HostRuntime) -> Result<(), Fail> {
+    let alloc = rt.alloc();
+    let ended = replay(
+        alloc,
+        &["--leaf", "4"],
+        b"put,0,1,1\nput,0,2,1\nput,0,3,1\nput,0,4,1\nput,0,5,1\n",
+    )?;
+    assert!(rt;
+        is(
+            &ended,
+            Status::Ok,
+            b"1,0,put,1,1,none,,0\n2,0,put,2,1,none,,1\n3,0,put,3,1,none,,2\n4,0,put,4,1,none,,3\n5,0,put,5,1,nosplit,,\nend,5,4,4\n",
+            false
+        )
+    );
+    let ended = replay(
+        alloc,
+        &["--bits=4"],
+        b"put,0,5,1\nput,0,5,2\nput,0,5,3\nput,0,5,4\nput,0,5,5\nput,0,5,6\nput,0,5,7\nput,0,5,8\nput,0,5,9\nput,0,5,10\nput,0,5,11\nput,0,5,12\nput,0,5,13\nput,0,5,14\nput,0,5,15\nput,0,5,16\nget,0,5,\n",
+    )?;
+    assert_eq!(rt; ended.0, Status::Ok);
+    assert!(rt;
+        ended.1.as_slice().ends_with(
+            b"15,0,put,5,15,some,14,14\n16,0,put,5,16,worn,15,\n17,0,get,5,,some,15,15\nend,17,1,15\n"
+        )
+    );
+    let ended = replay(
+        alloc,
+        &["--value-words", "2", "--map"],
+        b"put,0,5,50:7\nget,0,5,\nput,0,4,1:2\n",
+    )?;
+    assert!(rt;
+        is(
+            &ended,
+            Status::Ok,
+            b"1,0,put,5,50:7,none,,0\n2,0,get,5,,some,50:7,1\n3,0,put,4,1:2,none,,1\nmap,4,1:2\nmap,5,50:7\nend,3,2,60\n",
+            false
+        )
+    );
+    let ended = replay(alloc, &["--value-words=2"], b"put,0,5,50:7\nget,0,5,\n")?;
+    assert!(rt; ended.1.as_slice().ends_with(b"end,2,1,57\n"));
+    Ok(())
+}
+
+#[test]
+fn refused_words_leave_nothing(rt: HostRuntime) -> Result<(), Fail> {
+    let alloc = rt.alloc();
+    for words in [
+        ["--leaf", "3"].as_slice(),
+        &["--leaf", "4", "--leaf", "4"],
+        &["--"],
+        &["--seed", "3"],
+        &["--bits", "+8"],
+        &["--pages", "3"],
+        &["--value-words", "9"],
+        &["-h"],
+        &[""],
+        &["--map=1"],
+        &["--events"],
+        &["--make", "1"],
+        &["--chunks", "4096", "--leaf", "64"],
+    ] {
+        assert!(rt; is(&replay(alloc, words, SHEET)?, Status::Usage, b"", true));
+    }
+    Ok(())
+}
+
+#[test]
+fn refused_rows_leave_nothing(rt: HostRuntime) -> Result<(), Fail> {
+    let alloc = rt.alloc();
+    for (input, row, cause) in [
+        (b"put,0,5,50\nput,0,6".as_slice(), 2, RowCause::FieldCount),
+        (b"push,0,5,5\n", 1, RowCause::BadOp),
+        (b"put,0,5,-1\n", 1, RowCause::BadNumber),
+        (b"put,0,5,50:51\n", 1, RowCause::BadNumber),
+        (b"put,8,5,5\n", 1, RowCause::BadSeat),
+        (b"get,0,0,\n", 1, RowCause::BadKey),
+        (b"range,0,8,7\n", 1, RowCause::BadBounds),
+        (b"mark,0,1,\nmark,1,1,\n", 2, RowCause::BadMark),
+    ] {
+        let ended = replay(alloc, &[], input)?;
+        assert!(rt; is(&ended, Status::BadRow { row, cause }, b"", true));
+    }
+    Ok(())
+}
+
+#[test]
+fn a_row_that_is_not_served_yet_is_told_behind_all_other_causes(
+    rt: HostRuntime,
+) -> Result<(), Fail> {
+    let alloc = rt.alloc();
+    for (input, row) in [
+        (b"get,1,5,\n".as_slice(), 1),
+        (b"put,0,5,50\nrange,0,1,2\n", 2),
+        (b"op,seat,a,b\nput,0,5,50\nmark,0,1,\nafter,0,1,\n", 3),
+        (b"turn,0,50000000,\n", 1),
+    ] {
+        let refused = Status::BadRow {
+            row,
+            cause: RowCause::NotYet,
+        };
+        assert!(rt; is(&replay(alloc, &[], input)?, refused, b"", true));
+    }
+    let ended = replay(alloc, &[], b"turn,0,1,\nput,0,5\n")?;
+    let refused = Status::BadRow {
+        row: 2,
+        cause: RowCause::FieldCount,
+    };
+    assert!(rt; is(&ended, refused, b"", true));
+    let ended = replay(alloc, &[], b"turn,0,50000001,\n")?;
+    assert!(rt; is(&ended, Status::TooMany, b"", true));
+    Ok(())
+}
+
+#[test]
+fn a_fault_is_told_and_leaves_a_front(rt: HostRuntime) -> Result<(), Fail> {
+    let alloc = rt.alloc();
+    for k in 1..41 {
+        let ended = replay_in_pieces(alloc, &[], SHEET.to_vec(alloc)?, 1, k, 0)?;
+        if k < 40 {
+            assert!(rt; is(&ended, Status::ReadFault, b"", true));
+        } else {
+            assert!(rt; is(&ended, Status::Ok, LINES, false));
+        }
+    }
+    for k in 1..94 {
+        let (status, written, _) = replay_in_pieces(alloc, &[], SHEET.to_vec(alloc)?, 1, 0, k)?;
+        let fault = k < 93;
+        assert_eq!(rt; status == Status::WriteFault, fault);
+        assert_eq!(rt; written.len() as u64, k - 1);
+        assert!(rt; LINES.starts_with(written.as_slice()));
+    }
+    let ended = replay_in_pieces(alloc, &[], SHEET.to_vec(alloc)?, 4, 2, 0)?;
+    assert!(rt; is(&ended, Status::ReadFault, b"", true));
+    let ended = replay_in_pieces(alloc, &[], SHEET.to_vec(alloc)?, 4, 0, 3)?;
+    assert!(rt; is(&ended, Status::WriteFault, b"1,0,put,", false));
+    Ok(())
+}
+
+#[test]
+fn one_byte_more_is_too_long(rt: HostRuntime) -> Result<(), Fail> {
+    let alloc = rt.alloc();
+    let letters = vec![in alloc; b'a'; 16_777_216]?;
+    let ended = replay_in_pieces(alloc, &[], letters, 4096, 0, 0)?;
+    let refused = Status::BadRow {
+        row: 1,
+        cause: RowCause::FieldCount,
+    };
+    assert!(rt; is(&ended, refused, b"", true));
+    let letters = vec![in alloc; b'a'; 16_777_217]?;
+    let ended = replay_in_pieces(alloc, &[], letters, 4096, 0, 0)?;
+    assert!(rt; is(&ended, Status::TooLong, b"", true));
+    Ok(())
+}
+
+#[test]
+fn a_sure_source_and_sink_end_well(rt: HostRuntime) -> Result<(), Fail> {
+    let alloc = rt.alloc();
+    let mut source = SureSource::new(SHEET.to_vec(alloc)?);
+    let mut sink = SureSink::new();
+    let mut world = World::blank(alloc);
+    let status = replay_sure(alloc, &[], &mut world, &mut source, &mut sink);
+    assert_eq!(rt; status, Status::Ok);
+    Ok(())
+}

@@ -17,7 +17,7 @@ use Rattle.sh_edit.specs.Held.{HasKeysOnce}
 use Rattle.sh_tree.specs.Lists.{first_of, is_in, outside, AreDifferent}
 use Rattle.sh_tree.specs.Nodes.{inner_at}
 use Rattle.sh_tree.specs.Tree.{IsChain, IsLeafOf, IsInnerOf, IsChildIn, children_of}
-use Rattle.sh_tree.proofs.ListLemmas.{in_head, in_more, in_cases, in_front, in_behind}
+use Rattle.sh_tree.proofs.ListLemmas.{in_head, in_more, in_cases, in_front}
 use Rattle.sh_read.specs.Moments.{Writing, word}
 use Rattle.sh_scene.specs.Scene.{Linked, Post, Posted, Pending, Skipped, Scene}
 use Rattle.sh_scene.specs.Nodes.{low_in, high_in, next_in, level_in, LeadsTo, LeadDown, pairs_in}
@@ -40,6 +40,10 @@ not_in n ns h = go (is_in ns n) refl
     go : (b : Bool) → is_in ns n ≡ b → is_in ns n ≡ false
     go true e = absurd (h e)
     go false e = e
+
+pub in_behind : (xs ys : List ℕ) (n : ℕ) → is_in ys n ≡ true → is_in (xs ++ ys) n ≡ true
+in_behind [] ys n h = h
+in_behind (x ∷ xs) ys n h = in_more x n (xs ++ ys) (in_behind xs ys n h)
 
 pub in_joined : (xs ys : List ℕ) (n : ℕ) → is_in (xs ++ ys) n ≡ true → (is_in xs n ≡ true) ⊎ (is_in ys n ≡ true)
 in_joined [] ys n h = inr h

@@ -20,13 +20,13 @@ use Rattle.sh_edit.proofs.HeldLemmas.{find-pairs_of, get-zero, held_outside}
 use Rattle.sh_tree.specs.Lists.{first_of, is_in, outside, AreDifferent}
 use Rattle.sh_tree.specs.Nodes.{leaf_at, high_at}
 use Rattle.sh_tree.specs.Tree.{IsChain, IsInnerOf, AreLevels, leaves_of, pairs_along, children_of, unnamed_from}
-use Rattle.sh_tree.proofs.ListLemmas.{in_head, in_more, in_front, in_behind}
+use Rattle.sh_tree.proofs.ListLemmas.{in_head, in_more, in_front}
 use Rattle.sh_scene.specs.Scene.{Class, Undrawn, Reserved, Fresh, Linked, Post, Posted, Scene}
 use Rattle.sh_scene.specs.Nodes.{low_in, high_in, IsLinked, entries_of}
 use Rattle.sh_scene.specs.Ground.{Ground}
 use Rattle.sh_scene.proofs.Scenes.{linked_is, is_linked}
 use Rattle.sh_rest.specs.Rest.{IsAtRest, is_posted, unposted, HoldsTree}
-use Rattle.sh_rest.proofs.Levels.{in_joined, different_join, part_is, IsLevel, level, leaf_of, inner_of, NamesLevel, none_named, children_named, counted}
+use Rattle.sh_rest.proofs.Levels.{in_behind, in_joined, different_join, part_is, IsLevel, level, leaf_of, inner_of, NamesLevel, none_named, children_named, counted}
 
 find_past : (xs ys : List (ℕ × List ℕ)) (q : ℕ) → find nat_cmp q xs ≡ None → find nat_cmp q (xs ++ ys) ≡ find nat_cmp q ys
 find_past [] ys q none = refl

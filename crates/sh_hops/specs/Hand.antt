@@ -1,6 +1,9 @@
 -- What a client has in hand of the tree: nodes that it is on its way from, and their images.
-use Rattle.std.specs.Prelude.{◌≡◌, ℕ, suc, ◌-◌, ◌^◌, ◌<◌, ◌≤◌}
+use Rattle.std.specs.Prelude.{◌≡◌, ℕ, suc, ◌-◌, ◌^◌, ◌<◌, ◌≤◌, List}
+use Rattle.std.specs.List.{AllByRecursion}
 use Rattle.sh_image.specs.declared.inner.Image.{Image}
+use Rattle.sh_image.specs.declared.inner.Image.TheVariants.{Inner as InnerImage}
+use Rattle.sh_image.specs.Inner.{Inner}
 use Rattle.sh_descend.specs.Descent.{level_of, low_of, high_of, next_of, pairs_of, HasSortedPairs}
 use Rattle.sh_scene.specs.Scene.{Linked, Scene}
 use Rattle.sh_scene.specs.Nodes.{LeadDown, Follows}
@@ -21,3 +24,7 @@ pub record IsImageOf (s : Scene) (level low : ℕ) (image : Image) : Type 0 wher
   pub next : Follows s level (high_of image) (next_of image)
   pub children : (below : ℕ) → level ≡ suc below → LeadDown s below (pairs_of image)
   pub sorted : HasSortedPairs image
+
+-- each row of a cache is the image of an inner node of level 1 that stood once
+abbrev pub AreRowsOf : Scene → List Inner → Type 0
+AreRowsOf s rows = AllByRecursion (λ (r : Inner). IsImageOf s 1 r.low (InnerImage r)) rows

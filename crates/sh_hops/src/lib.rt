@@ -1,19 +1,20 @@
 //! Where hops lead in the tree: each node and image that a client has in hand names nodes that are linked for good.
 #![tactic(auto)]
 
-ghost use Rattle.std.specs.Prelude.{◌≡◌, ◌≢◌, ◌-◌, ◌<◌, ◌≤◌, ◌^◌, ℕ, suc, List};
+ghost use Rattle.std.specs.Prelude.{◌≡◌, ◌≢◌, ◌-◌, ◌<◌, ◌≤◌, ◌^◌, ℕ, suc, List, Some};
 ghost use Rattle.sh_base.specs.Parts.{parts_of};
 ghost use Rattle.sh_image.specs.declared.inner.Image.{Image};
 ghost use Rattle.sh_image.specs.declared.inner.Image.TheVariants.{Leaf as LeafImage, Inner as InnerImage};
 ghost use Rattle.sh_image.specs.Leaf.{leaf_in};
-ghost use Rattle.sh_image.specs.Inner.{inner_in};
+ghost use Rattle.sh_image.specs.Inner.{Inner, inner_in};
+ghost use Rattle.sh_cache.specs.Cached.{kept, forgotten, FoundBy};
 ghost use Rattle.sh_descend.specs.declared.Hop.TheVariants.{Here, Right, Down, Restart};
 ghost use Rattle.sh_descend.specs.Descent.{hop_of, high_of};
 ghost use Rattle.sh_scene.specs.Scene.{Scene, Linked};
 ghost use Rattle.sh_scene.specs.Ground.{Ground};
 ghost use Rattle.sh_scene.specs.Change.{Change};
 ghost use Rattle.sh_known.specs.Points.{IsReadLeaf};
-ghost use Rattle.sh_hops.specs.Hand.{IsNamed, IsImageOf};
+ghost use Rattle.sh_hops.specs.Hand.{IsNamed, IsImageOf, AreRowsOf};
 
 use sh_base::Config;
 
@@ -35,4 +36,15 @@ pub fn hops_lead_on()
     ensures down { (s : Scene) (level low key target child : ℕ) (image : Image) → IsImageOf s level low image → low ≤ key → hop_of image key target ≡ Down child → (below : ℕ) × (level ≡ suc below) × IsNamed s below child key × (target ≤ below) }
     ensures here { (s : Scene) (level low key target : ℕ) (image : Image) → IsImageOf s level low image → low ≤ key → hop_of image key target ≡ Here → (level ≡ target) × (key < high_of image) }
     ensures restart { (s : Scene) (level low key target : ℕ) (image : Image) → IsImageOf s level low image → low ≤ key → target ≤ level → hop_of image key target ≢ Restart }
+{}
+
+/// The rows of a cache stay images of nodes of level 1: whatever others do, where an accepted image of that level is
+/// kept, and where a row is forgotten. A row that was found for a key covers it, and leads to a leaf that begins no
+/// later.
+pub fn rows_in_hand(cfg: &Config)
+    ensures act { (s t : Scene) (seat : ℕ) (rows : List Inner) → Change (parts_of cfg.now) seat s t → AreRowsOf s rows → AreRowsOf t rows }
+    ensures kept { (s : Scene) (room low : ℕ) (rows : List Inner) (row : Inner) → IsImageOf s 1 low (InnerImage row) → AreRowsOf s rows → AreRowsOf s (kept room rows row) }
+    ensures forgotten { (s : Scene) (low : ℕ) (rows : List Inner) → AreRowsOf s rows → AreRowsOf s (forgotten rows low) }
+    ensures found { (s : Scene) (key : ℕ) (rows : List Inner) (row : Inner) → AreRowsOf s rows → FoundBy rows key (Some row) → IsImageOf s 1 row.low (InnerImage row) × (row.low ≤ key) × (key < row.high) }
+    ensures leaf { (s : Scene) (key child : ℕ) (row : Inner) → IsImageOf s 1 row.low (InnerImage row) → row.low ≤ key → hop_of (InnerImage row) key 0 ≡ Down child → IsNamed s 0 child key }
 {}

@@ -3,7 +3,7 @@
 
 ghost use Rattle.std.specs.Prelude.{◌≡◌, ◌≢◌, ◌+◌, ◌-◌, ◌<◌, ◌≤◌, ◌^◌, ℕ, suc, List, slice_index};
 ghost use Rattle.sh_base.specs.Parts.{parts_of};
-ghost use Rattle.sh_base.specs.Setting.{all_locks, nodes};
+ghost use Rattle.sh_base.specs.Setting.{all_locks, node_size, nodes};
 ghost use Rattle.sh_base.specs.Layout.{root_word, lock_word, node_word, lock_of, compute_of};
 ghost use Rattle.sh_base.specs.Memory.{apply};
 ghost use Rattle.sh_base.specs.declared.event.Event.TheVariants.{Store, Exchange};
@@ -30,9 +30,11 @@ pub fn locks_change_hands(cfg: &Config)
 {}
 
 /// At each moment a linked node has its standing words, whose versions agree, and at most one WRITE under way, its
-/// lock's holder's. A store by the holder begins that WRITE or goes on with it; the node stands as it did.
+/// lock's holder's. While the holder writes nothing, the words in memory of the nodes under its lock are those that
+/// stand. A store by the holder begins a WRITE or goes on with it; the node stands as it did.
 pub fn writes_go_on(cfg: &Config)
     ensures moment { (words : List ℕ) (s : Scene) (n level low : ℕ) → Ground (parts_of cfg.now) words s → s.class n ≡ Linked level low → IsMoment (parts_of cfg.now) level (s.node n) (writing (parts_of cfg.now) s n) }
+    ensures stands { (words : List ℕ) (s : Scene) (n level low depth offset : ℕ) (owner : Owner) → Ground (parts_of cfg.now) words s → s.class n ≡ Linked level low → s.hold (lock_of (parts_of cfg.now) n) ≡ Held owner depth → offset < node_size (parts_of cfg.now) → slice_index words (node_word (parts_of cfg.now) n + offset) ≡ slice_index (s.node n) offset }
     ensures begins { (words : List ℕ) (s : Scene) (seat depth n level low offset word : ℕ) (v : Writing) → Ground (parts_of cfg.now) words s → s.class n ≡ Linked level low → s.hold (lock_of (parts_of cfg.now) n) ≡ Held (Seat seat) depth → GoesOn (parts_of cfg.now) level (s.node n) Idle v offset word → Change (parts_of cfg.now) seat s (with_hold s (lock_of (parts_of cfg.now) n) (Writes seat depth n v)) × Ground (parts_of cfg.now) (apply words (Store (node_word (parts_of cfg.now) n + offset) word)) (with_hold s (lock_of (parts_of cfg.now) n) (Writes seat depth n v)) }
     ensures goes_on { (words : List ℕ) (s : Scene) (seat depth n level low offset word : ℕ) (w v : Writing) → Ground (parts_of cfg.now) words s → s.class n ≡ Linked level low → s.hold (lock_of (parts_of cfg.now) n) ≡ Writes seat depth n w → GoesOn (parts_of cfg.now) level (s.node n) w v offset word → Change (parts_of cfg.now) seat s (with_hold s (lock_of (parts_of cfg.now) n) (Writes seat depth n v)) × Ground (parts_of cfg.now) (apply words (Store (node_word (parts_of cfg.now) n + offset) word)) (with_hold s (lock_of (parts_of cfg.now) n) (Writes seat depth n v)) }
 {}

@@ -1,5 +1,8 @@
-use Rattle.std.proofs.Common.{◌≤◌, subst}
+use Rattle.std.proofs.Common.{◌≤◌, subst, ◌∙◌}
 use Rattle.sh_base.specs.Layout.{lock_of}
+use Rattle.sh_base.specs.Places.{Node}
+use Rattle.sh_read.specs.Moments.{word}
+use Rattle.sh_scene.specs.Scene.{writing_of}
 use Rattle.sh_scene.specs.Nodes.{Orderly}
 use Rattle.sh_scene.proofs.Scenes.{moment_of}
 use Rattle.sh_scene.proofs.Holds.{writer_held, writer_writes, go_act}
@@ -21,3 +24,6 @@ returns-clause-goes_on c = λ words s seat depth n level low offset word w v g l
     let lock = lock_of p n in
     let order = subst (Orderly p s lock) e (g.orderly lock) in
     go_act p words s g seat depth n level low w v offset word link (writer_writes p (s.hold lock) seat depth n w e) order.0 go
+
+pub returns-clause-stands : goal.returns-clause-stands
+returns-clause-stands c = λ words s n level low depth offset owner g link e lt. g.shows.each (Node n offset) ((g.sits n level low link).real, lt) ∙ (λ z. word c.args.cfg.now.parts (s.node n) (writing_of n (e z)) offset)

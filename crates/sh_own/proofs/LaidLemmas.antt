@@ -25,9 +25,6 @@ use Rattle.sh_own.specs.Laid.{blank_leaf, AreLaid, laid_class, none_drawn, laid_
 use Rattle.sh_own.proofs.ChunkLemmas.{chunk_node, chunk_once, in_chunk_is}
 
 module _ (p : ConfigParts) (ok : IsSetting p) where
-  empties : ℕ → List LeafEntry
-  empties n = replicate n (empty_entry p)
-
   all_empty : (n : ℕ) → AllByRecursion (IsEntry p 0 (2 ^ 64 - 1)) (replicate n (empty_entry p))
   all_empty zero = tt
   all_empty (suc n) = (record { value = length-replicate p.value_words 0; version = omega arith; within = inl (refl, refl) }, all_empty n)

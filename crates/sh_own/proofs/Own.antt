@@ -13,7 +13,7 @@ use Rattle.sh_scene.specs.Change.{Change}
 use Rattle.sh_scene.specs.Acts.{in_chunk, filled, counted, drawn}
 use Rattle.sh_scene.proofs.Puts.{put_here, put_else, put_case, shows_store}
 use Rattle.sh_scene.proofs.Scenes.{Links, fresh_linked, fresh_is, undrawn_fresh, undrawn_linked, links_on, writes_else, body_on, sits_on, orderly_on}
-use Rattle.sh_own.proofs.ChunkLemmas.{chunk_node, chunk_once, in_chunk_is}
+use Rattle.sh_own.proofs.ChunkLemmas.{chunk_node, chunk_once, in_chunk_is, is_in_chunk}
 
 module _ (p : ConfigParts) (words : List ℕ) (s : Scene) (g : Ground p words s) where
   not_linked : (r j n l a : ℕ) → s.class r ≡ Fresh j → s.class n ≡ Linked l a → n ≢ r
@@ -161,3 +161,7 @@ module _ (p : ConfigParts) (words : List ℕ) (s : Scene) (g : Ground p words s)
 
       past : (v chunk u : ℕ) → v ≡ u → chunk ≡ s.counter u → put s.counter u (s.counter u + 1) v ≤ chunk → ⊥
       past v chunk u e f le = omega (arith, le, f, ap (put s.counter u (s.counter u + 1)) e ∙ put_here s.counter u (s.counter u + 1))
+
+-- its nodes are the seat's own
+pub drawn_mine : (p : ConfigParts) (s : Scene) (seat server n : ℕ) → IsInChunk p server (s.counter server) n → (drawn p s server seat).class n ≡ Fresh seat
+drawn_mine p s seat server n h = ap (λ (b : Bool). if b then Fresh seat else s.class n) (is_in_chunk p server (s.counter server) n h)

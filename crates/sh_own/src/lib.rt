@@ -8,7 +8,7 @@ ghost use Rattle.sh_base.specs.Layout.{counter_word, node_word};
 ghost use Rattle.sh_base.specs.Memory.{apply};
 ghost use Rattle.sh_base.specs.declared.event.Event.TheVariants.{Store, Add};
 ghost use Rattle.sh_scene.specs.Scene.{Scene, Fresh};
-ghost use Rattle.sh_scene.specs.Ground.{Ground};
+ghost use Rattle.sh_scene.specs.Ground.{Ground, IsInChunk};
 ghost use Rattle.sh_scene.specs.Change.{Change};
 ghost use Rattle.sh_scene.specs.Acts.{filled, counted, drawn};
 ghost use Rattle.sh_own.specs.Counters.{Bounded, IsAmong};
@@ -23,6 +23,7 @@ use sh_base::Config;
 pub fn own_nodes(cfg: &Config)
     ensures filled { (words : List ℕ) (s : Scene) (seat n offset word : ℕ) → Ground (parts_of cfg.now) words s → s.class n ≡ Fresh seat → offset < node_size (parts_of cfg.now) → Change (parts_of cfg.now) seat s (filled s n offset word) × Ground (parts_of cfg.now) (apply words (Store (node_word (parts_of cfg.now) n + offset) word)) (filled s n offset word) }
     ensures drawn { (words : List ℕ) (s : Scene) (seat server : ℕ) → Ground (parts_of cfg.now) words s → server < (parts_of cfg.now).servers → s.counter server < (parts_of cfg.now).chunks → Change (parts_of cfg.now) seat s (drawn (parts_of cfg.now) s server seat) × Ground (parts_of cfg.now) (apply words (Add (counter_word (parts_of cfg.now) server))) (drawn (parts_of cfg.now) s server seat) }
+    ensures mine { (s : Scene) (seat server n : ℕ) → IsInChunk (parts_of cfg.now) server (s.counter server) n → (drawn (parts_of cfg.now) s server seat).class n ≡ Fresh seat }
     ensures spent { (words : List ℕ) (s : Scene) (seat server : ℕ) → Ground (parts_of cfg.now) words s → server < (parts_of cfg.now).servers → s.counter server ≤ (parts_of cfg.now).chunks + all_seats (parts_of cfg.now) → Change (parts_of cfg.now) seat s (counted s server) × Ground (parts_of cfg.now) (apply words (Add (counter_word (parts_of cfg.now) server))) (counted s server) }
     ensures bounded { (limit seats counter : ℕ) (wants : List ℕ) → Bounded limit seats counter (λ i. IsAmong i wants) → counter ≤ limit + seats }
     ensures found_below { (limit seats counter seat : ℕ) (wants now : List ℕ) → Bounded limit seats counter (λ i. IsAmong i wants) → counter < limit → ((j : ℕ) → j ≢ seat → IsAmong j now → IsAmong j wants) → Bounded limit seats counter (λ i. IsAmong i now) }

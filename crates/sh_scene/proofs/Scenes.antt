@@ -10,7 +10,7 @@ use Rattle.sh_image.specs.Leaf.{leaf_in}
 use Rattle.sh_image.specs.Inner.{inner_in}
 use Rattle.sh_image.proofs.UntornLemmas.{untorn_spelled, untorn_inner}
 use Rattle.sh_read.specs.Moments.{Writing, Idle, IsWriting, IsVersioned, IsMoment}
-use Rattle.sh_scene.specs.Scene.{Class, Undrawn, Reserved, Fresh, Linked, Seat, Hold, Nobody, Held, Writes, Scene, writing_of, writing}
+use Rattle.sh_scene.specs.Scene.{Class, Undrawn, Reserved, Fresh, Linked, Hold, Nobody, Held, Writes, Scene, writing_of, writing}
 use Rattle.sh_scene.specs.Nodes.{level_in, low_in, high_in, next_in, IsLinked, LeadsTo, pairs_in, LeadDown, IsStandingLeaf, IsStandingInner, Body, Follows, Sits, Orderly}
 use Rattle.sh_scene.specs.Ground.{Ground}
 
@@ -65,9 +65,6 @@ undrawn_fresh i e = cc
 
 pub undrawn_linked : (l a : ℕ) → Undrawn ≡ Linked l a → ⊥
 undrawn_linked l a e = cc
-
-pub seat_is : (i j : ℕ) → Seat i ≡ Seat j → i ≡ j
-seat_is i j e = cc
 
 pub is_linked : (s : Scene) (n l a : ℕ) → s.class n ≡ Linked l a → IsLinked (s.class n)
 is_linked s n l a e = subst IsLinked (sym e) tt

@@ -6,7 +6,7 @@ use Rattle.sh_scene.specs.Ground.{Ground}
 use Rattle.sh_scene.specs.Change.{Change}
 use Rattle.sh_scene.specs.Acts.{counted, drawn}
 use Rattle.sh_own.specs.Counters.{IsAmong}
-use Rattle.sh_own.proofs.Own.{fresh_act, spent_act, draw_act}
+use Rattle.sh_own.proofs.Own.{fresh_act, spent_act, draw_act, drawn_mine}
 use Rattle.sh_scene.proofs.Events.{added}
 use Rattle.sh_own.proofs.Late.{bounded, raises}
 use Rattle.sh_own.proofs.own_nodes.Goals as goal
@@ -35,3 +35,6 @@ returns-clause-bounded c = λ limit seats counter wants b. bounded limit seats c
 
 pub returns-clause-raised : goal.returns-clause-raised
 returns-clause-raised c = λ limit seats counter seat wants now b lt is ends back. raises limit seats counter (λ i. IsAmong i wants) b seat (λ i. IsAmong i now) lt is ends back
+
+pub returns-clause-mine : goal.returns-clause-mine
+returns-clause-mine c = λ s seat server n h. drawn_mine c.args.cfg.now.parts s seat server n h

@@ -145,7 +145,7 @@ first_known : {T K : Type 0} (key : K) (chairs : ℕ) (lines : ℕ → Line T) (
 first_known key chairs lines homes zero v e = subst (Knows key lines homes 0) (some-injective (opener key chairs) v e) record { key_is = λ k h. sym (Some_is k key h); seated = λ t h. absurd (none-some t h); part = λ t h. absurd (none-some t h); stand = tt; nothing = λ h. refl }
 first_known key chairs lines homes (suc id) v e = absurd (some-ne-none v (sym e))
 
-pub below_zero : (n : ℕ) → below n 0 ≡ 0
+below_zero : (n : ℕ) → below n 0 ≡ 0
 below_zero n = grind (arith, nat_tests)
 
 pub opening_kept : {T K : Type 0} (fits : K → ℕ → T → Type 0) (key : K) (chairs cells : ℕ) (words : List ℕ) → chairs < 2 ^ 64 → words ≡ replicate (cells + cells) 0 → Kept fits key chairs words (map (λ (x : Option T). maybe.some x) (replicate cells None)) (opener key chairs ∷ [])

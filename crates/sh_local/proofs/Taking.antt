@@ -1,5 +1,5 @@
 -- The chairs that are taken in, one after another.
-use Rattle.std.proofs.Common.{refl, ◌≡◌, ℕ, Option, None, List, [], ◌∷◌, ◌++◌, length, ap, sym, subst, arith, length-append}
+use Rattle.std.proofs.Common.{◌≡◌, ℕ, Option, None, List, [], ◌∷◌, ◌++◌, length, ap, sym, subst, arith, length-append}
 use Rattle.atomic_table.specs.Table.{Seen, Final}
 use Rattle.atomic_table.specs.Seated.{TableId}
 use Rattle.sh_local.specs.declared.view.ChairCall.{ChairCall}
@@ -9,7 +9,7 @@ use Rattle.sh_local.specs.Lines.{Line, AllStand}
 use Rattle.sh_local.specs.Calls.{both}
 use Rattle.sh_local.specs.Chairs.{Sitting, AllFree, AllTold, AllNone, TakenIn, Gathered}
 use Rattle.sh_local.proofs.Sums.{total_append, total_snoc}
-use Rattle.sh_local.proofs.Regroup.{below_zero, ends_served, ends_once, ends_turns, ends_left, ends_even, ends_empty, ends_told}
+use Rattle.sh_local.proofs.Regroup.{ends_served, ends_once, ends_turns, ends_left, ends_even, ends_empty, ends_told}
 use Rattle.sh_local.proofs.Allowed.{Holds}
 
 all_stand_split : {T : Type 0} (lines : ℕ → Line T) (xs ys : List (ChairCall T)) → AllStand lines (xs ++ ys) → AllStand lines xs × AllStand lines ys
@@ -67,8 +67,3 @@ module _ {T K : Type 0} where
           draws = λ c n. let e = ends_once fits key chairs s.words s.homes s.views r id v f.1.1 parts_are t.none c n in omega (arith, e, t.draws c n);
           even = let e = ends_even fits key chairs s.words s.homes s.views r id v f.1.1 parts_are t.none in omega (arith, e, t.gives, t.takes);
         }
-
--- a table that was gathered has no chairs
-pub gathered_again : {T K : Type 0} (ss : List (Sitting T K)) → length ss ≡ 0 → Gathered 0 ss
-gathered_again [] e = record { lines = λ c. record { next = 0; served = 0; holder = λ _. 0; left = λ _. None }; told = tt; served = λ c lt. refl; draws = λ c n. sym (below_zero n); turns = λ c n lt. absurd (omega (arith, lt)); empty = λ c lt. refl; even = refl }
-gathered_again (s ∷ ss) e = absurd (omega (arith, e))

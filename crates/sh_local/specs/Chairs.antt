@@ -1,5 +1,5 @@
 -- What a chair and a table of cells are to their callers, and what the calls ask and answer.
-use Rattle.std.specs.Prelude.{◌≡◌, ◌≢◌, ℕ, ◌+◌, ◌%◌, ◌^◌, ◌<◌, ◌≤◌, Bool, true, false, Option, None, Some, List, [], ◌∷◌, length}
+use Rattle.std.specs.Prelude.{◌≡◌, ◌≢◌, ℕ, ◌+◌, ◌%◌, ◌^◌, ◌<◌, Bool, true, false, Option, None, Some, List, [], ◌∷◌, length, replicate}
 use mathlib.Core.Option as maybe
 use lib.ListN.{get_elem?}
 use Rattle.atomic_table.specs.Seated.{TableId}
@@ -27,19 +27,15 @@ pub record Sitting (T K : Type 0) : Type 0 where
 abbrev pub fresh_chair : {T K : Type 0} → TableId → K → Sitting T K
 fresh_chair z key = record { table = z; view = record { key = Some key; parts = 1; ticket = None; calls = [] } }
 
--- the table after it was gathered: no cell and no chair is left
-abbrev pub emptied : {K : Type 0} → CellTable K → CellTable K
-emptied r = record { table = r.table; key = r.key; cells = 0; chairs = 0 }
+-- how many cells there are; a table that was gathered has none
+abbrev pub cells_of : {K : Type 0} → Option (CellTable K) → ℕ
+cells_of None = 0
+cells_of (Some r) = r.cells
 
--- the table as it is now, which was made as r
-abbrev pub now_of : {K : Type 0} → Option (CellTable K) → CellTable K → CellTable K
-now_of None r = emptied r
-now_of (Some q) r = q
-
--- a table that isn't gathered is as it was made, and has a cell
-abbrev pub IsMade : {K : Type 0} → Option (CellTable K) → CellTable K → Type 0
-IsMade None r = Unit {0}
-IsMade (Some q) r = (q ≡ r) × (1 ≤ q.cells)
+-- a table that was just made, and its chairs: none has made a call
+abbrev pub IsNew : {T K : Type 0} → (chairs cells : ℕ) → K → Option (CellTable K) → List (Sitting T K) → Type 0
+IsNew chairs cells key None ss = ⊥
+IsNew chairs cells key (Some r) ss = (r.key ≡ key) × (r.cells ≡ cells) × (r.chairs ≡ chairs) × (ss ≡ replicate chairs (fresh_chair r.table key))
 
 abbrev pub slot_at : {T : Type 0} → Bool → ℕ → List (ℕ × Option T)
 slot_at true c = (c, None) ∷ []
@@ -55,9 +51,15 @@ abbrev pub word_if : ℕ → Option Ticket → Type 0
 word_if word None = Unit {0}
 word_if word (Some t) = word ≡ t.number % 2 ^ 64
 
--- the chair is one of this table's, and the table has this cell
-abbrev pub IsAt : {T K : Type 0} → CellTable K → Sitting T K → ℕ → Type 0
-IsAt r s c = (s.table ≡ r.table) × (s.view.key ≡ Some r.key) × (c < r.cells)
+-- the chair is one of this table's, and the table has this cell; a table that was gathered has neither
+abbrev pub IsAt : {T K : Type 0} → Option (CellTable K) → Sitting T K → ℕ → Type 0
+IsAt None s c = ⊥
+IsAt (Some r) s c = (s.table ≡ r.table) × (s.view.key ≡ Some r.key) × (c < r.cells)
+
+-- the value fits the table's key and the cell
+abbrev pub FitsAt : {T K : Type 0} → (K → ℕ → T → Type 0) → Option (CellTable K) → ℕ → T → Type 0
+FitsAt fits None c x = ⊥
+FitsAt fits (Some r) c x = fits r.key c x
 
 -- the chair has a ticket for this cell, and has the turn or not
 abbrev pub HasTicketFor : {T K : Type 0} → ℕ → Bool → View T K → Type 0
@@ -77,6 +79,11 @@ MayLeave fits t (Some x) = (t.ahead ≡ true) × fits x
 abbrev pub AllFree : {T K : Type 0} → TableId → List (Sitting T K) → Type 0
 AllFree z [] = Unit {0}
 AllFree z (s ∷ ss) = (s.table ≡ z) × (s.view.ticket ≡ None) × AllFree z ss
+
+-- these are all chairs of a table that isn't gathered yet, and none has a ticket
+abbrev pub AreAll : {T K : Type 0} → Option (CellTable K) → List (Sitting T K) → Type 0
+AreAll None ss = ⊥
+AreAll (Some r) ss = (length ss ≡ r.chairs) × AllFree r.table ss
 
 -- what the chairs' calls tell is so of these lines
 abbrev pub AllTold : {T K : Type 0} → (ℕ → Line T) → List (Sitting T K) → Type 0

@@ -1,7 +1,7 @@
 // The table of ticket queues, as chairs see it.
-ghost use Rattle.std.specs.Prelude.{◌≡◌, ◌<◌, ◌≤◌, None, true, false, IfOk, length, replicate};
+ghost use Rattle.std.specs.Prelude.{◌≡◌, ◌≢◌, ◌≤◌, None, Some, true, false, IfOk};
 ghost use Rattle.sh_local.specs.Calls.{counted, gone, held};
-ghost use Rattle.sh_local.specs.Chairs.{AllFree, Gathered, HasTicketFor, IsAt, Looked, MayLeave, emptied, fresh_chair};
+ghost use Rattle.sh_local.specs.Chairs.{AreAll, FitsAt, Gathered, HasTicketFor, IsAt, IsNew, Looked, MayLeave, cells_of};
 ghost use Rattle.sh_local.specs.Steps.{Draws};
 
 use crate::chair::Chair;
@@ -12,24 +12,20 @@ use crate::steps;
 use atomic_table::Table;
 use std::alloc::{AllocError, Global};
 use std::marker::Model;
-use std::snapshot::Snapshot;
 
 /// Ticket queues, one a cell, numbered from 0: the chairs draw tickets, and each cell serves one ticket at a time, in
 /// order. The turn before may leave one value for the next. A table that was gathered has no cells any more.
 pub struct Cells<T: Carried> {
     queues: Option<Queues<T>>,
-    // What they were when they were made, for contracts alone.
-    made: Snapshot<Queues<T>>,
 }
 
 impl<T: Carried> Model for Cells<T> {
-    ghost use Rattle.sh_local.specs.Chairs.{CellTable, IsMade, now_of};
+    ghost use Rattle.std.specs.Prelude.{Option};
+    ghost use Rattle.sh_local.specs.Chairs.{CellTable};
 
-    ghost Value = { CellTable T.Key };
+    ghost Value = { Option (CellTable T.Key) };
 
-    ghost view = { λ c. now_of c.queues c.made.value };
-
-    ghost invariant = { λ c. IsMade c.queues c.made.value };
+    ghost view = { λ c. c.queues };
 }
 
 impl<T: Carried> Cells<T> {
@@ -43,27 +39,21 @@ impl<T: Carried> Cells<T> {
         key: T::Key,
     ) -> Result<(Cells<T>, Vec<Chair<T>>), AllocError>
         requires { (1 ≤ chairs) × (1 ≤ cells) }
-        ensures cells { IfOk result (λ r. (r.0.key ≡ key) × (r.0.cells ≡ cells) × (r.0.chairs ≡ chairs)) }
-        ensures chairs { IfOk result (λ r. r.1.items ≡ replicate chairs (fresh_chair r.0.table key)) }
+        ensures { IfOk result (λ r. IsNew chairs cells key r.0 r.1.items) }
     {
         let words = Vec::from_elem(alloc, 0u64, cells as usize + cells as usize)?;
         let seats = Vec::with_capacity(alloc, chairs as usize)?;
         let setup = Setup { key, chairs };
         let (table, maker) = Table::vacant(alloc, words.as_slice(), cells as usize, &setup)?;
         let seats = seat_all(&table.shared, maker, chairs, seats);
-        let queues = Queues { table, cells };
-        let made = Snapshot::of(&queues);
-        let cells = Cells {
-            queues: Some(queues),
-            made,
-        };
-        Ok((cells, seats))
+        let queues = Some(Queues { table, cells });
+        Ok((Cells { queues }, seats))
     }
 
     // The queues of a table that isn't gathered.
     fn queues(&self) -> &Queues<T>
-        requires { 0 < self.now.cells }
-        ensures { result.now ≡ self.now }
+        requires { self.now ≢ None }
+        ensures { self.now ≡ Some result.now }
     {
         match &self.queues {
             Some(queues) => queues,
@@ -94,7 +84,7 @@ impl<T: Carried> Cells<T> {
         requires at { IsAt self.now chair.old cell }
         requires waits { HasTicketFor cell false chair.old.view }
         ensures same { chair.new.table ≡ chair.old.table }
-        ensures looked { Looked (T.fits self.now.key cell) chair.old.view result chair.new.view }
+        ensures looked { Looked (FitsAt T.fits self.now cell) chair.old.view result chair.new.view }
     {
         let queues = self.queues();
         steps::look(
@@ -129,7 +119,7 @@ impl<T: Carried> Cells<T> {
     pub fn leave(&self, chair: &mut Chair<T>, cell: u32, value: Option<T>)
         requires at { IsAt self.now chair.old cell }
         requires turn { HasTicketFor cell true chair.old.view }
-        requires value { MayLeave (T.fits self.now.key cell) (held chair.old.view) value }
+        requires value { MayLeave (FitsAt T.fits self.now cell) (held chair.old.view) value }
         ensures same { chair.new.table ≡ chair.old.table }
         ensures gone { chair.new.view ≡ gone chair.old.view value }
     {
@@ -147,23 +137,21 @@ impl<T: Carried> Cells<T> {
     /// Takes in all chairs and gives the cells back, none of which keeps a value. Condition: these are all chairs of
     /// this table, each once, and none has a ticket.
     pub fn gather(&mut self, chairs: Vec<Chair<T>>)
-        requires all { length chairs.items ≡ self.old.chairs }
-        requires free { AllFree self.old.table chairs.items }
-        ensures gathered { Gathered self.old.cells chairs.items }
-        ensures emptied { self.new ≡ emptied self.old }
+        requires { AreAll self.old chairs.items }
+        ensures gathered { Gathered (cells_of self.old) chairs.items }
+        ensures closed { self.new ≡ None }
     {
-        let queues = match self.queues.take() {
-            None => return,
-            Some(queues) => queues,
+        let Some(queues) = self.queues.take() else {
+            unreachable!()
         };
         queues.gather(chairs);
     }
 
     /// Lets go of a table that was gathered. A table of values that may be let go is let go as they are.
     pub fn free(self)
-        requires { self.cells ≡ 0 }
+        requires { self ≡ None }
     {
-        let Cells { queues, made: _ } = self;
+        let Cells { queues } = self;
         match queues {
             None => {}
             Some(_) => unreachable!(),
@@ -173,7 +161,7 @@ impl<T: Carried> Cells<T> {
 
 impl<T: Carried + Drop> Drop for Cells<T> {
     fn drop(self) {
-        let Cells { queues, made: _ } = self;
+        let Cells { queues } = self;
         match queues {
             None => {}
             Some(queues) => drop(queues),

@@ -1,5 +1,5 @@
 ghost use Rattle.std.specs.Prelude.{◌≡◌, ◌≢◌, ◌+◌, ◌<◌, ◌≤◌, None, Some, true, false, []};
-ghost use Rattle.sh_local.specs.Chairs.{HasTicketFor, IsAt};
+ghost use Rattle.sh_local.specs.Chairs.{FitsAt, HasTicketFor, IsAt};
 ghost use Rattle.sh_local.specs.Steps.{FitsIf};
 ghost use Rattle.atomic_table.specs.Seated.{TableId};
 
@@ -42,7 +42,7 @@ fn await_turn<T: Carried, R: Wait>(
     requires waits { HasTicketFor cell false chair.old.view }
     ensures at { IsAt cells.now chair.new cell }
     ensures turn { HasTicketFor cell true chair.new.view }
-    ensures fits { FitsIf (T.fits cells.now.key cell) result }
+    ensures fits { FitsIf (FitsAt T.fits cells.now cell) result }
 {
     for _ in rt.forever() {
         match cells.look(chair, cell) {
@@ -270,7 +270,7 @@ fn leave_for_the_next<R: Abort + Wait>(
     one: &mut Chair<u64>,
     two: &mut Chair<u64>,
 ) -> (u64, u64)
-    requires most { 7 ≤ cells.now.key }
+    requires most { FitsAt (λ key cell x. x ≤ key) cells.now 0 7 }
     requires one { IsAt cells.now one.old 0 × (one.old.view.ticket ≡ None) }
     requires two { IsAt cells.now two.old 0 × (two.old.view.ticket ≡ None) }
     ensures one { (one.new.table ≡ one.old.table) × (one.new.view.ticket ≡ None) }
@@ -406,7 +406,7 @@ fn add_and_hand_on<R: Wait>(
     mine: Option<Loan>,
 ) -> Option<Loan>
     requires words { 0 < words.now.table_id.words }
-    requires keyed { cells.now.key.table_id ≡ words.now.table_id }
+    requires keyed { FitsAt (λ key cell x. x ≡ key.table_id) cells.now 0 words.now.table_id }
     requires mine { FitsIf (λ x. x ≡ words.now.table_id) mine }
     requires at { IsAt cells.now chair.old 0 }
     requires waits { HasTicketFor 0 false chair.old.view }
@@ -443,7 +443,7 @@ fn hand_round<R: Abort + Wait>(
     loan: Loan,
 ) -> Option<Loan>
     requires words { 0 < words.now.table_id.words }
-    requires keyed { cells.now.key.table_id ≡ words.now.table_id }
+    requires keyed { FitsAt (λ key cell x. x ≡ key.table_id) cells.now 0 words.now.table_id }
     requires loan { loan ≡ words.now.table_id }
     requires one { IsAt cells.now one.old 0 × (one.old.view.ticket ≡ None) }
     requires two { IsAt cells.now two.old 0 × (two.old.view.ticket ≡ None) }

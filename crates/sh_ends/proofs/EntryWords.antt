@@ -16,16 +16,9 @@ use Rattle.sh_image.proofs.ReadLemmas.{entry_read, words_from_untorn, header_spe
 use Rattle.sh_image.proofs.UntornLemmas.{untorn_spelled}
 use Rattle.sh_read.specs.Reading.{IsIn}
 use Rattle.sh_scene.specs.Nodes.{entries_of}
+use Rattle.sh_scene.proofs.EntryWords.{same_entry, length-entries_of}
 use Rattle.sh_ends.specs.Images.{patched}
 use Rattle.sh_ends.proofs.StoreLemmas.{length-patched, patched_inside, patched_outside}
-
-same_take : (n at : ℕ) (a b : List ℕ) → at + n ≤ length a → at + n ≤ length b → ((o : ℕ) → o < n → get_or a (at + o) 0 ≡ get_or b (at + o) 0) → take n (drop at a) ≡ take n (drop at b)
-same_take n at a b long_a long_b same =
-    let la : length (take n (drop at a)) ≡ n = length-take-le n (drop at a) (omega (arith, length-drop at a, long_a)) in
-    let lb : length (take n (drop at b)) ≡ n = length-take-le n (drop at b) (omega (arith, length-drop at b, long_b)) in
-    same_number_lists (take n (drop at a)) (take n (drop at b)) (la ∙ sym lb) (λ k lt.
-    let less : k < n = omega (arith, lt, la) in
-    get_or-take n (drop at a) k 0 less ∙ get_or-drop at a k 0 ∙ same k less ∙ sym (get_or-take n (drop at b) k 0 less ∙ get_or-drop at b k 0))
 
 all_set : {X : Type 0} (P : X → Type 0) (xs : List X) (i : ℕ) (y : X) → AllByRecursion P xs → P y → AllByRecursion P (set xs i y)
 all_set P [] i y h q = h
@@ -33,19 +26,6 @@ all_set P (x ∷ xs) zero y h q = (q, h.1)
 all_set P (x ∷ xs) (suc i) y h q = (h.0, all_set P xs i y h.1 q)
 
 module _ (p : ConfigParts) where
-  -- an entry is known by its words
-  pub same_entry : (a b : List ℕ) (i : ℕ) (d : LeafEntry) → i < p.leaf → length a ≡ node_size p → length b ≡ node_size p → ((o : ℕ) → IsIn p i o → get_or a o 0 ≡ get_or b o 0) → get_or (entries_of p a) i d ≡ get_or (entries_of p b) i d
-  same_entry a b i d h long_a long_b same =
-      let at : ℕ = entry_at p i in
-      let room : at + 2 + p.value_words ≤ node_size p = omega (arith, entry_within p i h, node_size_is p) in
-      let word = λ (o : ℕ) (less : o < 3 + p.value_words). same (at + o) record { low = omega arith; high = omega (arith, entry_size_is p, less) } in
-      let front : get_or a at 0 ≡ get_or b at 0 = same at record { low = omega arith; high = omega (arith, entry_size_is p) } in
-      let value = same_take p.value_words (at + 2) a b (omega (arith, long_a, room)) (omega (arith, long_b, room)) (λ o less. let e : at + 2 + o ≡ at + (2 + o) = omega arith in ap (λ (k : ℕ). get_or a k 0) e ∙ word (2 + o) (omega (arith, less)) ∙ ap (λ (k : ℕ). get_or b k 0) (sym e)) in
-      entry_read p a i d h ∙ (λ t. record { version = front t; key = word 1 (omega arith) t; value = value t }) ∙ sym (entry_read p b i d h)
-
-  pub length-entries_of : (ws : List ℕ) → length (entries_of p ws) ≡ p.leaf
-  length-entries_of ws = length-entries_in p.value_words p.leaf (drop 6 ws)
-
   module _ (ws : List ℕ) (j : ℕ) (x : LeafEntry) (long : length ws ≡ node_size p) (h : j < p.leaf) (value : length x.value ≡ p.value_words) where
     abbrev now : List ℕ
     now = patched ws (entry_at p j) (entry_words x)
@@ -94,9 +74,9 @@ module _ (p : ConfigParts) where
 
     -- the leaf with the entry stored
     pub entries_patched : entries_of p now ≡ set (entries_of p ws) j x
-    entries_patched = same_lists (entries_of p now) (set (entries_of p ws) j x) (length-entries_of now ∙ sym (length-set (entries_of p ws) j x ∙ length-entries_of ws)) (λ k d lt. elim (cases_eq k j) [
-      | inl e ↦ ap (λ (z : ℕ). get_or (entries_of p now) z d) e ∙ here d ∙ sym (ap (λ (z : ℕ). get_or (set (entries_of p ws) j x) z d) e ∙ get_or-set_same (entries_of p ws) j x d (omega (arith, h, length-entries_of ws)))
-      | inr ne ↦ same_entry now ws k d (omega (arith, lt, length-entries_of now)) long_now long (λ o at. other_word k o ne at) ∙ sym (get_or-set_other (entries_of p ws) j k x d ne)
+    entries_patched = same_lists (entries_of p now) (set (entries_of p ws) j x) (length-entries_of p now ∙ sym (length-set (entries_of p ws) j x ∙ length-entries_of p ws)) (λ k d lt. elim (cases_eq k j) [
+      | inl e ↦ ap (λ (z : ℕ). get_or (entries_of p now) z d) e ∙ here d ∙ sym (ap (λ (z : ℕ). get_or (set (entries_of p ws) j x) z d) e ∙ get_or-set_same (entries_of p ws) j x d (omega (arith, h, length-entries_of p ws)))
+      | inr ne ↦ same_entry p now ws k d (omega (arith, lt, length-entries_of p now)) long_now long (λ o at. other_word k o ne at) ∙ sym (get_or-set_other (entries_of p ws) j k x d ne)
     ])
 
     pub leaf_patched : leaf_in p now ≡ record { version = get_or ws 0 0; low = get_or ws 2 0; high = get_or ws 3 0; next = get_or ws 4 0; entries = set (entries_of p ws) j x }

@@ -18,7 +18,7 @@ use Rattle.sh_read.specs.Reading.{IsIn, NotWhole, NotOne, IsCalm, FitsRead}
 use Rattle.sh_read.proofs.Words.{ended_head, ended_other, word_other, word_front}
 use Rattle.sh_read.proofs.Read.{FitsRead-next, FitsRead-load, FitsRead-begin, accepted}
 use Rattle.sh_scene.specs.Nodes.{low_in, high_in, next_in, entries_of, IsStandingLeaf}
-use Rattle.sh_ends.proofs.EntryWords.{same_entry, length-entries_of}
+use Rattle.sh_scene.proofs.EntryWords.{same_entry, length-entries_of}
 use Rattle.sh_known.specs.Points.{entry_of, HadAt, IsGoodEntry, IsGoodNode, FitsKey, LoadedFrom, IsReadLeaf}
 use Rattle.sh_known.specs.Knows.{Knows}
 use Rattle.sh_known.proofs.KeyLemmas.{key_weaker, key_begin, key_same, key_load, key_written, key_end}

@@ -3,3 +3,5 @@ pub mod PointLemmas
 pub mod Knowing
 pub mod Known
 pub mod Fed
+pub mod HandLemmas
+pub mod RowLemmas

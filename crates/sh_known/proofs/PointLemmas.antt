@@ -14,7 +14,7 @@ use Rattle.sh_edit.specs.Held.{held, no_entry}
 use Rattle.sh_edit.specs.Placing.{HasNone}
 use Rattle.sh_edit.proofs.HeldLemmas.{held_at, held_none}
 use Rattle.sh_scene.specs.Nodes.{low_in, high_in, entries_of, IsStandingLeaf}
-use Rattle.sh_ends.proofs.EntryWords.{length-entries_of}
+use Rattle.sh_scene.proofs.EntryWords.{length-entries_of}
 use Rattle.sh_known.specs.Points.{entry_of, HadAt, IsGoodEntry, IsGoodNode}
 use Rattle.sh_known.proofs.KeyLemmas.{first_with, first_or_none}
 

@@ -1,5 +1,8 @@
-//! What a READ of a node in the tree knows while it is under way, and what it has found where it is accepted.
+//! What a READ of a node in the tree knows while it is under way, what it has found where it is accepted, and where the
+//! hops from there lead.
 #![tactic(auto)]
+
+mod hops;
 
 ghost use Rattle.std.specs.Prelude.{◌≡◌, ◌≢◌, ◌+◌, ◌≤◌, ℕ, suc, List, [], ◌∷◌, length, slice_index, slice_set};
 ghost use Rattle.sh_base.specs.Parts.{parts_of};
@@ -16,6 +19,7 @@ ghost use Rattle.sh_scene.specs.Change.{Change, ChangeFor};
 ghost use Rattle.sh_known.specs.Points.{IsReadLeaf};
 ghost use Rattle.sh_known.specs.Knows.{fed_from, IsFed, IsKnown};
 
+pub use hops::{hops_lead_on, images_in_hand, rows_in_hand};
 use sh_base::Config;
 
 /// What a READ of a linked node knows begins with the load of its rear version, and the load of the next lower word adds

@@ -3,6 +3,7 @@ pub mod Scenes
 pub mod Holds
 pub mod Posts
 pub mod Spelled
+pub mod EntryWords
 pub mod Pigeons
 pub mod Roots
 pub mod Events

@@ -1,5 +1,5 @@
-use Rattle.sh_hops.proofs.HandLemmas.{right_named, down_named, down_inner, here_is, never_restart}
-use Rattle.sh_hops.proofs.hops_lead_on.Goals as goal
+use Rattle.sh_known.proofs.HandLemmas.{right_named, down_named, down_inner, here_is, never_restart}
+use Rattle.sh_known.proofs.hops.hops_lead_on.Goals as goal
 
 pub returns-clause-right : goal.returns-clause-right
 returns-clause-right c = λ s level low key target r image h from past e. right_named s level low key target image h from r past e

@@ -1,6 +1,4 @@
-//! Where hops lead in the tree: each node and image that a client has in hand names nodes that are linked for good.
-#![tactic(auto)]
-
+// Where hops lead in the tree: each node and image that a client has in hand names nodes that are linked for good.
 ghost use Rattle.std.specs.Prelude.{◌≡◌, ◌≢◌, ◌-◌, ◌<◌, ◌≤◌, ◌^◌, ℕ, suc, List, Some};
 ghost use Rattle.sh_base.specs.Parts.{parts_of};
 ghost use Rattle.sh_image.specs.declared.inner.Image.{Image};
@@ -14,7 +12,7 @@ ghost use Rattle.sh_scene.specs.Scene.{Scene, Linked};
 ghost use Rattle.sh_scene.specs.Ground.{Ground};
 ghost use Rattle.sh_scene.specs.Change.{Change};
 ghost use Rattle.sh_known.specs.Points.{IsReadLeaf};
-ghost use Rattle.sh_hops.specs.Hand.{IsNamed, IsImageOf, AreRowsOf};
+ghost use Rattle.sh_known.specs.Hand.{IsNamed, IsImageOf, AreRowsOf};
 
 use sh_base::Config;
 

@@ -1,7 +1,7 @@
 use Rattle.std.proofs.Common.{◌≢◌}
 use Rattle.sh_scene.specs.Scene.{Seat}
-use Rattle.sh_hops.proofs.HandLemmas.{leaf_image, inner_image, root_named, image_on, named_on}
-use Rattle.sh_hops.proofs.images_in_hand.Goals as goal
+use Rattle.sh_known.proofs.HandLemmas.{leaf_image, inner_image, root_named, image_on, named_on}
+use Rattle.sh_known.proofs.hops.images_in_hand.Goals as goal
 
 pub returns-clause-leaf : goal.returns-clause-leaf
 returns-clause-leaf c = λ words s n low first got g e r. leaf_image c.args.cfg.now.parts words s g n low first got e r

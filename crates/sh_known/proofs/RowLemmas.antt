@@ -9,8 +9,8 @@ use Rattle.sh_image.specs.Inner.{Inner}
 use Rattle.sh_cache.specs.Cached.{has_low, replaced, added, kept, forgotten, covers, FoundBy}
 use Rattle.sh_scene.specs.Scene.{Owner, Scene}
 use Rattle.sh_scene.specs.Change.{ChangeFor}
-use Rattle.sh_hops.specs.Hand.{IsImageOf, AreRowsOf}
-use Rattle.sh_hops.proofs.HandLemmas.{image_on}
+use Rattle.sh_known.specs.Hand.{IsImageOf, AreRowsOf}
+use Rattle.sh_known.proofs.HandLemmas.{image_on}
 
 module _ (P : Inner → Type 0) where
   by_test : (b : Bool) (xs ys : List Inner) → AllByRecursion P xs → AllByRecursion P ys → AllByRecursion P (if b then xs else ys)

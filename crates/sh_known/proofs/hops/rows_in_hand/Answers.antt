@@ -2,10 +2,10 @@ use Rattle.std.proofs.Common.{◌≢◌, refl}
 use Rattle.sh_image.specs.declared.inner.Image.TheVariants.{Inner as InnerImage}
 use Rattle.sh_image.specs.Inner.{Inner}
 use Rattle.sh_scene.specs.Scene.{Seat}
-use Rattle.sh_hops.specs.Hand.{IsImageOf}
-use Rattle.sh_hops.proofs.HandLemmas.{down_named}
-use Rattle.sh_hops.proofs.RowLemmas.{all_kept, all_forgotten, rows_on, own_low, row_found}
-use Rattle.sh_hops.proofs.rows_in_hand.Goals as goal
+use Rattle.sh_known.specs.Hand.{IsImageOf}
+use Rattle.sh_known.proofs.HandLemmas.{down_named}
+use Rattle.sh_known.proofs.RowLemmas.{all_kept, all_forgotten, rows_on, own_low, row_found}
+use Rattle.sh_known.proofs.hops.rows_in_hand.Goals as goal
 
 pub returns-clause-act : goal.returns-clause-act
 returns-clause-act c = λ s t seat rows ch h. rows_on c.args.cfg.now.parts (λ o. o ≢ Seat seat) s t ch rows h

@@ -18,7 +18,7 @@ use Rattle.sh_scene.specs.Change.{ChangeFor}
 use Rattle.sh_scene.proofs.Scenes.{follows_on, lead_on}
 use Rattle.sh_known.specs.Points.{IsReadLeaf}
 use Rattle.sh_known.proofs.PointLemmas.{all_at}
-use Rattle.sh_hops.specs.Hand.{IsNamed, IsImageOf}
+use Rattle.sh_known.specs.Hand.{IsNamed, IsImageOf}
 
 -- ---- the four answers by their tests
 by_right : (a b c : Bool) (n d r : ℕ) → (if a then Restart else if b then Right n else if c then Here else Down d) ≡ Right r → (a ≡ false) × (b ≡ true) × (n ≡ r)

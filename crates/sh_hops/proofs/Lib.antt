@@ -1,2 +1,0 @@
-pub mod HandLemmas
-pub mod RowLemmas

@@ -1,0 +1,123 @@
+-- The invariant of clients over one pool, and the laws that keep it, whatever the order of their turns.
+use Rattle.std.specs.Prelude.{◌≡◌, ◌≢◌, ◌⊎◌, ℕ, ◌+◌, ◌<◌, ◌≤◌, Bool, true, false, List, [], ◌∷◌, ◌++◌, length, Option, Some, None}
+use Rattle.sh_base.specs.declared.config.ConfigParts.{ConfigParts}
+use Rattle.sh_base.specs.declared.event.Event.{Event}
+use Rattle.sh_base.specs.declared.event.Event.TheVariants as event
+use Rattle.sh_base.specs.Setting.{all_seats, IsSetting}
+use Rattle.sh_base.specs.Layout.{counter_word, compute_of, lock_of}
+use Rattle.sh_base.specs.Memory.{apply, found_by}
+use Rattle.sh_map.specs.declared.call.Call.{Call}
+use Rattle.sh_map.specs.declared.log.Entry.{Entry as LogEntry}
+use Rattle.sh_map.specs.Calls.{IsInRange}
+use Rattle.sh_scene.specs.Scene.{Pending, Skipped, Seat, Right, Nobody, Held, Owns, Scene}
+use Rattle.sh_scene.specs.Ground.{Ground}
+use Rattle.sh_own.specs.Counters.{Bounded}
+use Rattle.sh_client.specs.declared.state.Aim.{Aim}
+use Rattle.sh_client.specs.declared.state.Then.{Then}
+use Rattle.sh_client.specs.declared.state.Want.{Want}
+use Rattle.sh_client.specs.declared.state.Want.TheVariants as want
+use Rattle.sh_client.specs.declared.state.Phase.TheVariants.{Idle, Look, Leave, Ended}
+use Rattle.sh_client.specs.Machine.{Machine}
+use Rattle.sh_client.specs.Giving.{makes}
+use Rattle.sh_client.specs.Rests.{is_resting}
+use Rattle.sh_client.specs.Wants.{want_of}
+use Rattle.sh_core.specs.Actors.{Actor, begun, rested, stepped, turned}
+use Rattle.sh_core.specs.Keeps.{Keeps}
+
+-- a client is to count a server's counter on
+abbrev pub WantsAdd : ConfigParts → (server : ℕ) → Machine → Type 0
+WantsAdd p server m = want_of m ≡ want.Event (event.Add (counter_word p server))
+
+-- a seat's actor is
+abbrev pub SomeAdds : ConfigParts → (Has : ℕ → Actor → Type 0) → (server seat : ℕ) → Type 0
+SomeAdds p Has server seat = (a : Actor) × Has seat a × WantsAdd p server a.client
+
+-- The invariant over the words, the log, the relation that says which actor a seat has, and the rights that are out: the
+-- lock, the compute server, and how often the lock was handed over.
+pub record Inv (p : ConfigParts) (words : List ℕ) (log : List LogEntry) (Has : ℕ → Actor → Type 0) (Out : (lock compute depth : ℕ) → Type 0) : Type 0 where
+  pub scene : Scene
+  pub log_is : scene.log ≡ log
+  pub ground : Ground p words scene
+  pub bounded : (server : ℕ) → server < p.servers → Bounded p.chunks (all_seats p) (scene.counter server) (λ seat. SomeAdds p Has server seat)
+  pub kept : (seat : ℕ) (a : Actor) → Has seat a → Keeps p scene seat a
+  pub held : (seat lock : ℕ) → Owns (scene.hold lock) (Seat seat) → (a : Actor) × Has seat a
+  pub pends : (seat n : ℕ) → scene.post n ≡ Pending seat → (a : Actor) × Has seat a
+  pub skips : (seat n : ℕ) → scene.post n ≡ Skipped seat → (a : Actor) × Has seat a
+  pub given : (lock compute depth : ℕ) → scene.hold lock ≡ Held (Right compute) depth → Out lock compute depth
+  pub out : (lock compute depth : ℕ) → Out lock compute depth → scene.hold lock ≡ Held (Right compute) depth
+
+-- the seat has this actor from now on, and the other seats have theirs
+pub record Moves (Has : ℕ → Actor → Type 0) (seat : ℕ) (a : Actor) (Now : ℕ → Actor → Type 0) : Type 0 where
+  pub back : (j : ℕ) (b : Actor) → Now j b → ((j ≡ seat) × (b ≡ a)) ⊎ ((j ≢ seat) × Has j b)
+  pub here : Now seat a
+  pub on : (j : ℕ) (b : Actor) → j ≢ seat → Has j b → Now j b
+
+-- The law: the turn of the wanted event keeps the invariant. An update's entry comes into the log with its last store.
+abbrev pub TurnKeeps : ConfigParts → Type 1
+TurnKeeps p = (words : List ℕ) (log : List LogEntry) (Has Now : ℕ → Actor → Type 0) (Out : ℕ → ℕ → ℕ → Type 0) (seat : ℕ) (a : Actor) (e : Event) → Inv p words log Has Out → Has seat a → want_of a.client ≡ want.Event e
+    → Moves Has seat (stepped seat a log (found_by words e)) Now → Inv p (apply words e) (log ++ makes a.client) Now Out
+
+-- a turn that the client's own compute server answers: a ticket, a look that waits, a count, or leave of the queue
+abbrev pub IsLocal : Want → Type 0
+IsLocal (want.Event e) = ⊥
+IsLocal (want.Draw lock) = Unit {0}
+IsLocal (want.Look lock) = Unit {0}
+IsLocal (want.Waiting lock) = Unit {0}
+IsLocal (want.Leave lock None) = Unit {0}
+IsLocal (want.Leave lock (Some depth)) = ⊥
+IsLocal want.Done = ⊥
+
+-- what a seat has seen of the log, and no less than it had
+pub record HasSeen (log seen : List LogEntry) (a : Actor) : Type 0 where
+  pub rest : List LogEntry
+  pub whole : log ≡ seen ++ rest
+  pub more : a.seen ≤ length seen
+
+-- a local turn keeps it, whatever it was answered
+abbrev pub LocalKeeps : ConfigParts → Type 1
+LocalKeeps p = (words : List ℕ) (log seen : List LogEntry) (Has Now : ℕ → Actor → Type 0) (Out : ℕ → ℕ → ℕ → Type 0) (seat word : ℕ) (a : Actor) → Inv p words log Has Out → Has seat a → IsLocal (want_of a.client) → HasSeen log seen a
+    → Moves Has seat (stepped seat a seen word) Now → Inv p words log Now Out
+
+-- so does a look that had its turn, where no right was in the queue
+abbrev pub LookKeeps : ConfigParts → Type 1
+LookKeeps p = (words : List ℕ) (log seen : List LogEntry) (Has Now : ℕ → Actor → Type 0) (Out : ℕ → ℕ → ℕ → Type 0) (seat : ℕ) (a : Actor) (aim : Aim) (n : ℕ) → Inv p words log Has Out → Has seat a → a.client.phase ≡ Look aim n → HasSeen log seen a
+    → Moves Has seat (turned seat a seen None) Now → Inv p words log Now Out
+
+-- and one that took the right up
+abbrev pub TakeKeeps : ConfigParts → Type 1
+TakeKeeps p = (words : List ℕ) (log seen : List LogEntry) (Has Now : ℕ → Actor → Type 0) (Out After : ℕ → ℕ → ℕ → Type 0) (seat : ℕ) (a : Actor) (aim : Aim) (n depth : ℕ) → Inv p words log Has Out → Has seat a → a.client.phase ≡ Look aim n → HasSeen log seen a
+    → Out (lock_of p n) (compute_of p seat) depth
+    → ((lock compute d : ℕ) → After lock compute d → (lock ≢ lock_of p n) × Out lock compute d) → ((lock compute d : ℕ) → lock ≢ lock_of p n → Out lock compute d → After lock compute d)
+    → Moves Has seat (turned seat a seen (Some depth)) Now → Inv p words log Now After
+
+-- a holder that leaves the queue and hands the lock over puts a right out
+abbrev pub PartKeeps : ConfigParts → Type 1
+PartKeeps p = (words : List ℕ) (log seen : List LogEntry) (Has Now : ℕ → Actor → Type 0) (Out After : ℕ → ℕ → ℕ → Type 0) (seat word : ℕ) (a : Actor) (n depth : ℕ) (after : Then) → Inv p words log Has Out → Has seat a → a.client.phase ≡ Leave n (Some depth) after → HasSeen log seen a
+    → After (lock_of p n) (compute_of p seat) depth
+    → ((lock compute d : ℕ) → After lock compute d → ((lock ≡ lock_of p n) × (compute ≡ compute_of p seat) × (d ≡ depth)) ⊎ Out lock compute d) → ((lock compute d : ℕ) → Out lock compute d → After lock compute d)
+    → Moves Has seat (stepped seat a seen word) Now → Inv p words log Now After
+
+-- A seat at rest begins a call, having seen so much of the log.
+abbrev pub BeginKeeps : ConfigParts → Type 1
+BeginKeeps p = (words : List ℕ) (log : List LogEntry) (Has Now : ℕ → Actor → Type 0) (Out : ℕ → ℕ → ℕ → Type 0) (seat number n : ℕ) (a : Actor) (call : Call) → Inv p words log Has Out → Has seat a → is_resting a.client ≡ true → IsInRange p call → a.seen ≤ n → n ≤ length log
+    → Moves Has seat (begun a number call n) Now → Inv p words log Now Out
+
+-- A call that has ended is taken away.
+abbrev pub RestKeeps : ConfigParts → Type 1
+RestKeeps p = (words : List ℕ) (log : List LogEntry) (Has Now : ℕ → Actor → Type 0) (Out : ℕ → ℕ → ℕ → Type 0) (seat : ℕ) (a : Actor) → Inv p words log Has Out → Has seat a → a.client.phase ≡ Ended → Moves Has seat (rested a) Now → Inv p words log Now Out
+
+-- relations that say the same
+pub record AreSame (Has Now : ℕ → Actor → Type 0) : Type 0 where
+  pub on : (seat : ℕ) (a : Actor) → Has seat a → Now seat a
+  pub back : (seat : ℕ) (a : Actor) → Now seat a → Has seat a
+
+abbrev pub SameKeeps : ConfigParts → Type 1
+SameKeeps p = (words : List ℕ) (log : List LogEntry) (Has Now : ℕ → Actor → Type 0) (Out : ℕ → ℕ → ℕ → Type 0) → Inv p words log Has Out → AreSame Has Now → Inv p words log Now Out
+
+-- where all clients rest and no right is out, nobody holds a lock, and no node is to be posted
+pub record AllRest (p : ConfigParts) (s : Scene) (log : List LogEntry) : Type 0 where
+  pub free : (lock : ℕ) → s.hold lock ≡ Nobody
+  pub posted : (seat n : ℕ) → s.post n ≢ Pending seat
+
+abbrev pub AtRest : ConfigParts → Type 1
+AtRest p = (words : List ℕ) (log : List LogEntry) (Has : ℕ → Actor → Type 0) (Out : ℕ → ℕ → ℕ → Type 0) → (inv : Inv p words log Has Out) → ((seat : ℕ) (a : Actor) → Has seat a → is_resting a.client ≡ true) → ((lock compute depth : ℕ) → Out lock compute depth → ⊥) → AllRest p inv.scene log

@@ -1,0 +1,4 @@
+pub mod Actors
+pub mod Fits
+pub mod Keeps
+pub mod Core

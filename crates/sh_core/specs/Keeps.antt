@@ -3,6 +3,7 @@ use Rattle.std.specs.Prelude.{◌≡◌, ◌≢◌, ◌↔◌, ℕ, ◌+◌, ◌
 use Rattle.sh_base.specs.declared.config.ConfigParts.{ConfigParts}
 use Rattle.sh_base.specs.Setting.{all_seats}
 use Rattle.sh_base.specs.Layout.{lock_of}
+use Rattle.sh_map.specs.declared.call.Call.{Call}
 use Rattle.sh_map.specs.declared.log.Entry.{Entry as LogEntry}
 use Rattle.sh_map.specs.Calls.{IsInRange}
 use Rattle.sh_map.specs.Made.{entries_by}
@@ -93,30 +94,34 @@ pending i m (Swap post root fresh) = entries_by i m.call m.reply
 pending i m Ended = []
 
 -- a seat's client is of the setting and of its seat, and its call is in range
-pub record IsSeated (p : ConfigParts) (seat : ℕ) (m : Machine) : Type 0 where
-  pub setting : m.setting ≡ p
-  pub seat_is : m.seat ≡ seat
+pub record IsSeated (p : ConfigParts) (seat : ℕ) (setting : ConfigParts) (number : ℕ) (call : Call) : Type 0 where
+  pub setting_is : setting ≡ p
+  pub seat_is : number ≡ seat
   pub within : seat < all_seats p
-  pub in_range : IsInRange p m.call
+  pub in_range : IsInRange p call
 
 -- the nodes whose posts the seat skipped are as many as it has counted
-pub record Skips (s : Scene) (seat : ℕ) (m : Machine) : Type 0 where
+pub record Skips (s : Scene) (seat count : ℕ) : Type 0 where
   pub nodes : List ℕ
   pub once : AreDifferent nodes
   pub are : (n : ℕ) → (is_in nodes n ≡ true) ↔ (s.post n ≡ Skipped seat)
-  pub counted : length nodes ≡ m.tally.skipped_spent + m.tally.skipped_worn
+  pub counted : length nodes ≡ count
 
--- The duty is the post that the seat is to make. The log's entries of the seat are those of its ended calls, once and in
--- order, and behind them at most the one of its call under way.
-pub record Keeps (p : ConfigParts) (s : Scene) (seat : ℕ) (a : Actor) : Type 0 where
-  pub seated : IsSeated p seat a.client
+-- What a client knows of the scene, and what there is of it. The duty is the post that the seat is to make.
+pub record IsAtWork (p : ConfigParts) (s : Scene) (seat first point seen : ℕ) (m : Machine) : Type 0 where
+  pub seated : IsSeated p seat m.setting m.seat m.call
   pub duty : Option Post
-  pub fits : Fits p s seat a.first a.point a.seen a.client duty a.client.phase
-  pub owes : Owes s seat a.first a.point a.seen a.client duty
-  pub hands : Hands s seat (holding p a.client a.client.phase)
+  pub fits : Fits p s seat first point seen m duty m.phase
+  pub owes : Owes s seat first point seen m.call m.reply duty
+  pub hands : Hands s seat (holding p m m.phase)
   pub waits : Waits s seat duty
-  pub spares : AreSpares s seat a.client.spare
-  pub skips : Skips s seat a.client
+  pub spares : AreSpares s seat m.spare
+  pub skips : Skips s seat (m.tally.skipped_spent + m.tally.skipped_worn)
+
+-- The log's entries of the seat are those of its ended calls, once and in order, and behind them at most the one of its
+-- call under way.
+pub record Keeps (p : ConfigParts) (s : Scene) (seat : ℕ) (a : Actor) : Type 0 where
+  pub work : IsAtWork p s seat a.first a.point a.seen a.client
   pub seen : a.seen ≤ length s.log
   pub first : a.first ≤ a.seen
   pub answered : AreAnswered s.log seat a.dones

@@ -1,2 +1,4 @@
 pub mod Logs
 pub mod Others
+pub mod Frame
+pub mod Locals

@@ -45,7 +45,7 @@ in_order_snoc low [] d n h a b = (h, a, b)
 in_order_snoc low (c ∷ ds) d n h a b = (h.0, h.1, in_order_snoc (c.point + made c.call c.reply) ds d n h.2 a b)
 
 -- what stands when one entry comes, stands when some come
-grows : (P : List Entry → Type 0) → ((es : List Entry) (e : Entry) → P es → P (es ++ e ∷ [])) → (log more : List Entry) → P log → P (log ++ more)
+pub grows : (P : List Entry → Type 0) → ((es : List Entry) (e : Entry) → P es → P (es ++ e ∷ [])) → (log more : List Entry) → P log → P (log ++ more)
 grows P push log [] h = subst P (sym (append-nil log)) h
 grows P push log (e ∷ more) h = subst P (append_assoc log (e ∷ []) more) (grows P push (log ++ e ∷ []) more (push log e h))
 

@@ -4,6 +4,7 @@ use Rattle.sh_base.specs.declared.config.ConfigParts.{ConfigParts}
 use Rattle.sh_base.specs.Setting.{all_seats}
 use Rattle.sh_base.specs.Layout.{lock_of}
 use Rattle.sh_map.specs.declared.call.Call.{Call}
+use Rattle.sh_map.specs.declared.call.Reply.{Reply}
 use Rattle.sh_map.specs.declared.log.Entry.{Entry as LogEntry}
 use Rattle.sh_map.specs.Calls.{IsInRange}
 use Rattle.sh_map.specs.Made.{entries_by}
@@ -57,37 +58,37 @@ Waits s seat None = (n : ℕ) → s.post n ≢ Pending seat
 Waits s seat (Some post) = (n : ℕ) → n ≢ post.node → s.post n ≢ Pending seat
 
 -- The entries of the call under way: none on the way to its leaf, and its own once it is stored. A post comes behind it.
-abbrev pub pending_aim : (seat : ℕ) → Machine → Aim → List LogEntry
-pending_aim seat m Own = []
-pending_aim seat m (Posts post) = entries_by seat m.call m.reply
+abbrev pub pending_aim : (seat : ℕ) → Call → Reply → Aim → List LogEntry
+pending_aim seat call reply Own = []
+pending_aim seat call reply (Posts post) = entries_by seat call reply
 
-abbrev pub pending_then : (seat : ℕ) → Machine → Then → List LogEntry
-pending_then seat m Ends = entries_by seat m.call m.reply
-pending_then seat m (Starts aim) = pending_aim seat m aim
-pending_then seat m (Takes aim n) = pending_aim seat m aim
+abbrev pub pending_then : (seat : ℕ) → Call → Reply → Then → List LogEntry
+pending_then seat call reply Ends = entries_by seat call reply
+pending_then seat call reply (Starts aim) = pending_aim seat call reply aim
+pending_then seat call reply (Takes aim n) = pending_aim seat call reply aim
 
-abbrev pub pending_write : (seat : ℕ) → Machine → Write → Then → List LogEntry
-pending_write seat m Nothing after = pending_then seat m after
-pending_write seat m (Entry index) after = []
-pending_write seat m WholeLeaf after = []
-pending_write seat m LeftLeaf after = []
-pending_write seat m WholeInner after = entries_by seat m.call m.reply
-pending_write seat m LeftInner after = entries_by seat m.call m.reply
+abbrev pub pending_write : (seat : ℕ) → Call → Reply → Write → Then → List LogEntry
+pending_write seat call reply Nothing after = pending_then seat call reply after
+pending_write seat call reply (Entry index) after = []
+pending_write seat call reply WholeLeaf after = []
+pending_write seat call reply LeftLeaf after = []
+pending_write seat call reply WholeInner after = entries_by seat call reply
+pending_write seat call reply LeftInner after = entries_by seat call reply
 
 abbrev pub pending : (seat : ℕ) → Machine → Phase → List LogEntry
 pending i m Idle = []
-pending i m (Root aim) = pending_aim i m aim
-pending i m (Read aim top) = pending_aim i m aim
-pending i m (Draw aim n) = pending_aim i m aim
-pending i m (Look aim n) = pending_aim i m aim
-pending i m (Grab aim n) = pending_aim i m aim
-pending i m (Hold aim depth) = pending_aim i m aim
-pending i m (Seek aim depth) = pending_aim i m aim
-pending i m (Fill n depth fresh done write after) = pending_write i m write after
-pending i m (Waiting n depth write after) = pending_write i m write after
-pending i m (Body n carry done write after) = pending_write i m write after
-pending i m (Unlock n after) = pending_then i m after
-pending i m (Leave n carry after) = pending_then i m after
+pending i m (Root aim) = pending_aim i m.call m.reply aim
+pending i m (Read aim top) = pending_aim i m.call m.reply aim
+pending i m (Draw aim n) = pending_aim i m.call m.reply aim
+pending i m (Look aim n) = pending_aim i m.call m.reply aim
+pending i m (Grab aim n) = pending_aim i m.call m.reply aim
+pending i m (Hold aim depth) = pending_aim i m.call m.reply aim
+pending i m (Seek aim depth) = pending_aim i m.call m.reply aim
+pending i m (Fill n depth fresh done write after) = pending_write i m.call m.reply write after
+pending i m (Waiting n depth write after) = pending_write i m.call m.reply write after
+pending i m (Body n carry done write after) = pending_write i m.call m.reply write after
+pending i m (Unlock n after) = pending_then i m.call m.reply after
+pending i m (Leave n carry after) = pending_then i m.call m.reply after
 pending i m (Top post root) = entries_by i m.call m.reply
 pending i m (Raise post root fresh done) = entries_by i m.call m.reply
 pending i m (Swap post root fresh) = entries_by i m.call m.reply

@@ -2,3 +2,4 @@ pub mod Logs
 pub mod Others
 pub mod Frame
 pub mod Locals
+pub mod Locks

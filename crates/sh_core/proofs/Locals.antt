@@ -94,18 +94,18 @@ module _ (p : ConfigParts) (ok : IsSetting p) (words : List ℕ) (Has Now : ℕ 
   stores n d word write after ne r e h plans mv =
       let k = b.kept i (me p i a m (Waiting n d write after)) h in
       let f = k.work.fits in
-      goes (Waiting n d write after) (Body n (carried d r) 0 write after) k (record { depth = d; held = f.0; carries = carries_on p word d r e (bound_is n d f.0); left = some_body write k.work.duty after n ne f.1 }, plans k) k.work.hands refl tt mv
+      goes (Waiting n d write after) (Body n (carried d r) 0 write after) k (record { real = f.2; depth = d; held = f.0; carries = carries_on p word d r e (bound_is n d f.0); left = some_body write k.work.duty after n ne f.1 }, plans k) k.work.hands refl tt mv
 
   waits : (n d word : ℕ) (write : Write) (after : Then) (r : Release) → release_of word d p.bound ≡ r → Has i (me p i a m (Waiting n d write after))
       → Moves Has i (becomes i (me p i a m (Waiting n d write after)) sn [] (writing (at p i m (Waiting n d write after)) n (carried d r) write after)) Now → Inv p words s.log Now Out
   waits n d word Nothing after Free e h mv =
       let k = b.kept i (me p i a m (Waiting n d Nothing after)) h in
       let f = k.work.fits in
-      goes (Waiting n d Nothing after) (Unlock n after) k (record { depth = d; held = f.0; carries = tt }, on m.call m.reply k.work.duty after k.seen f.1) k.work.hands refl tt mv
+      goes (Waiting n d Nothing after) (Unlock n after) k (record { real = f.2; depth = d; held = f.0; carries = tt }, on m.call m.reply k.work.duty after k.seen f.1) k.work.hands refl tt mv
   waits n d word Nothing after Hand e h mv =
       let k = b.kept i (me p i a m (Waiting n d Nothing after)) h in
       let f = k.work.fits in
-      goes (Waiting n d Nothing after) (Leave n (Some (d + 1)) after) k (record { depth = d; held = f.0; carries = carries_on p word d Hand e (bound_is n d f.0) }, on m.call m.reply k.work.duty after k.seen f.1) k.work.hands refl tt mv
+      goes (Waiting n d Nothing after) (Leave n (Some (d + 1)) after) k (record { real = f.2; depth = d; held = f.0; carries = carries_on p word d Hand e (bound_is n d f.0) }, on m.call m.reply k.work.duty after k.seen f.1) k.work.hands refl tt mv
   waits n d word (Entry index) after r e h mv = stores n d word (Entry index) after (λ z. cc) r e h (λ k. k.work.fits.1) mv
   waits n d word WholeLeaf after r e h mv = stores n d word WholeLeaf after (λ z. cc) r e h (λ k. k.work.fits.1) mv
   waits n d word LeftLeaf after r e h mv = stores n d word LeftLeaf after (λ z. cc) r e h (λ k. k.work.fits.1) mv

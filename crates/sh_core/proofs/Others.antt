@@ -213,7 +213,7 @@ module _ (p : ConfigParts) (ok : IsSetting p) (Other : Owner → Type 0) (words 
   plans_on f q e c r spare body right n LeftInner duty after le o h = split_on (entries_by j c r) spare body right n LeftInner duty after o h
 
   holding_on : (n : ℕ) (carry : Option ℕ) → IsHolding p s j n carry → IsHolding p t j n carry
-  holding_on n carry h = record { depth = h.depth; held = still n (Held (Seat j) h.depth) (held_owns (s.hold (lock_of p n)) j h.depth h.held) h.held; carries = h.carries }
+  holding_on n carry h = record { real = h.real; depth = h.depth; held = still n (Held (Seat j) h.depth) (held_owns (s.hold (lock_of p n)) j h.depth h.held) h.held; carries = h.carries }
 
   leaving_on : (n : ℕ) (carry : Option ℕ) → IsLeaving p s j n carry → IsLeaving p t j n carry
   leaving_on n None h = tt
@@ -239,15 +239,15 @@ module _ (p : ConfigParts) (ok : IsSetting p) (Other : Owner → Type 0) (words 
       (h.0, there_on m.call aim n h.1, still n (Held (Seat j) d) o h.2, record { standing = h.3.standing ∙ sym (same n (target aim) h.1.low h.1.linked o); image = h.3.image; accepted_is = h.3.accepted_is; split = h.3.split }, h.4)
   others_fit f q e m duty (Fill n d r done write after) le h =
       let o = held_owns (s.hold (lock_of p n)) j d h.0 in
-      (still n (Held (Seat j) d) o h.0, half_on (entries_by j m.call m.reply) m.body m.right n r write duty after o h.1, filled_on m.spare m.right r done h.2, h.3)
+      (still n (Held (Seat j) d) o h.0, half_on (entries_by j m.call m.reply) m.body m.right n r write duty after o h.1, filled_on m.spare m.right r done h.2, h.3, h.4)
   others_fit f q e m duty (Waiting n d write after) le h =
       let o = held_owns (s.hold (lock_of p n)) j d h.0 in
-      (still n (Held (Seat j) d) o h.0, plans_on f q e m.call m.reply m.spare m.body m.right n write duty after le o h.1)
+      (still n (Held (Seat j) d) o h.0, plans_on f q e m.call m.reply m.spare m.body m.right n write duty after le o h.1, h.2)
   others_fit f q e m duty (Body n carry done write after) le h =
       let k = h.0 in
       let x : Hold = storing_hold j k.depth n write m.body done in
       let o = storing_owns (s.hold (lock_of p n)) j k.depth n write m.body done k.held in
-      (record { depth = k.depth; held = still n x o k.held; carries = k.carries; left = k.left }, plans_on f q e m.call m.reply m.spare m.body m.right n write duty after le o h.1)
+      (record { real = k.real; depth = k.depth; held = still n x o k.held; carries = k.carries; left = k.left }, plans_on f q e m.call m.reply m.spare m.body m.right n write duty after le o h.1)
   others_fit f q e m duty (Unlock n after) le h = (holding_on n None h.0, follows_on p s t j f q e e (grown e) m.call m.reply duty after le h.1)
   others_fit f q e m duty (Leave n carry after) le h = (leaving_on n carry h.0, follows_on p s t j f q e e (grown e) m.call m.reply duty after le h.1)
   others_fit f q e m duty (Top post root) le h = (h.0, below_on p s t j 0 0 0 0 (grown 0) post root h.1, h.2)

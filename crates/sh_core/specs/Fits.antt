@@ -1,7 +1,7 @@
 -- What a client knows of the scene, by what it is at.
 use Rattle.std.specs.Prelude.{◌≡◌, ◌≢◌, ◌⊎◌, ℕ, zero, suc, ◌+◌, ◌-◌, ◌*◌, ◌^◌, ◌<◌, ◌≤◌, Bool, true, false, List, [], ◌∷◌, length, drop, slice_index, slice_set, slice_get, Option, Some, None}
 use Rattle.sh_base.specs.declared.config.ConfigParts.{ConfigParts}
-use Rattle.sh_base.specs.Setting.{node_size, last_version}
+use Rattle.sh_base.specs.Setting.{node_size, last_version, IsNode}
 use Rattle.sh_base.specs.Layout.{lock_of, entry_at}
 use Rattle.sh_map.specs.declared.call.Call.{Call}
 use Rattle.sh_map.specs.declared.call.Call.TheVariants as call
@@ -269,13 +269,17 @@ abbrev pub Carries : ConfigParts → (depth : ℕ) → Option ℕ → Type 0
 Carries p depth None = Unit {0}
 Carries p depth (Some now) = (now ≡ depth + 1) × (now ≤ p.bound)
 
+-- the lock of a node is held while its body is stored
 pub record IsStoring (p : ConfigParts) (s : Scene) (seat : ℕ) (body : List ℕ) (n : ℕ) (carry : Option ℕ) (done : ℕ) (write : Write) : Type 0 where
+  pub real : IsNode p n
   pub depth : ℕ
   pub held : s.hold (lock_of p n) ≡ storing_hold seat depth n write body done
   pub carries : Carries p depth carry
   pub left : done < length body
 
+-- and before and behind that
 pub record IsHolding (p : ConfigParts) (s : Scene) (seat n : ℕ) (carry : Option ℕ) : Type 0 where
+  pub real : IsNode p n
   pub depth : ℕ
   pub held : s.hold (lock_of p n) ≡ Held (Seat seat) depth
   pub carries : Carries p depth carry
@@ -312,8 +316,8 @@ Fits p s i f q e m duty (Look aim n) = (duty ≡ duty_of aim) × IsThere s m.cal
 Fits p s i f q e m duty (Grab aim n) = (duty ≡ duty_of aim) × IsThere s m.call aim n
 Fits p s i f q e m duty (Holds aim depth) = (duty ≡ duty_of aim) × IsThere s m.call aim m.reads.node × (s.hold (lock_of p m.reads.node) ≡ Held (Seat i) depth) × IsReading p s m.reads
 Fits p s i f q e m duty (Seek aim depth) = (duty ≡ duty_of aim) × IsThere s m.call aim m.reads.node × (s.hold (lock_of p m.reads.node) ≡ Held (Seat i) depth) × IsToSplit p s m.call m.reads aim × IsSeeking p m.walk m.spare
-Fits p s i f q e m duty (Fill n depth fresh done write after) = (s.hold (lock_of p n) ≡ Held (Seat i) depth) × PlansHalf p s i (entries_by i m.call m.reply) m.body m.right n fresh write duty after × IsFilled s i m.spare m.right fresh done × (done < node_size p)
-Fits p s i f q e m duty (Waiting n depth write after) = (s.hold (lock_of p n) ≡ Held (Seat i) depth) × Plans p s i f q e m.call m.reply m.spare m.body m.right n write duty after
+Fits p s i f q e m duty (Fill n depth fresh done write after) = (s.hold (lock_of p n) ≡ Held (Seat i) depth) × PlansHalf p s i (entries_by i m.call m.reply) m.body m.right n fresh write duty after × IsFilled s i m.spare m.right fresh done × (done < node_size p) × IsNode p n
+Fits p s i f q e m duty (Waiting n depth write after) = (s.hold (lock_of p n) ≡ Held (Seat i) depth) × Plans p s i f q e m.call m.reply m.spare m.body m.right n write duty after × IsNode p n
 Fits p s i f q e m duty (Body n carry done write after) = IsStoring p s i m.body n carry done write × Plans p s i f q e m.call m.reply m.spare m.body m.right n write duty after
 Fits p s i f q e m duty (Unlock n after) = IsHolding p s i n None × Follows p s i f q e m.call m.reply duty after
 Fits p s i f q e m duty (Leave n carry after) = IsLeaving p s i n carry × Follows p s i f q e m.call m.reply duty after

@@ -216,11 +216,14 @@ pub record Before (p : ConfigParts) (words : List ℕ) (Has : ℕ → Actor → 
 
 module _ (p : ConfigParts) (ok : IsSetting p) (words : List ℕ) (Has Now : ℕ → Actor → Type 0) (Out : ℕ → ℕ → ℕ → Type 0) (i : ℕ) (s : Scene) (b : Before p words Has Out s) where
   -- another scene with the same counters, where the actor is to count none on
-  pub moves_to : (now : List ℕ) (t : Scene) (x : Actor) → Change p i s t × Ground p now t → Keeps p t i x → ((server : ℕ) → t.counter server ≡ s.counter server) → IsCalm x.client.phase → Moves Has i x Now → Inv p now t.log Now Out
-  moves_to now t x ch k same calm mv = turn_to p Has Now i x mv ok words now s t b.ground ch.1 k b.kept b.held b.pends b.skips Out ch.0
+  pub moves_by : (now : List ℕ) (t : Scene) (x : Actor) → Change p i s t × Ground p now t → Keeps p t i x → ((server : ℕ) → t.counter server ≡ s.counter server) → ((server : ℕ) → WantsAdd p server x.client → ⊥) → Moves Has i x Now → Inv p now t.log Now Out
+  moves_by now t x ch k same calm mv = turn_to p Has Now i x mv ok words now s t b.ground ch.1 k b.kept b.held b.pends b.skips Out ch.0
       (λ server lt. subst (λ (c : ℕ). Bounded p.chunks (all_seats p) c (λ j. SomeAdds p Now server j)) (sym (same server))
-        (bounded_less p.chunks (all_seats p) (s.counter server) (λ j. SomeAdds p Has server j) (λ j. SomeAdds p Now server j) (adds_before p Has Now i x mv server (λ q. no_add p server x.client x.client.phase calm q)) (b.bounded server lt)))
+        (bounded_less p.chunks (all_seats p) (s.counter server) (λ j. SomeAdds p Has server j) (λ j. SomeAdds p Now server j) (adds_before p Has Now i x mv server (calm server)) (b.bounded server lt)))
       b.given b.out
+
+  pub moves_to : (now : List ℕ) (t : Scene) (x : Actor) → Change p i s t × Ground p now t → Keeps p t i x → ((server : ℕ) → t.counter server ≡ s.counter server) → IsCalm x.client.phase → Moves Has i x Now → Inv p now t.log Now Out
+  moves_to now t x ch k same calm mv = moves_by now t x ch k same (λ server q. no_add p server x.client x.client.phase calm q) mv
 
   -- nothing but the actor has changed
   pub stays : (x : Actor) → Keeps p s i x → IsCalm x.client.phase → Moves Has i x Now → Inv p words s.log Now Out

@@ -5,4 +5,5 @@ pub mod Locals
 pub mod Locks
 pub mod Images
 pub mod Spares
+pub mod Raising
 pub mod OnWay

@@ -7,3 +7,5 @@ pub mod Images
 pub mod Spares
 pub mod Raising
 pub mod OnWay
+pub mod Calls
+pub mod Rights

@@ -97,6 +97,91 @@ module _ (p : ConfigParts) (s t : Scene) (i f q e now : ℕ) (gr : Grows s t i e
   pub below_on : (post : Post) (root : ℕ) → IsBelow s post root → IsBelow t post root
   below_on post root h = record { below = h.below; level = h.level; named = named_on h.below root post.separator h.named }
 
+-- ---- what a plan for a node keeps
+
+-- what a plan for a node leans on: links and the seat's posts stay, and the node stands as it did, with the map of its keys
+pub record StaysUnder (s t : Scene) (i n : ℕ) : Type 0 where
+  pub linked : (m l a : ℕ) → s.class m ≡ Linked l a → t.class m ≡ Linked l a
+  pub pends : (m : ℕ) → s.post m ≡ Pending i → t.post m ≡ Pending i
+  pub node : (l a : ℕ) → s.class n ≡ Linked l a → t.node n ≡ s.node n
+  pub map : (a key : ℕ) → s.class n ≡ Linked 0 a → key ≢ 0 → low_in (s.node n) ≤ key → key < high_in (s.node n) → get (map_of t.log) key ≡ get (map_of s.log) key
+
+module _ (p : ConfigParts) (s t : Scene) (j n : ℕ) (u : StaysUnder s t j n) where
+  entry_fits : (a : ℕ) (x : LogEntry) → t.node n ≡ s.node n → IsEntryOf s j n a x → IsEntryOf t j n a x
+  entry_fits a x is h =
+      let k : ℕ = change_key x.change in
+      let nz : k ≢ 0 = λ z. omega (arith, z, h.key) in
+      record {
+        linked = u.linked n 0 a h.linked;
+        by = h.by;
+        fits = (h.fits.0 ∙ sym (u.map a k h.linked nz h.from h.below), h.fits.1);
+        key = h.key;
+        from = subst (λ (ws : List ℕ). low_in ws ≤ k) (sym is) h.from;
+        below = subst (λ (ws : List ℕ). k < high_in ws) (sym is) h.below;
+      }
+
+  pair_fits : (l a : ℕ) (x : Pair) → t.node n ≡ s.node n → IsPairOf s j n l a x → IsPairOf t j n l a x
+  pair_fits l a x is h = record {
+    linked = u.linked n (suc l) a h.linked;
+    child = u.linked x.child l x.separator h.child;
+    mine = u.pends x.child h.mine;
+    from = subst (λ (ws : List ℕ). low_in ws ≤ x.separator) (sym is) h.from;
+    below = subst (λ (ws : List ℕ). x.separator < high_in ws) (sym is) h.below;
+  }
+
+  plans_entry : (made : List LogEntry) (body : List ℕ) (index : ℕ) → PlansEntry p s j made body n index → PlansEntry p t j made body n index
+  plans_entry made body index h =
+      let is = u.node 0 h.low h.fits.linked in
+      let P : List ℕ → Type 0 = λ ws. IsEntry p (get_or ws 2 0) (get_or ws 3 0) h.x × HasKeysOnce (set (entries_of p ws) index h.x) × (map_of_entries (set (entries_of p ws) index h.x) ≡ changed (map_of_entries (entries_of p ws)) h.entry.change) × (get_or ws (entry_at p index) 0 < h.x.version) in
+      let q : P (t.node n) = subst P (sym is) (h.rules, h.once, h.change, h.rises) in
+      record { low = h.low; entry = h.entry; x = h.x; made_is = h.made_is; fits = entry_fits h.low h.entry is h.fits; index_is = h.index_is; body_is = h.body_is; rules = q.0; once = q.1; change = q.2; rises = q.3 }
+
+  plans_leaf : (made : List LogEntry) (body : List ℕ) → PlansLeaf p s j made body n → PlansLeaf p t j made body n
+  plans_leaf made body h =
+      let is = u.node 0 h.low h.fits.linked in
+      let P : List ℕ → Type 0 = λ ws. (h.image.low ≡ get_or ws 2 0) × (h.image.high ≡ get_or ws 3 0) × (h.image.next ≡ get_or ws 4 0) × (map_of_entries h.image.entries ≡ changed (map_of_entries (entries_of p ws)) h.entry.change) × (get_or ws 0 0 < h.image.version) in
+      let q : P (t.node n) = subst P (sym is) (h.low_is, h.high_is, h.next_is, h.change, h.rises) in
+      record { low = h.low; entry = h.entry; image = h.image; made_is = h.made_is; fits = entry_fits h.low h.entry is h.fits; body_is = h.body_is; rules = h.rules; low_is = q.0; high_is = q.1; next_is = q.2; once = h.once; change = q.3; rises = q.4 }
+
+  plans_left : (made : List LogEntry) (body right : List ℕ) (r : ℕ) (after : Then) → PlansLeftLeaf p s j made body right n r after → PlansLeftLeaf p t j made body right n r after
+  plans_left made body right r after h =
+      let is = u.node 0 h.low h.fits.linked in
+      let P : List ℕ → Type 0 = λ ws. let a = leaf_in p ws in IsSplit a h.key × (a.version < last_version p) × (body ≡ leaf_words (left_half a h.key h.value r)) × (right ≡ leaf_words (right_half a h.key h.value)) × (after ≡ Starts (Posts (post_of (separator_of (entries_of p ws) h.key h.value) r 1))) in
+      let q : P (t.node n) = subst P (sym is) (h.full, h.room, h.body_is, h.right_is, h.after_is) in
+      record { low = h.low; key = h.key; value = h.value; entry = h.entry; made_is = h.made_is; fits = entry_fits h.low h.entry is h.fits; put_is = h.put_is; long = h.long; full = q.0; room = q.1; body_is = q.2; right_is = q.3; after_is = q.4 }
+
+  plans_pair : (duty : Option Post) (h : PlansPair s j n duty) → t.node n ≡ s.node n → PlansPair t j n duty
+  plans_pair duty h is = record { level = h.level; low = h.low; pair = h.pair; duty_is = h.duty_is; fits = pair_fits h.level h.low h.pair is h.fits }
+
+  plans_inner : (body : List ℕ) (duty : Option Post) → PlansInner p s j body n duty → PlansInner p t j body n duty
+  unfolding plans_pair
+  plans_inner body duty h =
+      let is = u.node (suc h.plan.level) h.plan.low h.plan.fits.linked in
+      let P : List ℕ → Type 0 = λ ws. let a = inner_in ws in (length a.pairs < 2 * p.leaf) × (a.version < last_version p) × (body ≡ inner_words p (with_pair a h.plan.pair)) in
+      let q : P (t.node n) = subst P (sym is) (h.space, h.room, h.body_is) in
+      record { plan = plans_pair duty h.plan is; space = q.0; room = q.1; body_is = q.2 }
+
+  plans_cut : (body right : List ℕ) (r : ℕ) (duty : Option Post) (after : Then) → PlansLeftInner p s j body right n r duty after → PlansLeftInner p t j body right n r duty after
+  unfolding plans_pair
+  plans_cut body right r duty after h =
+      let is = u.node (suc h.plan.level) h.plan.low h.plan.fits.linked in
+      let P : List ℕ → Type 0 = λ ws. let a = inner_in ws in (length a.pairs ≡ 2 * p.leaf) × (a.version < last_version p) × (body ≡ inner_words p (left_inner p.leaf a h.plan.pair r)) × (right ≡ inner_words p (right_inner p.leaf a h.plan.pair)) × (after ≡ Starts (Posts (post_of (middle_of p.leaf a.pairs h.plan.pair) r (suc (suc h.plan.level))))) in
+      let q : P (t.node n) = subst P (sym is) (h.full, h.room, h.body_is, h.right_is, h.after_is) in
+      record { plan = plans_pair duty h.plan is; full = q.0; room = q.1; body_is = q.2; right_is = q.3; after_is = q.4 }
+
+  pub half_on : (made : List LogEntry) (body right : List ℕ) (r : ℕ) (write : Write) (duty : Option Post) (after : Then) → PlansHalf p s j made body right n r write duty after → PlansHalf p t j made body right n r write duty after
+  half_on made body right r LeftLeaf duty after h = (h.0, plans_left made body right r after h.1)
+  half_on made body right r LeftInner duty after h = plans_cut body right r duty after h
+  half_on made body right r write duty after h = absurd h
+
+  pub plans_on : (f q e now : ℕ) (gr : Grows s t j e now) (c : Call) (r : Reply) (spare : NodeRange) (body right : List ℕ) (write : Write) (duty : Option Post) (after : Then) → e ≤ length s.log → ((fresh : ℕ) → IsFilled s j spare right fresh (node_size p) → IsFilled t j spare right fresh (node_size p)) → Plans p s j f q e c r spare body right n write duty after → Plans p t j f q now c r spare body right n write duty after
+  plans_on f q e now gr c r spare body right Nothing duty after le fill h = follows_on p s t j f q e now gr c r duty after le h
+  plans_on f q e now gr c r spare body right (Entry index) duty after le fill h = (h.0, h.1, plans_entry (entries_by j c r) body index h.2)
+  plans_on f q e now gr c r spare body right WholeLeaf duty after le fill h = (h.0, h.1, plans_leaf (entries_by j c r) body h.2)
+  plans_on f q e now gr c r spare body right LeftLeaf duty after le fill h = record { fresh = h.fresh; half = half_on (entries_by j c r) body right h.fresh LeftLeaf duty after h.half; filled = fill h.fresh h.filled }
+  plans_on f q e now gr c r spare body right WholeInner duty after le fill h = (h.0, plans_inner body duty h.1)
+  plans_on f q e now gr c r spare body right LeftInner duty after le fill h = record { fresh = h.fresh; half = half_on (entries_by j c r) body right h.fresh LeftInner duty after h.half; filled = fill h.fresh h.filled }
+
 -- ---- what an act of others leaves
 
 pub held_owns : (h : Hold) (i d : ℕ) → h ≡ Held (Seat i) d → Owns h (Seat i)
@@ -134,83 +219,8 @@ module _ (p : ConfigParts) (ok : IsSetting p) (Other : Owner → Type 0) (words 
       let b' : IsStandingLeaf p t.log (s.node n) = subst (λ (ws : List ℕ). IsStandingLeaf p t.log ws) is (g'.sits n 0 a (ch.linked n 0 a e)).body in
       sym (b'.map key nz lo hi) ∙ b.map key nz lo hi
 
-  entry_fits : (n a : ℕ) (x : LogEntry) → t.node n ≡ s.node n → IsEntryOf s j n a x → IsEntryOf t j n a x
-  entry_fits n a x is h =
-      let k : ℕ = change_key x.change in
-      let nz : k ≢ 0 = λ z. omega (arith, z, h.key) in
-      record {
-        linked = ch.linked n 0 a h.linked;
-        by = h.by;
-        fits = (h.fits.0 ∙ sym (map_same n a k h.linked is nz h.from h.below), h.fits.1);
-        key = h.key;
-        from = subst (λ (ws : List ℕ). low_in ws ≤ k) (sym is) h.from;
-        below = subst (λ (ws : List ℕ). k < high_in ws) (sym is) h.below;
-      }
-
-  pair_fits : (n l a : ℕ) (x : Pair) → t.node n ≡ s.node n → IsPairOf s j n l a x → IsPairOf t j n l a x
-  pair_fits n l a x is h = record {
-    linked = ch.linked n (suc l) a h.linked;
-    child = ch.linked x.child l x.separator h.child;
-    mine = (ch.posts j x.child (Pending j) ne refl).0 h.mine;
-    from = subst (λ (ws : List ℕ). low_in ws ≤ x.separator) (sym is) h.from;
-    below = subst (λ (ws : List ℕ). x.separator < high_in ws) (sym is) h.below;
-  }
-
-  plans_entry : (made : List LogEntry) (body : List ℕ) (n index : ℕ) → Owns (s.hold (lock_of p n)) (Seat j) → PlansEntry p s j made body n index → PlansEntry p t j made body n index
-  plans_entry made body n index o h =
-      let is = same n 0 h.low h.fits.linked o in
-      let P : List ℕ → Type 0 = λ ws. IsEntry p (get_or ws 2 0) (get_or ws 3 0) h.x × HasKeysOnce (set (entries_of p ws) index h.x) × (map_of_entries (set (entries_of p ws) index h.x) ≡ changed (map_of_entries (entries_of p ws)) h.entry.change) × (get_or ws (entry_at p index) 0 < h.x.version) in
-      let q : P (t.node n) = subst P (sym is) (h.rules, h.once, h.change, h.rises) in
-      record { low = h.low; entry = h.entry; x = h.x; made_is = h.made_is; fits = entry_fits n h.low h.entry is h.fits; index_is = h.index_is; body_is = h.body_is; rules = q.0; once = q.1; change = q.2; rises = q.3 }
-
-  plans_leaf : (made : List LogEntry) (body : List ℕ) (n : ℕ) → Owns (s.hold (lock_of p n)) (Seat j) → PlansLeaf p s j made body n → PlansLeaf p t j made body n
-  plans_leaf made body n o h =
-      let is = same n 0 h.low h.fits.linked o in
-      let P : List ℕ → Type 0 = λ ws. (h.image.low ≡ get_or ws 2 0) × (h.image.high ≡ get_or ws 3 0) × (h.image.next ≡ get_or ws 4 0) × (map_of_entries h.image.entries ≡ changed (map_of_entries (entries_of p ws)) h.entry.change) × (get_or ws 0 0 < h.image.version) in
-      let q : P (t.node n) = subst P (sym is) (h.low_is, h.high_is, h.next_is, h.change, h.rises) in
-      record { low = h.low; entry = h.entry; image = h.image; made_is = h.made_is; fits = entry_fits n h.low h.entry is h.fits; body_is = h.body_is; rules = h.rules; low_is = q.0; high_is = q.1; next_is = q.2; once = h.once; change = q.3; rises = q.4 }
-
-  plans_left : (made : List LogEntry) (body right : List ℕ) (n r : ℕ) (after : Then) → Owns (s.hold (lock_of p n)) (Seat j) → PlansLeftLeaf p s j made body right n r after → PlansLeftLeaf p t j made body right n r after
-  plans_left made body right n r after o h =
-      let is = same n 0 h.low h.fits.linked o in
-      let P : List ℕ → Type 0 = λ ws. let a = leaf_in p ws in IsSplit a h.key × (a.version < last_version p) × (body ≡ leaf_words (left_half a h.key h.value r)) × (right ≡ leaf_words (right_half a h.key h.value)) × (after ≡ Starts (Posts (post_of (separator_of (entries_of p ws) h.key h.value) r 1))) in
-      let q : P (t.node n) = subst P (sym is) (h.full, h.room, h.body_is, h.right_is, h.after_is) in
-      record { low = h.low; key = h.key; value = h.value; entry = h.entry; made_is = h.made_is; fits = entry_fits n h.low h.entry is h.fits; put_is = h.put_is; long = h.long; full = q.0; room = q.1; body_is = q.2; right_is = q.3; after_is = q.4 }
-
-  plans_pair : (n : ℕ) (duty : Option Post) (h : PlansPair s j n duty) → t.node n ≡ s.node n → PlansPair t j n duty
-  plans_pair n duty h is = record { level = h.level; low = h.low; pair = h.pair; duty_is = h.duty_is; fits = pair_fits n h.level h.low h.pair is h.fits }
-
-  plans_inner : (body : List ℕ) (n : ℕ) (duty : Option Post) → Owns (s.hold (lock_of p n)) (Seat j) → PlansInner p s j body n duty → PlansInner p t j body n duty
-  unfolding plans_pair
-  plans_inner body n duty o h =
-      let is = same n (suc h.plan.level) h.plan.low h.plan.fits.linked o in
-      let P : List ℕ → Type 0 = λ ws. let a = inner_in ws in (length a.pairs < 2 * p.leaf) × (a.version < last_version p) × (body ≡ inner_words p (with_pair a h.plan.pair)) in
-      let q : P (t.node n) = subst P (sym is) (h.space, h.room, h.body_is) in
-      record { plan = plans_pair n duty h.plan is; space = q.0; room = q.1; body_is = q.2 }
-
-  plans_cut : (body right : List ℕ) (n r : ℕ) (duty : Option Post) (after : Then) → Owns (s.hold (lock_of p n)) (Seat j) → PlansLeftInner p s j body right n r duty after → PlansLeftInner p t j body right n r duty after
-  unfolding plans_pair
-  plans_cut body right n r duty after o h =
-      let is = same n (suc h.plan.level) h.plan.low h.plan.fits.linked o in
-      let P : List ℕ → Type 0 = λ ws. let a = inner_in ws in (length a.pairs ≡ 2 * p.leaf) × (a.version < last_version p) × (body ≡ inner_words p (left_inner p.leaf a h.plan.pair r)) × (right ≡ inner_words p (right_inner p.leaf a h.plan.pair)) × (after ≡ Starts (Posts (post_of (middle_of p.leaf a.pairs h.plan.pair) r (suc (suc h.plan.level))))) in
-      let q : P (t.node n) = subst P (sym is) (h.full, h.room, h.body_is, h.right_is, h.after_is) in
-      record { plan = plans_pair n duty h.plan is; full = q.0; room = q.1; body_is = q.2; right_is = q.3; after_is = q.4 }
-
-  half_on : (made : List LogEntry) (body right : List ℕ) (n r : ℕ) (write : Write) (duty : Option Post) (after : Then) → Owns (s.hold (lock_of p n)) (Seat j) → PlansHalf p s j made body right n r write duty after → PlansHalf p t j made body right n r write duty after
-  half_on made body right n r LeftLeaf duty after o h = (h.0, plans_left made body right n r after o h.1)
-  half_on made body right n r LeftInner duty after o h = plans_cut body right n r duty after o h
-  half_on made body right n r write duty after o h = absurd h
-
-  split_on : (made : List LogEntry) (spare : NodeRange) (body right : List ℕ) (n : ℕ) (write : Write) (duty : Option Post) (after : Then) → Owns (s.hold (lock_of p n)) (Seat j) → PlansSplit p s j made spare body right n write duty after → PlansSplit p t j made spare body right n write duty after
-  split_on made spare body right n write duty after o h = record { fresh = h.fresh; half = half_on made body right n h.fresh write duty after o h.half; filled = filled_on spare right h.fresh (node_size p) h.filled }
-
-  plans_on : (f q e : ℕ) (c : Call) (r : Reply) (spare : NodeRange) (body right : List ℕ) (n : ℕ) (write : Write) (duty : Option Post) (after : Then) → e ≤ length s.log → Owns (s.hold (lock_of p n)) (Seat j) → Plans p s j f q e c r spare body right n write duty after → Plans p t j f q e c r spare body right n write duty after
-  plans_on f q e c r spare body right n Nothing duty after le o h = follows_on p s t j f q e e (grown e) c r duty after le h
-  plans_on f q e c r spare body right n (Entry index) duty after le o h = (h.0, h.1, plans_entry (entries_by j c r) body n index o h.2)
-  plans_on f q e c r spare body right n WholeLeaf duty after le o h = (h.0, h.1, plans_leaf (entries_by j c r) body n o h.2)
-  plans_on f q e c r spare body right n LeftLeaf duty after le o h = split_on (entries_by j c r) spare body right n LeftLeaf duty after o h
-  plans_on f q e c r spare body right n WholeInner duty after le o h = (h.0, plans_inner body n duty o h.1)
-  plans_on f q e c r spare body right n LeftInner duty after le o h = split_on (entries_by j c r) spare body right n LeftInner duty after o h
+  under : (n : ℕ) → Owns (s.hold (lock_of p n)) (Seat j) → StaysUnder s t j n
+  under n o = record { linked = ch.linked; pends = λ m. (ch.posts j m (Pending j) ne refl).0; node = λ l a e. same n l a e o; map = λ a key e nz lo hi. map_same n a key e (same n 0 a e o) nz lo hi }
 
   holding_on : (n : ℕ) (carry : Option ℕ) → IsHolding p s j n carry → IsHolding p t j n carry
   holding_on n carry h = record { real = h.real; depth = h.depth; held = still n (Held (Seat j) h.depth) (held_owns (s.hold (lock_of p n)) j h.depth h.held) h.held; carries = h.carries }
@@ -239,15 +249,15 @@ module _ (p : ConfigParts) (ok : IsSetting p) (Other : Owner → Type 0) (words 
       (h.0, there_on m.call aim n h.1, still n (Held (Seat j) d) o h.2, record { standing = h.3.standing ∙ sym (same n (target aim) h.1.low h.1.linked o); image = h.3.image; accepted_is = h.3.accepted_is; split = h.3.split }, h.4)
   others_fit f q e m duty (Fill n d r done write after) le h =
       let o = held_owns (s.hold (lock_of p n)) j d h.0 in
-      (still n (Held (Seat j) d) o h.0, half_on (entries_by j m.call m.reply) m.body m.right n r write duty after o h.1, filled_on m.spare m.right r done h.2, h.3, h.4)
+      (still n (Held (Seat j) d) o h.0, half_on p s t j n (under n o) (entries_by j m.call m.reply) m.body m.right r write duty after h.1, filled_on m.spare m.right r done h.2, h.3, h.4)
   others_fit f q e m duty (Waiting n d write after) le h =
       let o = held_owns (s.hold (lock_of p n)) j d h.0 in
-      (still n (Held (Seat j) d) o h.0, plans_on f q e m.call m.reply m.spare m.body m.right n write duty after le o h.1, h.2)
+      (still n (Held (Seat j) d) o h.0, plans_on p s t j n (under n o) f q e e (grown e) m.call m.reply m.spare m.body m.right write duty after le (λ fresh. filled_on m.spare m.right fresh (node_size p)) h.1, h.2)
   others_fit f q e m duty (Body n carry done write after) le h =
       let k = h.0 in
       let x : Hold = storing_hold j k.depth n write m.body done in
       let o = storing_owns (s.hold (lock_of p n)) j k.depth n write m.body done k.held in
-      (record { real = k.real; depth = k.depth; held = still n x o k.held; carries = k.carries; left = k.left }, plans_on f q e m.call m.reply m.spare m.body m.right n write duty after le o h.1)
+      (record { real = k.real; depth = k.depth; held = still n x o k.held; carries = k.carries; left = k.left }, plans_on p s t j n (under n o) f q e e (grown e) m.call m.reply m.spare m.body m.right write duty after le (λ fresh. filled_on m.spare m.right fresh (node_size p)) h.1)
   others_fit f q e m duty (Unlock n after) le h = (holding_on n None h.0, follows_on p s t j f q e e (grown e) m.call m.reply duty after le h.1)
   others_fit f q e m duty (Leave n carry after) le h = (leaving_on n carry h.0, follows_on p s t j f q e e (grown e) m.call m.reply duty after le h.1)
   others_fit f q e m duty (Top post root) le h = (h.0, below_on p s t j 0 0 0 0 (grown 0) post root h.1, h.2)

@@ -9,3 +9,5 @@ pub mod Raising
 pub mod OnWay
 pub mod Calls
 pub mod Rights
+pub mod OwnStores
+pub mod Roots

@@ -11,3 +11,4 @@ pub mod Calls
 pub mod Rights
 pub mod OwnStores
 pub mod Roots
+pub mod Bodies

@@ -12,3 +12,4 @@ pub mod Rights
 pub mod OwnStores
 pub mod Roots
 pub mod Bodies
+pub mod BodyEnds

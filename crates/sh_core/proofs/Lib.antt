@@ -13,3 +13,4 @@ pub mod OwnStores
 pub mod Roots
 pub mod Bodies
 pub mod BodyEnds
+pub mod InnerBodies

@@ -1,0 +1,170 @@
+-- The last store of an inner node's body, which posts a node; and the turn of each store of a body.
+use Rattle.std.proofs.Common.{◌≡◌, ◌≢◌, ◌⊎◌, ℕ, zero, suc, ◌+◌, ◌-◌, ◌<◌, ◌≤◌, Bool, true, false, List, [], ◌∷◌, ◌++◌, length, get_or, set, Option, Some, None, refl, sym, ap, ◌∙◌, subst, ⊎_elim, inl, inr, arith, append-nil, eqb-true}
+use Rattle.std.specs.Prelude.{◌==◌, ◌*◌, ◌^◌, if◌then◌else◌}
+use Rattle.std.proofs.lemmas.Bool.Decides.{nat_tests}
+use Rattle.std.proofs.lemmas.List.{ext_get_or}
+use Rattle.sh_base.specs.declared.config.ConfigParts.{ConfigParts}
+use Rattle.sh_base.specs.declared.event.Event.TheVariants.{Store}
+use Rattle.sh_base.specs.Setting.{node_size, IsSetting}
+use Rattle.sh_base.specs.Layout.{lock_of, node_word, rear_at, entry_at}
+use Rattle.sh_base.proofs.LayoutLemmas.{node_size_is, rear_at_low}
+use Rattle.sh_map.specs.declared.log.Entry.{Entry as LogEntry}
+use Rattle.sh_map.specs.Made.{entries_by}
+use Rattle.sh_image.specs.Inner.{Inner, IsInner, inner_in, inner_words}
+use Rattle.sh_image.specs.declared.inner.Pair.{Pair}
+use Rattle.sh_edit.specs.Pairing.{with_pair, left_inner, right_inner, middle_of}
+use Rattle.sh_edit.proofs.RiseLemmas.{with_lawful, left_inner_lawful, right_inner_lawful, middle_within}
+use Rattle.sh_read.specs.Moments.{Whole}
+use Rattle.sh_scene.specs.Scene.{Fresh, Linked, Posted, Pending, Skipped, Seat, Hold, Held, Writes, Scene, put}
+use Rattle.sh_scene.specs.Nodes.{IsLinked}
+use Rattle.sh_scene.specs.Ground.{Ground}
+use Rattle.sh_scene.specs.Change.{Change}
+use Rattle.sh_scene.specs.Acts.{ended}
+use Rattle.sh_scene.proofs.Puts.{put_here, put_else, put_case}
+use Rattle.sh_scene.proofs.Scenes.{fresh_linked}
+use Rattle.sh_scene.proofs.Spelled.{inner_long}
+use Rattle.sh_ends.proofs.LeafEnds.{bound_of}
+use Rattle.sh_ends.proofs.InnerEnds.{is_new, pair_end, inner_split_end}
+use Rattle.sh_client.specs.declared.state.Post.{Post}
+use Rattle.sh_client.specs.declared.state.Then.{Then}
+use Rattle.sh_client.specs.declared.state.Then.TheVariants.{Ends, Starts, Takes}
+use Rattle.sh_client.specs.declared.state.Aim.TheVariants.{Posts}
+use Rattle.sh_client.specs.declared.state.Write.{Write}
+use Rattle.sh_client.specs.declared.state.Write.TheVariants.{Nothing, Entry, Leaf as WholeLeaf, LeftLeaf, Inner as WholeInner, LeftInner}
+use Rattle.sh_client.specs.declared.state.Phase.TheVariants.{Body}
+use Rattle.sh_client.specs.Machine.{Machine}
+use Rattle.sh_client.specs.Aims.{post_of}
+use Rattle.sh_core.specs.Actors.{Actor, becomes}
+use Rattle.sh_core.specs.Fits.{HasEntry, Follows, Owes, storing_hold}
+use Rattle.sh_core.specs.Keeps.{holding, pending, pending_then, Hands, Waits, Skips, IsAtWork, Keeps}
+use Rattle.sh_core.specs.Core.{Inv, Moves}
+use Rattle.sh_core.proofs.Others.{entry_on}
+use Rattle.sh_core.proofs.Frame.{next, me, at, with, goes_on, same_here, same_grows, IsCalm, Before, moves_to, one_log}
+use Rattle.sh_core.proofs.Roots.{decided_entry, skips_posted, waits_posted}
+use Rattle.sh_core.proofs.BodyEnds.{rel, rel_holding, rel_pending, rel_calm, rel_fits, storing_at, keeps_hands, splitted, skips_pending}
+
+none_before : (n : ℕ) → n ≡ 0 + n
+none_before n = omega arith
+
+pending_skipped : (i : ℕ) → Pending i ≡ Skipped i → ⊥
+pending_skipped i e = cc
+
+posted_skipped : (i : ℕ) → Posted ≡ Skipped i → ⊥
+posted_skipped i e = cc
+
+module _ (p : ConfigParts) (ok : IsSetting p) (words : List ℕ) (Has Now : ℕ → Actor → Type 0) (Out : ℕ → ℕ → ℕ → Type 0) (i : ℕ) (s : Scene) (b : Before p words Has Out s) (a : Actor) (m : Machine) where
+  abbrev N : ℕ
+  N = length s.log
+
+  -- the entry of the call, seen now, in a scene of the same log
+  entry_now : (t : Scene) (e : ℕ) → t.log ≡ s.log → e ≤ N → HasEntry s.log i a.first a.point e m.call m.reply → HasEntry t.log i a.first a.point N m.call m.reply
+  entry_now t e log le h = subst (λ (es : List LogEntry). HasEntry es i a.first a.point N m.call m.reply) (sym log) (entry_on p s s i a.first a.point e N (same_grows s s i e N (same_here s) le) m.call m.reply h)
+
+  -- ---- a pair more
+  pub inner_last : (n : ℕ) (carry : Option ℕ) (done : ℕ) → done + 1 ≡ length m.body → Has i (me p i a m (Body n carry done WholeInner Ends)) → Moves Has i (next a N (with p i m m.tally m.reads m.walk m.body m.right (rel n carry Ends))) Now
+      → Inv p (set words (node_word p n + (0 + done)) (get_or m.body done 0)) (s.log ++ []) Now Out
+  inner_last n carry done all h mv =
+      let k = b.kept i (me p i a m (Body n carry done WholeInner Ends)) h in
+      let u = k.work.fits.0 in
+      let z = k.work.fits.1.1 in
+      let x : Inner = inner_in (s.node n) in
+      let l : ℕ = z.plan.level in
+      let y = z.plan.pair in
+      let of = z.plan.fits in
+      let old = b.ground.sits n (suc l) z.plan.low of.linked in
+      let new = is_new p words s b.ground i n y.child l z.plan.low y.separator of.linked of.child of.mine in
+      let real = (b.ground.sits y.child l y.separator of.child).real in
+      let lawful = with_lawful p x y old.body.spells.lawful z.space new of.from of.below (real.first, real.last) z.room in
+      let image : Inner = with_pair x y in
+      let K : ℕ = rear_at p in
+      let long : length m.body ≡ node_size p = ap length z.body_is ∙ inner_long p image ok.ranged.value_words.0 lawful in
+      let e : done ≡ K = omega (arith, all, long, node_size_is p) in
+      let some : 0 < K = omega (arith, rear_at_low p) in
+      let hold = u.held ∙ storing_at i u.depth n WholeInner m.body done K e some ∙ ap (λ (ws : List ℕ). Writes i u.depth n (Whole ws K)) z.body_is in
+      let t : Scene = ended p s n i u.depth (inner_words p image) s.class (put s.post y.child Posted) [] in
+      let q : Machine = with p i m m.tally m.reads m.walk m.body m.right (rel n carry Ends) in
+      let now : List ℕ = set words (node_word p n + (0 + done)) (get_or m.body done 0) in
+      let act = pair_end p words s b.ground i u.depth n l z.plan.low y ok of.linked (bound_of p words s b.ground i u.depth n (Whole (inner_words p image) K) hold) of.child of.mine of.from of.below x refl hold z.space z.room in
+      let ch : Change p i s t × Ground p now t = subst (λ (v : ℕ × ℕ × List ℕ). Change p i s t × Ground p (set words (node_word p n + v.0) (get_or v.2 v.1 0)) t) (λ j. ((sym e ∙ none_before done) j, sym e j, sym z.body_is j)) act in
+      let log : t.log ≡ s.log = append-nil s.log in
+      let post : Post = post_of y.separator y.child (suc l) in
+      let w = subst (Owes s i a.first a.point a.seen m.call m.reply) z.plan.duty_is k.work.owes in
+      one_log p ok words Has Now Out i s b now t log
+      (moves_to p ok words Has Now Out i s b now t (next a N q) ch
+      (goes_on p s t i N (me p i a m (Body n carry done WholeInner Ends)) q k log k.seen (omega arith) record {
+        seated = k.work.seated;
+        duty = None;
+        fits = rel_fits p t i a.first a.point N q None n carry Ends record { real = u.real; depth = u.depth; held = put_here s.hold (lock_of p n) (Held (Seat i) u.depth); carries = u.carries }
+            (refl, decided_entry p t.log i a.first a.point N m.call m.reply (entry_now t a.seen log k.seen w.entry));
+        owes = tt;
+        hands = subst (Hands t i) (sym (rel_holding p q n carry Ends)) (keeps_hands p ok words Has Now Out i s b a m t (lock_of p n) (Held (Seat i) u.depth) refl k.work.hands);
+        waits = waits_posted s i post (subst (Waits s i) z.plan.duty_is k.work.waits);
+        spares = k.work.spares;
+        skips = skips_posted s t i (m.tally.skipped_spent + m.tally.skipped_worn) y.child (λ v. refl) of.mine k.work.skips;
+      } (rel_pending i q n carry Ends)) (λ server. refl) (rel_calm n carry Ends) mv)
+
+  -- ---- the left half of an inner node
+  pub left_inner_last : (n : ℕ) (carry : Option ℕ) (done : ℕ) (after : Then) → done + 1 ≡ length m.body → Has i (me p i a m (Body n carry done LeftInner after)) → Moves Has i (next a N (with p i m (splitted p ok words Has Now Out i s b a m) m.reads m.walk m.body m.right (rel n carry after))) Now
+      → Inv p (set words (node_word p n + (0 + done)) (get_or m.body done 0)) (s.log ++ []) Now Out
+  left_inner_last n carry done after all h mv =
+      let k = b.kept i (me p i a m (Body n carry done LeftInner after)) h in
+      let u = k.work.fits.0 in
+      let f = k.work.fits.1 in
+      let r : ℕ = f.fresh in
+      let z = f.half in
+      let x : Inner = inner_in (s.node n) in
+      let l : ℕ = z.plan.level in
+      let y = z.plan.pair in
+      let of = z.plan.fits in
+      let sep : ℕ = middle_of p.leaf x.pairs y in
+      let post : Post = post_of sep r (suc (suc l)) in
+      let old = b.ground.sits n (suc l) z.plan.low of.linked in
+      let own = b.ground.own r i f.filled.own in
+      let new = is_new p words s b.ground i n y.child l z.plan.low y.separator of.linked of.child of.mine in
+      let real = (b.ground.sits y.child l y.separator of.child).real in
+      let high_word : x.high < 2 ^ 64 = omega (arith, old.past) in
+      let left_ok = left_inner_lawful p x y old.body.spells.lawful z.full new of.from of.below r (real.first, real.last) z.room own.first own.last high_word in
+      let right_ok = right_inner_lawful p x y old.body.spells.lawful z.full new of.from of.below (real.first, real.last) in
+      let within = middle_within p x y old.body.spells.lawful z.full new of.from of.below in
+      let image : Inner = left_inner p.leaf x y r in
+      let right_long : length m.right ≡ node_size p = ap length z.right_is ∙ inner_long p (right_inner p.leaf x y) ok.ranged.value_words.0 right_ok in
+      let right_node : s.node r ≡ inner_words p (right_inner p.leaf x y) = ext_get_or 0 (s.node r) m.right (b.ground.long r ∙ sym right_long) (λ o lt. f.filled.words o (omega (arith, lt, b.ground.long r))) ∙ z.right_is in
+      let K : ℕ = rear_at p in
+      let long : length m.body ≡ node_size p = ap length z.body_is ∙ inner_long p image ok.ranged.value_words.0 left_ok in
+      let e : done ≡ K = omega (arith, all, long, node_size_is p) in
+      let some : 0 < K = omega (arith, rear_at_low p) in
+      let hold = u.held ∙ storing_at i u.depth n LeftInner m.body done K e some ∙ ap (λ (ws : List ℕ). Writes i u.depth n (Whole ws K)) z.body_is in
+      let t : Scene = ended p s n i u.depth (inner_words p image) (put s.class r (Linked (suc l) sep)) (put (put s.post y.child Posted) r (Pending i)) [] in
+      let mid : Scene = record { node = s.node; class = s.class; post = put s.post y.child Posted; hold = s.hold; counter = s.counter; root = s.root; height = s.height; log = s.log } in
+      let q : Machine = with p i m (splitted p ok words Has Now Out i s b a m) m.reads m.walk m.body m.right (rel n carry after) in
+      let now : List ℕ = set words (node_word p n + (0 + done)) (get_or m.body done 0) in
+      let act = inner_split_end p words s b.ground i u.depth n l z.plan.low y ok of.linked (bound_of p words s b.ground i u.depth n (Whole (inner_words p image) K) hold) of.child of.mine of.from of.below x refl r hold f.filled.own right_node z.full z.room in
+      let ch : Change p i s t × Ground p now t = subst (λ (v : ℕ × ℕ × List ℕ). Change p i s t × Ground p (set words (node_word p n + v.0) (get_or v.2 v.1 0)) t) (λ j. ((sym e ∙ none_before done) j, sym e j, sym z.body_is j)) act in
+      let log : t.log ≡ s.log = append-nil s.log in
+      let was : Post = post_of y.separator y.child (suc l) in
+      let w = subst (Owes s i a.first a.point a.seen m.call m.reply) z.plan.duty_is k.work.owes in
+      let no_wait = waits_posted s i was (subst (Waits s i) z.plan.duty_is k.work.waits) in
+      let is_posted : s.post r ≡ Posted = ⊎_elim (λ (v : IsLinked (s.class r)). absurd (subst IsLinked f.filled.own v)) (λ v. v) (b.ground.outside r) in
+      let count : ℕ = m.tally.skipped_spent + m.tally.skipped_worn in
+      let not_skipped : put s.post y.child Posted r ≡ Skipped i → ⊥ = put_case (λ v. v ≡ Skipped i → ⊥) s.post y.child Posted r (λ c v. posted_skipped i v) (λ c v. posted_skipped i (sym is_posted ∙ v)) in
+      one_log p ok words Has Now Out i s b now t log
+      (moves_to p ok words Has Now Out i s b now t (next a N q) ch
+      (goes_on p s t i N (me p i a m (Body n carry done LeftInner after)) q k log k.seen (omega arith) record {
+        seated = k.work.seated;
+        duty = Some post;
+        fits = rel_fits p t i a.first a.point N q (Some post) n carry after record { real = u.real; depth = u.depth; held = put_here s.hold (lock_of p n) (Held (Seat i) u.depth); carries = u.carries }
+            (subst (Follows p t i a.first a.point N m.call m.reply (Some post)) (sym z.after_is) refl);
+        owes = record {
+          below = suc l;
+          level = refl;
+          linked = put_here s.class r (Linked (suc l) sep);
+          some = omega (arith, within.0);
+          past = omega (arith, within.1, old.past);
+          mine = put_here (put s.post y.child Posted) r (Pending i);
+          entry = entry_now t a.seen log k.seen w.entry;
+        };
+        hands = subst (Hands t i) (sym (rel_holding p q n carry after)) (keeps_hands p ok words Has Now Out i s b a m t (lock_of p n) (Held (Seat i) u.depth) refl k.work.hands);
+        waits = λ v ne c. no_wait v (sym (put_else (put s.post y.child Posted) r (Pending i) v ne) ∙ c);
+        spares = λ v is. put_else s.class r (Linked (suc l) sep) v (λ c. omega (arith, c, is.0, f.filled.under)) ∙ k.work.spares v is;
+        skips = skips_pending mid t i count r (λ v. refl) not_skipped (skips_posted s mid i count y.child (λ v. refl) of.mine k.work.skips);
+      } (rel_pending i q n carry after ∙ ap (pending_then i m.call m.reply) z.after_is)) (λ server. refl) (rel_calm n carry after) mv)

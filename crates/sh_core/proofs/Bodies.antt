@@ -182,7 +182,7 @@ module _ (p : ConfigParts) (ok : IsSetting p) (words : List ℕ) (Has Now : ℕ 
       advance p ok words Has Now Out i s b a m (set words (node_word p n + (offset_of p write + done)) (get_or m.body done 0)) t (Body n carry done write after) (Body n carry (done + 1) write after) m.tally m.reads k same
       (store_act p words s b.ground i n u.depth write m.body st done u.held lt) (λ server. refl) refl
       (
-        record { real = u.real; depth = u.depth; held = put_here s.hold (lock_of p n) x ∙ sym (storing_more i u.depth n write m.body done); carries = u.carries; left = lt },
+        record { real = u.real; some = ne; depth = u.depth; held = put_here s.hold (lock_of p n) x ∙ sym (storing_more i u.depth n write m.body done); carries = u.carries; left = lt },
         plans_on p s t i n record { linked = λ y l c q. q; pends = λ y q. q; node = λ l c q. refl; map = λ c key q nz lo hi. refl } a.first a.point a.seen (length s.log) (same_grows s t i a.seen (length s.log) same k.seen) m.call m.reply m.spare m.body m.right write k.work.duty after k.seen
           (λ r z. record { own = z.own; under = z.under; words = z.words }) plans,
       )

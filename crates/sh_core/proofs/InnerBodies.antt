@@ -31,8 +31,12 @@ use Rattle.sh_client.specs.declared.state.Then.TheVariants.{Ends, Starts, Takes}
 use Rattle.sh_client.specs.declared.state.Aim.TheVariants.{Posts}
 use Rattle.sh_client.specs.declared.state.Write.{Write}
 use Rattle.sh_client.specs.declared.state.Write.TheVariants.{Nothing, Entry, Leaf as WholeLeaf, LeftLeaf, Inner as WholeInner, LeftInner}
+use Rattle.sh_client.specs.declared.state.Tally.{Tally}
+use Rattle.sh_client.specs.declared.state.Phase.{Phase}
 use Rattle.sh_client.specs.declared.state.Phase.TheVariants.{Body}
-use Rattle.sh_client.specs.Machine.{Machine}
+use Rattle.sh_client.specs.Machine.{Machine, rewrite_done}
+use Rattle.sh_client.specs.Giving.{released, counted, entries_of}
+use Rattle.sh_client.specs.Wants.{offset_of}
 use Rattle.sh_client.specs.Aims.{post_of}
 use Rattle.sh_core.specs.Actors.{Actor, becomes}
 use Rattle.sh_core.specs.Fits.{HasEntry, Follows, Owes, storing_hold}
@@ -41,7 +45,9 @@ use Rattle.sh_core.specs.Core.{Inv, Moves}
 use Rattle.sh_core.proofs.Others.{entry_on}
 use Rattle.sh_core.proofs.Frame.{next, me, at, with, goes_on, same_here, same_grows, IsCalm, Before, moves_to, one_log}
 use Rattle.sh_core.proofs.Roots.{decided_entry, skips_posted, waits_posted}
-use Rattle.sh_core.proofs.BodyEnds.{rel, rel_holding, rel_pending, rel_calm, rel_fits, storing_at, keeps_hands, splitted, skips_pending}
+use Rattle.sh_core.proofs.BodyEnds.{rel, rel_holding, rel_pending, rel_calm, rel_fits, storing_at, keeps_hands, maker, entry_last, leaf_last, left_leaf_last, rewrote, splitted, skips_pending}
+use Rattle.sh_core.proofs.Bodies.{store_more}
+use Rattle.sh_core.proofs.Locks.{Claim}
 
 none_before : (n : ℕ) → n ≡ 0 + n
 none_before n = omega arith
@@ -168,3 +174,49 @@ module _ (p : ConfigParts) (ok : IsSetting p) (words : List ℕ) (Has Now : ℕ 
         spares = λ v is. put_else s.class r (Linked (suc l) sep) v (λ c. omega (arith, c, is.0, f.filled.under)) ∙ k.work.spares v is;
         skips = skips_pending mid t i count r (λ v. refl) not_skipped (skips_posted s mid i count y.child (λ v. refl) of.mine k.work.skips);
       } (rel_pending i q n carry after ∙ ap (pending_then i m.call m.reply) z.after_is)) (λ server. refl) (rel_calm n carry after) mv)
+
+  -- ---- each store of a body
+  made_moves : (tally : Tally) (ph : Phase) (A : Actor) (n : ℕ) (carry : Option ℕ) (after : Then) (entry : LogEntry) (es : List LogEntry) → (A ≡ me p i a m ph) → es ≡ entry ∷ []
+      → Moves Has i (becomes i A s.log es (released (with p i m tally m.reads m.walk m.body m.right ph) n carry after)) Now → Moves Has i (maker p ok words Has Now Out i s b a m (with p i m tally m.reads m.walk m.body m.right (rel n carry after))) Now
+  made_moves tally ph A n None after entry es at is mv = subst (λ (z : Actor × List LogEntry). Moves Has i (becomes i z.0 s.log z.1 (released (with p i m tally m.reads m.walk m.body m.right ph) n None after)) Now) (λ j. (at j, is j)) mv
+  made_moves tally ph A n (Some d) after entry es at is mv = subst (λ (z : Actor × List LogEntry). Moves Has i (becomes i z.0 s.log z.1 (released (with p i m tally m.reads m.walk m.body m.right ph) n (Some d) after)) Now) (λ j. (at j, is j)) mv
+
+  next_moves : (tally : Tally) (ph : Phase) (n : ℕ) (carry : Option ℕ) (after : Then)
+      → Moves Has i (becomes i (me p i a m ph) s.log [] (released (with p i m tally m.reads m.walk m.body m.right ph) n carry after)) Now → Moves Has i (next a N (with p i m tally m.reads m.walk m.body m.right (rel n carry after))) Now
+  next_moves tally ph n None after mv = mv
+  next_moves tally ph n (Some d) after mv = mv
+
+  bodies : (n : ℕ) (carry : Option ℕ) (done : ℕ) (write : Write) (after : Then) (t : Bool) → (done + 1 == length m.body) ≡ t → Has i (me p i a m (Body n carry done write after))
+      → Moves Has i (becomes i (me p i a m (Body n carry done write after)) s.log (if t then entries_of (at p i m (Body n carry done write after)) write else []) (if t then released (counted (at p i m (Body n carry done write after)) write) n carry after else at p i m (Body n carry (done + 1) write after))) Now
+      → Inv p (set words (node_word p n + (offset_of p write + done)) (get_or m.body done 0)) (s.log ++ (if t then entries_of (at p i m (Body n carry done write after)) write else [])) Now Out
+  bodies n carry done write after false e h mv =
+      let k = b.kept i (me p i a m (Body n carry done write after)) h in
+      let off : done + 1 ≢ length m.body = grind (arith, nat_tests) in
+      store_more p ok words Has Now Out i s b a m n carry done write after k.work.fits.0.some off h mv
+  bodies n carry done Nothing after true e h mv = let k = b.kept i (me p i a m (Body n carry done Nothing after)) h in absurd (k.work.fits.0.some refl)
+  bodies n carry done (Entry index) after true e h mv =
+      let k = b.kept i (me p i a m (Body n carry done (Entry index) after)) h in
+      let z = k.work.fits.1 in
+      let ph : Then → Phase = λ w. Body n carry done (Entry index) w in
+      subst (λ (w : Then). Has i (me p i a m (ph w)) → Moves Has i (becomes i (me p i a m (ph w)) s.log (entries_by i m.call m.reply) (released (at p i m (ph w)) n carry w)) Now → Inv p (set words (node_word p n + (entry_at p index + done)) (get_or m.body done 0)) (s.log ++ entries_by i m.call m.reply) Now Out)
+      (sym z.1) (λ h mv. entry_last p ok words Has Now Out i s b a m n carry done index (eqb-true (done + 1) (length m.body) e) h (made_moves m.tally (ph Ends) (me p i a m (ph Ends)) n carry Ends z.2.entry (entries_by i m.call m.reply) refl z.2.made_is mv)) h mv
+  bodies n carry done WholeLeaf after true e h mv =
+      let k = b.kept i (me p i a m (Body n carry done WholeLeaf after)) h in
+      let z = k.work.fits.1 in
+      let ph : Then → Phase = λ w. Body n carry done WholeLeaf w in
+      subst (λ (w : Then). Has i (me p i a m (ph w)) → Moves Has i (becomes i (me p i a m (ph w)) s.log (entries_by i m.call m.reply) (released (rewrite_done (at p i m (ph w))) n carry w)) Now → Inv p (set words (node_word p n + (0 + done)) (get_or m.body done 0)) (s.log ++ entries_by i m.call m.reply) Now Out)
+      (sym z.1) (λ h mv. leaf_last p ok words Has Now Out i s b a m n carry done (eqb-true (done + 1) (length m.body) e) h (made_moves (rewrote p ok words Has Now Out i s b a m) (ph Ends) (me p i a m (ph Ends)) n carry Ends z.2.entry (entries_by i m.call m.reply) refl z.2.made_is mv)) h mv
+  bodies n carry done LeftLeaf after true e h mv =
+      let k = b.kept i (me p i a m (Body n carry done LeftLeaf after)) h in
+      let z = k.work.fits.1.half.1 in
+      left_leaf_last p ok words Has Now Out i s b a m n carry done after (eqb-true (done + 1) (length m.body) e) h (made_moves (splitted p ok words Has Now Out i s b a m) (Body n carry done LeftLeaf after) (me p i a m (Body n carry done LeftLeaf after)) n carry after z.entry (entries_by i m.call m.reply) refl z.made_is mv)
+  bodies n carry done WholeInner after true e h mv =
+      let k = b.kept i (me p i a m (Body n carry done WholeInner after)) h in
+      let z = k.work.fits.1 in
+      let ph : Then → Phase = λ w. Body n carry done WholeInner w in
+      subst (λ (w : Then). Has i (me p i a m (ph w)) → Moves Has i (becomes i (me p i a m (ph w)) s.log [] (released (at p i m (ph w)) n carry w)) Now → Inv p (set words (node_word p n + (0 + done)) (get_or m.body done 0)) (s.log ++ []) Now Out)
+      (sym z.0) (λ h mv. inner_last n carry done (eqb-true (done + 1) (length m.body) e) h (next_moves m.tally (ph Ends) n carry Ends mv)) h mv
+  bodies n carry done LeftInner after true e h mv = left_inner_last n carry done after (eqb-true (done + 1) (length m.body) e) h (next_moves (splitted p ok words Has Now Out i s b a m) (Body n carry done LeftInner after) n carry after mv)
+
+  pub body : (n : ℕ) (carry : Option ℕ) (done : ℕ) (write : Write) (after : Then) → Claim p ok words Has Now Out i s b a m (Body n carry done write after) (Store (node_word p n + (offset_of p write + done)) (get_or m.body done 0))
+  body n carry done write after h mv = bodies n carry done write after (done + 1 == length m.body) refl h mv

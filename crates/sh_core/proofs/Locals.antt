@@ -94,7 +94,7 @@ module _ (p : ConfigParts) (ok : IsSetting p) (words : List ℕ) (Has Now : ℕ 
   stores n d word write after ne r e h plans mv =
       let k = b.kept i (me p i a m (Waiting n d write after)) h in
       let f = k.work.fits in
-      goes (Waiting n d write after) (Body n (carried d r) 0 write after) k (record { real = f.2; depth = d; held = f.0; carries = carries_on p word d r e (bound_is n d f.0); left = some_body write k.work.duty after n ne f.1 }, plans k) k.work.hands refl tt mv
+      goes (Waiting n d write after) (Body n (carried d r) 0 write after) k (record { real = f.2; some = ne; depth = d; held = f.0; carries = carries_on p word d r e (bound_is n d f.0); left = some_body write k.work.duty after n ne f.1 }, plans k) k.work.hands refl tt mv
 
   waits : (n d word : ℕ) (write : Write) (after : Then) (r : Release) → release_of word d p.bound ≡ r → Has i (me p i a m (Waiting n d write after))
       → Moves Has i (becomes i (me p i a m (Waiting n d write after)) sn [] (writing (at p i m (Waiting n d write after)) n (carried d r) write after)) Now → Inv p words s.log Now Out

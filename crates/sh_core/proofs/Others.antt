@@ -257,7 +257,7 @@ module _ (p : ConfigParts) (ok : IsSetting p) (Other : Owner → Type 0) (words 
       let k = h.0 in
       let x : Hold = storing_hold j k.depth n write m.body done in
       let o = storing_owns (s.hold (lock_of p n)) j k.depth n write m.body done k.held in
-      (record { real = k.real; depth = k.depth; held = still n x o k.held; carries = k.carries; left = k.left }, plans_on p s t j n (under n o) f q e e (grown e) m.call m.reply m.spare m.body m.right write duty after le (λ fresh. filled_on m.spare m.right fresh (node_size p)) h.1)
+      (record { real = k.real; some = k.some; depth = k.depth; held = still n x o k.held; carries = k.carries; left = k.left }, plans_on p s t j n (under n o) f q e e (grown e) m.call m.reply m.spare m.body m.right write duty after le (λ fresh. filled_on m.spare m.right fresh (node_size p)) h.1)
   others_fit f q e m duty (Unlock n after) le h = (holding_on n None h.0, follows_on p s t j f q e e (grown e) m.call m.reply duty after le h.1)
   others_fit f q e m duty (Leave n carry after) le h = (leaving_on n carry h.0, follows_on p s t j f q e e (grown e) m.call m.reply duty after le h.1)
   others_fit f q e m duty (Top post root) le h = (h.0, below_on p s t j 0 0 0 0 (grown 0) post root h.1, h.2)

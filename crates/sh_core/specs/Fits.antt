@@ -272,6 +272,7 @@ Carries p depth (Some now) = (now ≡ depth + 1) × (now ≤ p.bound)
 -- the lock of a node is held while its body is stored
 pub record IsStoring (p : ConfigParts) (s : Scene) (seat : ℕ) (body : List ℕ) (n : ℕ) (carry : Option ℕ) (done : ℕ) (write : Write) : Type 0 where
   pub real : IsNode p n
+  pub some : write ≢ Nothing
   pub depth : ℕ
   pub held : s.hold (lock_of p n) ≡ storing_hold seat depth n write body done
   pub carries : Carries p depth carry

@@ -1,19 +1,14 @@
 -- Stores of a body under its node's lock, but the last.
-use Rattle.std.proofs.Common.{◌≡◌, ◌≢◌, ◌⊎◌, ℕ, zero, suc, ◌+◌, ◌-◌, ◌<◌, ◌≤◌, Bool, true, false, List, [], ◌∷◌, ◌++◌, length, get_or, set, Option, Some, None, refl, sym, ap, ◌∙◌, subst, arith, length-append}
-use Rattle.std.specs.Prelude.{◌==◌, ◌*◌, ◌^◌, if◌then◌else◌}
-use Rattle.std.proofs.lemmas.Bool.Decides.{nat_tests}
+use Rattle.std.proofs.Common.{◌≡◌, ◌≢◌, ℕ, zero, suc, ◌+◌, ◌<◌, ◌≤◌, List, [], ◌∷◌, ◌++◌, length, get_or, set, Option, refl, sym, ap, ◌∙◌, subst, arith, length-append}
+use Rattle.std.specs.Prelude.{◌^◌}
 use Rattle.std.proofs.Math.Seq.{get_or-append_seam}
 use Rattle.sh_base.specs.declared.config.ConfigParts.{ConfigParts}
-use Rattle.sh_base.specs.declared.event.Event.TheVariants.{Store}
-use Rattle.sh_base.specs.Setting.{node_size, last_version, IsSetting}
-use Rattle.sh_base.specs.Layout.{lock_of, node_word, rear_at, entry_at}
+use Rattle.sh_base.specs.Setting.{node_size, IsSetting}
+use Rattle.sh_base.specs.Layout.{lock_of, node_word, entry_at}
 use Rattle.sh_base.proofs.LayoutLemmas.{node_size_is}
 use Rattle.sh_map.specs.declared.call.Call.{Call}
 use Rattle.sh_map.specs.declared.call.Reply.{Reply}
-use Rattle.sh_map.specs.declared.log.Change.TheVariants as change
-use Rattle.sh_map.specs.declared.log.Entry.{Entry as LogEntry}
 use Rattle.sh_map.specs.Log.{key_of as change_key}
-use Rattle.sh_map.specs.Made.{entries_by}
 use Rattle.sh_image.specs.Entries.{entry_words}
 use Rattle.sh_image.specs.Leaf.{Leaf, IsLeaf, leaf_in, leaf_words}
 use Rattle.sh_image.specs.Inner.{Inner, IsInner, inner_in, inner_words}
@@ -24,7 +19,7 @@ use Rattle.sh_edit.proofs.HalvesLemmas.{left_lawful}
 use Rattle.sh_edit.proofs.RiseLemmas.{with_lawful, left_inner_lawful}
 use Rattle.sh_alloc.specs.declared.state.NodeRange.{NodeRange}
 use Rattle.sh_read.specs.Moments.{Writing, Idle as NoWrite, Whole, One, IsVersioned, IsWriting}
-use Rattle.sh_scene.specs.Scene.{Linked, Seat, Hold, Held, Writes, Scene, writing_of}
+use Rattle.sh_scene.specs.Scene.{Linked, Seat, Hold, Held, Writes, Scene}
 use Rattle.sh_scene.specs.Nodes.{Orderly}
 use Rattle.sh_scene.specs.Stores.{GoesOn}
 use Rattle.sh_scene.specs.Acts.{with_hold}
@@ -43,11 +38,10 @@ use Rattle.sh_client.specs.declared.state.Write.TheVariants.{Nothing, Entry, Lea
 use Rattle.sh_client.specs.declared.state.Phase.TheVariants.{Body}
 use Rattle.sh_client.specs.Machine.{Machine}
 use Rattle.sh_client.specs.Wants.{offset_of}
-use Rattle.sh_core.specs.Actors.{Actor, becomes}
-use Rattle.sh_core.specs.Fits.{Fits, IsFilled, Plans, storing_hold, write_of}
-use Rattle.sh_core.specs.Keeps.{holding, pending, Keeps}
+use Rattle.sh_core.specs.Actors.{Actor}
+use Rattle.sh_core.specs.Fits.{Plans, storing_hold, write_of}
 use Rattle.sh_core.specs.Core.{Inv, Moves}
-use Rattle.sh_core.proofs.Others.{StaysUnder, plans_on}
+use Rattle.sh_core.proofs.Others.{plans_on}
 use Rattle.sh_core.proofs.Frame.{next, me, at, same_grows, Before}
 use Rattle.sh_core.proofs.Locks.{same_hold, hands_keep, advance}
 
@@ -180,10 +174,9 @@ module _ (p : ConfigParts) (ok : IsSetting p) (words : List ℕ) (Has Now : ℕ 
       let st = storable p ok words s b.ground i a.first a.point a.seen m.call m.reply m.spare m.body m.right n k.work.duty after write ne plans in
       let same = same_hold s (lock_of p n) x in
       advance p ok words Has Now Out i s b a m (set words (node_word p n + (offset_of p write + done)) (get_or m.body done 0)) t (Body n carry done write after) (Body n carry (done + 1) write after) m.tally m.reads k same
-      (store_act p words s b.ground i n u.depth write m.body st done u.held lt) (λ server. refl) refl
-      (
+      (store_act p words s b.ground i n u.depth write m.body st done u.held lt) (λ server. refl) refl (
         record { real = u.real; some = ne; depth = u.depth; held = put_here s.hold (lock_of p n) x ∙ sym (storing_more i u.depth n write m.body done); carries = u.carries; left = lt },
         plans_on p s t i n record { linked = λ y l c q. q; pends = λ y q. q; node = λ l c q. refl; map = λ c key q nz lo hi. refl } a.first a.point a.seen (length s.log) (same_grows s t i a.seen (length s.log) same k.seen) m.call m.reply m.spare m.body m.right write k.work.duty after k.seen
-          (λ r z. record { own = z.own; under = z.under; words = z.words }) plans,
+            (λ r z. record { own = z.own; under = z.under; words = z.words }) plans,
       )
       (hands_keep s i (lock_of p n) x k.work.hands) refl tt mv

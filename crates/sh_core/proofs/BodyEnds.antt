@@ -1,28 +1,24 @@
 -- The last store of a body under its node's lock.
-use Rattle.std.proofs.Common.{◌≡◌, ◌≢◌, ◌⊎◌, ℕ, zero, suc, ◌+◌, ◌-◌, ◌<◌, ◌≤◌, Bool, true, false, List, [], ◌∷◌, ◌++◌, length, get_or, set, Option, Some, None, refl, sym, ap, ◌∙◌, subst, ⊎_elim, inl, inr, arith, append-nil, length-append}
-use Rattle.std.specs.Prelude.{◌==◌, ◌*◌, ◌^◌, if◌then◌else◌, slice_get}
+use Rattle.std.proofs.Common.{◌≡◌, ℕ, zero, suc, ◌+◌, ◌<◌, ◌≤◌, List, [], ◌∷◌, ◌++◌, length, get_or, set, Option, Some, None, refl, sym, ap, ◌∙◌, subst, ⊎_elim, arith, append-nil, length-append}
+use Rattle.std.specs.Prelude.{◌^◌, slice_get}
 use Rattle.std.proofs.lemmas.List.{ext_get_or}
 use Rattle.std.proofs.lemmas.Option.{slice_get-get_or}
 use Rattle.std.proofs.Math.Seq.{get_or-append_seam}
 use Rattle.sh_base.specs.declared.config.ConfigParts.{ConfigParts}
-use Rattle.sh_base.specs.Setting.{node_size, last_version, IsNode, IsSetting}
+use Rattle.sh_base.specs.Setting.{node_size, IsNode, IsSetting}
 use Rattle.sh_base.specs.Layout.{lock_of, node_word, rear_at, entry_at}
 use Rattle.sh_base.proofs.LayoutLemmas.{node_size_is, rear_at_low}
-use Rattle.sh_map.specs.declared.call.Call.{Call}
-use Rattle.sh_map.specs.declared.call.Reply.{Reply}
-use Rattle.sh_map.specs.declared.log.Change.TheVariants as change
 use Rattle.sh_map.specs.declared.log.Entry.{Entry as LogEntry}
 use Rattle.sh_map.specs.Log.{key_of as change_key}
 use Rattle.sh_map.specs.Made.{entries_by}
 use Rattle.sh_image.specs.declared.leaf.LeafEntry.{LeafEntry}
 use Rattle.sh_image.specs.Entries.{entry_words}
 use Rattle.sh_image.specs.Leaf.{Leaf, leaf_in, leaf_words}
-use Rattle.sh_image.specs.Inner.{Inner, inner_in, inner_words}
 use Rattle.sh_edit.specs.Splitting.{left_half, right_half, separator_of}
 use Rattle.sh_edit.proofs.HalvesLemmas.{left_lawful, right_lawful, separator_within}
 use Rattle.sh_read.specs.Moments.{Whole, One}
-use Rattle.sh_scene.proofs.Spelled.{leaf_long, inner_long}
-use Rattle.sh_scene.specs.Scene.{Fresh, Linked, Post as NodePost, Posted, Pending, Skipped, Seat, Hold, Held, Writes, Owns, Scene, put}
+use Rattle.sh_scene.proofs.Spelled.{leaf_long}
+use Rattle.sh_scene.specs.Scene.{Linked, Posted, Pending, Skipped, Seat, Hold, Held, Writes, Owns, Scene, put}
 use Rattle.sh_scene.specs.Nodes.{IsLinked, entries_of}
 use Rattle.sh_scene.specs.Ground.{Ground}
 use Rattle.sh_scene.specs.Change.{Change}
@@ -34,21 +30,20 @@ use Rattle.sh_client.specs.declared.state.Post.{Post}
 use Rattle.sh_client.specs.declared.state.Tally.{Tally}
 use Rattle.sh_client.specs.Aims.{post_of}
 use Rattle.sh_client.specs.declared.state.Then.{Then}
-use Rattle.sh_client.specs.declared.state.Then.TheVariants.{Ends, Starts, Takes}
+use Rattle.sh_client.specs.declared.state.Then.TheVariants.{Ends}
 use Rattle.sh_client.specs.declared.state.Write.{Write}
-use Rattle.sh_client.specs.declared.state.Write.TheVariants.{Nothing, Entry, Leaf as WholeLeaf, LeftLeaf, Inner as WholeInner, LeftInner}
+use Rattle.sh_client.specs.declared.state.Write.TheVariants.{Nothing, Entry, Leaf as WholeLeaf, LeftLeaf}
 use Rattle.sh_client.specs.declared.state.Phase.{Phase}
 use Rattle.sh_client.specs.declared.state.Phase.TheVariants.{Body, Unlock, Leave}
-use Rattle.sh_client.specs.Machine.{Machine, up, rewrite_done, split_done}
-use Rattle.sh_client.specs.Giving.{released, counted}
-use Rattle.sh_client.specs.Wants.{offset_of}
+use Rattle.sh_client.specs.Machine.{Machine, up}
+use Rattle.sh_client.specs.Giving.{released}
 use Rattle.sh_core.specs.Actors.{Actor, becomes, going, AreAnswered, made_by, updates}
-use Rattle.sh_core.specs.Fits.{HasEntry, Fits, Follows, IsHolding, Carries, PlansEntry, PlansLeaf, Plans, storing_hold, write_of}
+use Rattle.sh_core.specs.Fits.{HasEntry, Fits, Follows, IsHolding, Carries, storing_hold, write_of}
 use Rattle.sh_core.specs.Keeps.{holding, pending, pending_then, Hands, Waits, Skips, IsAtWork, Keeps}
 use Rattle.sh_core.specs.Core.{Inv, Moves}
 use Rattle.sh_core.proofs.Logs.{made_by-append, made_by_here, answered_longer}
 use Rattle.sh_core.proofs.Frame.{me, at, with, skips_on, IsCalm, Before, moves_to}
-use Rattle.sh_core.proofs.Roots.{decided_entry, skips_posted, waits_posted}
+use Rattle.sh_core.proofs.Roots.{decided_entry}
 
 -- the lock is given back next
 abbrev pub rel : ℕ → Option ℕ → Then → Phase

@@ -1,22 +1,19 @@
 -- A call begins, or is taken away when it has ended; and what there is where all clients rest.
-use Rattle.std.proofs.Common.{◌≡◌, ◌≢◌, ◌⊎◌, ℕ, zero, suc, ◌+◌, ◌<◌, ◌≤◌, Bool, true, false, List, [], ◌∷◌, ◌++◌, length, Option, Some, None, refl, sym, ap, ◌∙◌, subst, arith}
+use Rattle.std.proofs.Common.{◌≡◌, ◌≢◌, ℕ, true, List, [], ◌++◌, length, Option, None, refl, sym, ap, ◌∙◌, subst, arith}
 use Rattle.sh_base.specs.declared.config.ConfigParts.{ConfigParts}
 use Rattle.sh_base.specs.Setting.{IsSetting}
-use Rattle.sh_map.specs.declared.call.Call.{Call}
 use Rattle.sh_map.specs.declared.log.Entry.{Entry as LogEntry}
-use Rattle.sh_map.specs.Calls.{IsInRange}
-use Rattle.sh_read.specs.Moments.{Writing}
-use Rattle.sh_scene.specs.Scene.{Pending, Owner, Seat, Right, Hold, Nobody, Held, Writes, Owns, Scene}
+use Rattle.sh_scene.specs.Scene.{Pending, Seat, Right, Hold, Nobody, Held, Writes, Owns, Scene}
 use Rattle.sh_scene.proofs.Joins.{nothing_done}
 use Rattle.sh_client.specs.declared.state.Post.{Post}
 use Rattle.sh_client.specs.declared.state.Phase.{Phase}
 use Rattle.sh_client.specs.declared.state.Phase.TheVariants.{Idle, Root, Read, Draw, Look, Grab, Hold as Holds, Seek, Fill, Waiting, Body, Unlock, Leave, Top, Raise, Swap, Ended}
-use Rattle.sh_client.specs.Machine.{Machine, to}
-use Rattle.sh_client.specs.Rests.{rests, is_resting}
-use Rattle.sh_core.specs.Actors.{Actor, begun, rested, AreAnswered, updates}
+use Rattle.sh_client.specs.Machine.{Machine}
+use Rattle.sh_client.specs.Rests.{rests}
+use Rattle.sh_core.specs.Actors.{Actor, begun, rested, updates}
 use Rattle.sh_core.specs.Fits.{Fits}
-use Rattle.sh_core.specs.Keeps.{holding, Hands, Waits, pending, Keeps}
-use Rattle.sh_core.specs.Core.{Inv, Moves, AreSame, AllRest, BeginKeeps, RestKeeps, SameKeeps, AtRest, SomeAdds}
+use Rattle.sh_core.specs.Keeps.{holding, Hands, Waits, pending}
+use Rattle.sh_core.specs.Core.{Inv, BeginKeeps, RestKeeps, SameKeeps, AtRest, SomeAdds}
 use Rattle.sh_core.proofs.Logs.{in_order_later}
 use Rattle.sh_core.proofs.Others.{bounded_less}
 use Rattle.sh_core.proofs.Frame.{Before, moves_to}

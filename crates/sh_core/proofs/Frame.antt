@@ -1,12 +1,9 @@
 -- How a turn's new invariant is put together: the actor goes on with its call, or its call has ended.
-use Rattle.std.proofs.Common.{◌≡◌, ◌≢◌, ◌⊎◌, ℕ, zero, suc, ◌+◌, ◌<◌, ◌≤◌, Bool, true, false, List, [], ◌∷◌, ◌++◌, length, Option, Some, None, refl, sym, ap, ◌∙◌, subst, inl, inr, arith, append-nil, length-append}
-use Rattle.std.specs.Prelude.{slice_get}
+use Rattle.std.proofs.Common.{◌≡◌, ◌≢◌, ℕ, ◌+◌, ◌<◌, ◌≤◌, List, [], ◌∷◌, ◌++◌, length, Option, Some, None, refl, sym, ap, ◌∙◌, subst, arith, append-nil, length-append}
 use Rattle.sh_base.specs.declared.config.ConfigParts.{ConfigParts}
-use Rattle.sh_base.specs.declared.event.Event.{Event}
 use Rattle.sh_base.specs.declared.event.Event.TheVariants as event
 use Rattle.sh_base.specs.Setting.{all_seats, IsSetting}
 use Rattle.sh_base.specs.Layout.{counter_word}
-use Rattle.sh_base.specs.Memory.{apply, found_by}
 use Rattle.std.proofs.lemmas.List.{take-append-le}
 use Rattle.sh_map.specs.declared.call.Call.{Call}
 use Rattle.sh_map.specs.declared.call.Call.TheVariants as call
@@ -30,15 +27,13 @@ use Rattle.sh_scene.proofs.Joins.{nothing_done}
 use Rattle.sh_own.specs.Counters.{Bounded}
 use Rattle.sh_client.specs.declared.state.Post.{Post}
 use Rattle.sh_client.specs.declared.state.Tally.{Tally}
-use Rattle.sh_client.specs.declared.state.Want.{Want}
 use Rattle.sh_client.specs.declared.state.Want.TheVariants as want
 use Rattle.sh_client.specs.declared.state.Phase.{Phase}
 use Rattle.sh_client.specs.declared.state.Phase.TheVariants.{Idle, Root, Read, Draw, Look, Grab, Hold, Seek, Fill, Waiting, Body, Unlock, Leave, Top, Raise, Swap, Ended}
 use Rattle.sh_client.specs.Machine.{Machine}
-use Rattle.sh_client.specs.Giving.{makes}
 use Rattle.sh_client.specs.Wants.{want_in, load_of}
-use Rattle.sh_core.specs.Actors.{Actor, ending, done_of, least_point, point_of, IsLeast, IsAnswered, AreAnswered, AreInOrder, stepped, made_by, updates}
-use Rattle.sh_core.specs.Fits.{HasEntry, HadNone, IsDecided, Owes, AreSpares, Fits}
+use Rattle.sh_core.specs.Actors.{Actor, ending, done_of, least_point, point_of, IsAnswered, AreAnswered, made_by, updates}
+use Rattle.sh_core.specs.Fits.{HadNone, IsDecided, Fits}
 use Rattle.sh_core.specs.Keeps.{holding, Hands, Waits, pending, Skips, IsAtWork, Keeps}
 use Rattle.sh_core.specs.Core.{WantsAdd, SomeAdds, Inv, Moves}
 use Rattle.sh_core.proofs.Logs.{grows as log_grows, updates-snoc, in_order_snoc, answered_snoc, least_is}
@@ -219,7 +214,7 @@ module _ (p : ConfigParts) (ok : IsSetting p) (words : List ℕ) (Has Now : ℕ 
   pub moves_by : (now : List ℕ) (t : Scene) (x : Actor) → Change p i s t × Ground p now t → Keeps p t i x → ((server : ℕ) → t.counter server ≡ s.counter server) → ((server : ℕ) → WantsAdd p server x.client → ⊥) → Moves Has i x Now → Inv p now t.log Now Out
   moves_by now t x ch k same calm mv = turn_to p Has Now i x mv ok words now s t b.ground ch.1 k b.kept b.held b.pends b.skips Out ch.0
       (λ server lt. subst (λ (c : ℕ). Bounded p.chunks (all_seats p) c (λ j. SomeAdds p Now server j)) (sym (same server))
-        (bounded_less p.chunks (all_seats p) (s.counter server) (λ j. SomeAdds p Has server j) (λ j. SomeAdds p Now server j) (adds_before p Has Now i x mv server (calm server)) (b.bounded server lt)))
+      (bounded_less p.chunks (all_seats p) (s.counter server) (λ j. SomeAdds p Has server j) (λ j. SomeAdds p Now server j) (adds_before p Has Now i x mv server (calm server)) (b.bounded server lt)))
       b.given b.out
 
   pub moves_to : (now : List ℕ) (t : Scene) (x : Actor) → Change p i s t × Ground p now t → Keeps p t i x → ((server : ℕ) → t.counter server ≡ s.counter server) → IsCalm x.client.phase → Moves Has i x Now → Inv p now t.log Now Out

@@ -1,29 +1,26 @@
 -- The images of accepted READs, and where hops from them lead.
-use Rattle.std.proofs.Common.{◌≡◌, ◌≢◌, ◌⊎◌, ℕ, zero, suc, ◌+◌, ◌-◌, ◌<◌, ◌≤◌, Bool, true, false, List, [], ◌∷◌, length, get_or, Option, Some, None, refl, sym, ap, ◌∙◌, subst, arith}
-use Rattle.std.specs.Prelude.{◌^◌, ◌||◌, ◌==◌, if◌then◌else◌, nat_le, nat_lt}
+use Rattle.std.proofs.Common.{◌≡◌, ◌≢◌, ℕ, zero, suc, ◌+◌, ◌-◌, ◌<◌, ◌≤◌, Bool, true, false, List, [], ◌∷◌, length, get_or, refl, sym, ap, ◌∙◌, subst, arith}
+use Rattle.std.specs.Prelude.{◌||◌, ◌==◌, if◌then◌else◌, nat_le, nat_lt}
 use Rattle.std.proofs.lemmas.Bool.Decides.{nat_tests}
 use Rattle.sh_base.specs.declared.config.ConfigParts.{ConfigParts}
 use Rattle.sh_base.specs.Setting.{node_size, IsSetting}
 use Rattle.sh_base.specs.Layout.{node_word, rear_at}
 use Rattle.sh_base.proofs.LayoutLemmas.{node_size_is}
-use Rattle.sh_map.specs.declared.log.Entry.{Entry}
 use Rattle.sh_image.specs.declared.inner.Image.{Image}
 use Rattle.sh_image.specs.declared.inner.Image.TheVariants.{Leaf as LeafImage, Inner as InnerImage}
-use Rattle.sh_image.specs.declared.read.Seen.{Seen}
 use Rattle.sh_image.specs.declared.read.Seen.TheVariants.{Leaf as LeafSeen, Inner as InnerSeen}
-use Rattle.sh_image.specs.Leaf.{Leaf, leaf_in, leaf_words, Spells}
+use Rattle.sh_image.specs.Leaf.{Leaf, leaf_in, Spells}
 use Rattle.sh_image.specs.Inner.{Inner, inner_in, SpellsInner}
 use Rattle.sh_image.proofs.UntornLemmas.{untorn_spelled, untorn_inner}
 use Rattle.sh_edit.specs.Held.{held}
 use Rattle.sh_read.proofs.JudgingLemmas.{seen_once}
-use Rattle.sh_descend.specs.declared.Hop.{Hop}
 use Rattle.sh_descend.specs.declared.Hop.TheVariants.{Here, Right, Down, Restart}
 use Rattle.sh_descend.specs.Descent.{level_of, low_of, high_of, next_of, pairs_of, child_of, hop_of}
 use Rattle.sh_scene.specs.Scene.{Linked, Scene, writing}
 use Rattle.sh_scene.specs.Ground.{Ground}
 use Rattle.sh_scene.specs.Nodes.{level_in}
 use Rattle.sh_scene.proofs.Spelled.{leaf_is, inner_is}
-use Rattle.sh_known.specs.Points.{HadAt, IsReadLeaf}
+use Rattle.sh_known.specs.Points.{HadAt}
 use Rattle.sh_known.specs.Knows.{IsFed}
 use Rattle.sh_known.specs.Hand.{IsImageOf}
 use Rattle.sh_known.proofs.Fed.{fed_first, fed_more, fed_leaf, fed_inner}

@@ -1,6 +1,6 @@
 -- The last store of an inner node's body, which posts a node; and the turn of each store of a body.
-use Rattle.std.proofs.Common.{◌≡◌, ◌≢◌, ◌⊎◌, ℕ, zero, suc, ◌+◌, ◌-◌, ◌<◌, ◌≤◌, Bool, true, false, List, [], ◌∷◌, ◌++◌, length, get_or, set, Option, Some, None, refl, sym, ap, ◌∙◌, subst, ⊎_elim, inl, inr, arith, append-nil, eqb-true}
-use Rattle.std.specs.Prelude.{◌==◌, ◌*◌, ◌^◌, if◌then◌else◌}
+use Rattle.std.proofs.Common.{◌≡◌, ◌≢◌, ℕ, suc, ◌+◌, ◌<◌, ◌≤◌, Bool, true, false, List, [], ◌∷◌, ◌++◌, length, get_or, set, Option, Some, None, refl, sym, ap, ◌∙◌, subst, ⊎_elim, arith, append-nil, eqb-true}
+use Rattle.std.specs.Prelude.{◌==◌, ◌^◌, if◌then◌else◌}
 use Rattle.std.proofs.lemmas.Bool.Decides.{nat_tests}
 use Rattle.std.proofs.lemmas.List.{ext_get_or}
 use Rattle.sh_base.specs.declared.config.ConfigParts.{ConfigParts}
@@ -10,25 +10,22 @@ use Rattle.sh_base.specs.Layout.{lock_of, node_word, rear_at, entry_at}
 use Rattle.sh_base.proofs.LayoutLemmas.{node_size_is, rear_at_low}
 use Rattle.sh_map.specs.declared.log.Entry.{Entry as LogEntry}
 use Rattle.sh_map.specs.Made.{entries_by}
-use Rattle.sh_image.specs.Inner.{Inner, IsInner, inner_in, inner_words}
-use Rattle.sh_image.specs.declared.inner.Pair.{Pair}
+use Rattle.sh_image.specs.Inner.{Inner, inner_in, inner_words}
 use Rattle.sh_edit.specs.Pairing.{with_pair, left_inner, right_inner, middle_of}
 use Rattle.sh_edit.proofs.RiseLemmas.{with_lawful, left_inner_lawful, right_inner_lawful, middle_within}
 use Rattle.sh_read.specs.Moments.{Whole}
-use Rattle.sh_scene.specs.Scene.{Fresh, Linked, Posted, Pending, Skipped, Seat, Hold, Held, Writes, Scene, put}
+use Rattle.sh_scene.specs.Scene.{Linked, Posted, Pending, Skipped, Seat, Held, Writes, Scene, put}
 use Rattle.sh_scene.specs.Nodes.{IsLinked}
 use Rattle.sh_scene.specs.Ground.{Ground}
 use Rattle.sh_scene.specs.Change.{Change}
 use Rattle.sh_scene.specs.Acts.{ended}
 use Rattle.sh_scene.proofs.Puts.{put_here, put_else, put_case}
-use Rattle.sh_scene.proofs.Scenes.{fresh_linked}
 use Rattle.sh_scene.proofs.Spelled.{inner_long}
 use Rattle.sh_ends.proofs.LeafEnds.{bound_of}
 use Rattle.sh_ends.proofs.InnerEnds.{is_new, pair_end, inner_split_end}
 use Rattle.sh_client.specs.declared.state.Post.{Post}
 use Rattle.sh_client.specs.declared.state.Then.{Then}
-use Rattle.sh_client.specs.declared.state.Then.TheVariants.{Ends, Starts, Takes}
-use Rattle.sh_client.specs.declared.state.Aim.TheVariants.{Posts}
+use Rattle.sh_client.specs.declared.state.Then.TheVariants.{Ends}
 use Rattle.sh_client.specs.declared.state.Write.{Write}
 use Rattle.sh_client.specs.declared.state.Write.TheVariants.{Nothing, Entry, Leaf as WholeLeaf, LeftLeaf, Inner as WholeInner, LeftInner}
 use Rattle.sh_client.specs.declared.state.Tally.{Tally}
@@ -39,11 +36,11 @@ use Rattle.sh_client.specs.Giving.{released, counted, entries_of}
 use Rattle.sh_client.specs.Wants.{offset_of}
 use Rattle.sh_client.specs.Aims.{post_of}
 use Rattle.sh_core.specs.Actors.{Actor, becomes}
-use Rattle.sh_core.specs.Fits.{HasEntry, Follows, Owes, storing_hold}
-use Rattle.sh_core.specs.Keeps.{holding, pending, pending_then, Hands, Waits, Skips, IsAtWork, Keeps}
+use Rattle.sh_core.specs.Fits.{HasEntry, Follows, Owes}
+use Rattle.sh_core.specs.Keeps.{pending_then, Hands, Waits}
 use Rattle.sh_core.specs.Core.{Inv, Moves}
 use Rattle.sh_core.proofs.Others.{entry_on}
-use Rattle.sh_core.proofs.Frame.{next, me, at, with, goes_on, same_here, same_grows, IsCalm, Before, moves_to, one_log}
+use Rattle.sh_core.proofs.Frame.{next, me, at, with, goes_on, same_here, same_grows, Before, moves_to, one_log}
 use Rattle.sh_core.proofs.Roots.{decided_entry, skips_posted, waits_posted}
 use Rattle.sh_core.proofs.BodyEnds.{rel, rel_holding, rel_pending, rel_calm, rel_fits, storing_at, keeps_hands, maker, entry_last, leaf_last, left_leaf_last, rewrote, splitted, skips_pending}
 use Rattle.sh_core.proofs.Bodies.{store_more}

@@ -14,3 +14,4 @@ pub mod Roots
 pub mod Bodies
 pub mod BodyEnds
 pub mod InnerBodies
+pub mod UnderLock

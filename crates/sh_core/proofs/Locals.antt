@@ -1,5 +1,5 @@
 -- The turns that a client's own compute server answers.
-use Rattle.std.proofs.Common.{◌≡◌, ◌≢◌, ℕ, zero, suc, ◌+◌, ◌<◌, ◌≤◌, Bool, true, false, List, [], ◌∷◌, ◌++◌, length, Option, Some, None, refl, sym, ap, ◌∙◌, subst, arith, length-append}
+use Rattle.std.proofs.Common.{◌≡◌, ◌≢◌, ℕ, ◌+◌, ◌<◌, ◌≤◌, Bool, true, false, List, [], ◌++◌, length, Option, Some, None, refl, sym, ap, subst, arith, length-append}
 use Rattle.std.specs.Prelude.{◌==◌, ◌||◌, if◌then◌else◌}
 use Rattle.std.proofs.lemmas.Bool.Decides.{nat_tests}
 use Rattle.sh_base.specs.declared.config.ConfigParts.{ConfigParts}
@@ -8,13 +8,10 @@ use Rattle.sh_base.specs.Layout.{lock_of}
 use Rattle.sh_map.specs.declared.call.Call.{Call}
 use Rattle.sh_map.specs.declared.call.Reply.{Reply}
 use Rattle.sh_map.specs.declared.log.Entry.{Entry as LogEntry}
-use Rattle.sh_map.specs.Made.{entries_by}
 use Rattle.sh_lock.specs.declared.state.Release.{Release}
 use Rattle.sh_lock.specs.declared.state.Release.TheVariants.{Hand, Free}
 use Rattle.sh_lock.specs.Locks.{release_of}
-use Rattle.sh_alloc.specs.declared.state.Walk.{Walk}
-use Rattle.sh_read.specs.Reads.{Reads}
-use Rattle.sh_scene.specs.Scene.{Seat, Hold, Held, Owns, Scene}
+use Rattle.sh_scene.specs.Scene.{Seat, Hold, Held, Scene}
 use Rattle.sh_scene.specs.Nodes.{Orderly}
 use Rattle.sh_client.specs.declared.state.Post.{Post}
 use Rattle.sh_client.specs.declared.state.Aim.{Aim}
@@ -22,9 +19,8 @@ use Rattle.sh_client.specs.declared.state.Then.{Then}
 use Rattle.sh_client.specs.declared.state.Then.TheVariants.{Ends, Starts, Takes}
 use Rattle.sh_client.specs.declared.state.Write.{Write}
 use Rattle.sh_client.specs.declared.state.Write.TheVariants.{Nothing, Entry, Leaf as WholeLeaf, LeftLeaf, Inner as WholeInner, LeftInner}
-use Rattle.sh_client.specs.declared.state.Tally.{Tally}
 use Rattle.sh_client.specs.declared.state.Phase.{Phase}
-use Rattle.sh_client.specs.declared.state.Phase.TheVariants.{Idle, Root, Draw, Look, Grab, Waiting, Body, Unlock, Leave, Ended}
+use Rattle.sh_client.specs.declared.state.Phase.TheVariants.{Root, Draw, Look, Grab, Waiting, Body, Unlock, Leave, Ended}
 use Rattle.sh_client.specs.Machine.{Machine}
 use Rattle.sh_client.specs.Giving.{carried, followed, writing}
 use Rattle.sh_core.specs.Actors.{Actor, becomes, ending, stepped, turned}
@@ -32,7 +28,7 @@ use Rattle.sh_core.specs.Fits.{Carries, Fits, Follows, Plans}
 use Rattle.sh_core.specs.Keeps.{holding, Hands, pending, Keeps}
 use Rattle.sh_core.specs.Core.{Inv, Moves}
 use Rattle.sh_core.proofs.Others.{follows_on}
-use Rattle.sh_core.proofs.Frame.{next, me, at, with, goes_on, ends_now, IsEnding, decided_ends, work_with, work_ended, same_here, same_grows, IsCalm, Before, stays}
+use Rattle.sh_core.proofs.Frame.{next, me, at, goes_on, ends_now, decided_ends, work_with, work_ended, same_here, same_grows, IsCalm, Before, stays}
 
 -- a lock that is handed over isn't at the bound
 hand_below : (count depth bound : ℕ) → release_of count depth bound ≡ Hand → depth ≤ bound → depth + 1 ≤ bound

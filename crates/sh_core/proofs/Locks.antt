@@ -1,28 +1,24 @@
 -- The turns on lock words and the load of the root word.
-use Rattle.std.proofs.Common.{◌≡◌, ◌≢◌, ℕ, zero, suc, ◌+◌, ◌-◌, ◌<◌, ◌≤◌, Bool, true, false, List, [], ◌∷◌, ◌++◌, length, get_or, set, drop, Option, Some, None, refl, sym, ap, ◌∙◌, subst, arith, append-nil, drop_of_length-le, eqb-true}
+use Rattle.std.proofs.Common.{◌≡◌, ℕ, ◌+◌, ◌-◌, ◌≤◌, Bool, true, false, List, [], ◌++◌, length, get_or, set, Option, Some, None, refl, ap, ◌∙◌, subst, arith, drop_of_length-le, eqb-true}
 use Rattle.std.specs.Prelude.{◌==◌, if◌then◌else◌}
 use Rattle.sh_base.specs.declared.config.ConfigParts.{ConfigParts}
 use Rattle.sh_base.specs.declared.event.Event.{Event}
-use Rattle.sh_base.specs.declared.event.Event.TheVariants.{Load, Store, Exchange, Add}
-use Rattle.sh_base.specs.Setting.{node_size, all_locks, IsNode, IsSetting}
+use Rattle.sh_base.specs.declared.event.Event.TheVariants.{Load, Store}
+use Rattle.sh_base.specs.Setting.{node_size, IsSetting}
 use Rattle.sh_base.specs.Layout.{lock_of, lock_word, root_word, compute_of}
 use Rattle.sh_base.specs.Places.{Root as RootSite}
 use Rattle.sh_base.specs.Memory.{apply, found_by}
 use Rattle.sh_base.proofs.LayoutLemmas.{node_size_is}
 use Rattle.sh_base.proofs.PlanLemmas.{lock_below}
-use Rattle.sh_map.specs.declared.call.Call.{Call}
-use Rattle.sh_map.specs.declared.call.Reply.{Reply}
-use Rattle.sh_map.specs.declared.log.Entry.{Entry as LogEntry}
 use Rattle.sh_lock.specs.Locks.{grab_of}
 use Rattle.sh_read.specs.Reads.{Reads, start_of}
-use Rattle.sh_scene.specs.Scene.{Linked, Seat, Hold, Nobody, Held, Owns, Scene, put}
+use Rattle.sh_scene.specs.Scene.{Seat, Hold, Nobody, Held, Owns, Scene}
 use Rattle.sh_scene.specs.Change.{Change}
 use Rattle.sh_scene.specs.Ground.{Ground}
 use Rattle.sh_scene.specs.Acts.{with_hold}
 use Rattle.sh_scene.proofs.Puts.{put_here, put_else, put_case}
 use Rattle.sh_scene.proofs.Holds.{take_act, free_act}
 use Rattle.sh_scene.proofs.Events.{free_lock}
-use Rattle.sh_known.specs.Hand.{IsNamed}
 use Rattle.sh_client.specs.declared.state.Post.{Post}
 use Rattle.sh_client.specs.declared.state.Aim.{Aim}
 use Rattle.sh_client.specs.declared.state.Aim.TheVariants.{Own, Posts}
@@ -34,7 +30,7 @@ use Rattle.sh_client.specs.Machine.{Machine}
 use Rattle.sh_client.specs.Aims.{is_node, key_of, target}
 use Rattle.sh_client.specs.Giving.{makes}
 use Rattle.sh_core.specs.Actors.{Actor, becomes, stepped}
-use Rattle.sh_core.specs.Fits.{duty_of, Fits, Owes, IsThere, Reaches}
+use Rattle.sh_core.specs.Fits.{duty_of, Fits, Owes, Reaches}
 use Rattle.sh_core.specs.Keeps.{holding, Hands, pending, Keeps}
 use Rattle.sh_core.specs.Core.{Inv, Moves}
 use Rattle.sh_core.proofs.Others.{named_on, follows_on}

@@ -1,11 +1,9 @@
 -- The log and the ended calls, some entries or one call longer; and the least point.
-use Rattle.std.proofs.Common.{◌≡◌, ◌≢◌, ℕ, zero, suc, ◌+◌, ◌-◌, ◌<◌, ◌≤◌, Bool, true, false, List, [], ◌∷◌, ◌++◌, length, Option, Some, None, refl, sym, ap, ◌∙◌, subst, inl, inr, arith, append-nil, append_assoc, length-append, ne_eqb, eq-eqb}
-use Rattle.std.specs.Prelude.{◌==◌, if◌then◌else◌, slice_get, filter}
+use Rattle.std.proofs.Common.{◌≡◌, ◌≢◌, ℕ, zero, suc, ◌+◌, ◌-◌, ◌<◌, ◌≤◌, Bool, true, false, List, [], ◌∷◌, ◌++◌, length, Option, Some, None, refl, sym, ap, ◌∙◌, subst, arith, append-nil, append_assoc, ne_eqb, eq-eqb}
+use Rattle.std.specs.Prelude.{◌==◌, if◌then◌else◌}
 use mathlib.Core.Logic.{dite}
 use native.Mathlib.Decide.{ℕ_discrete}
-use Rattle.std.specs.Str.{bytes_eq}
 use Rattle.std.proofs.lemmas.Slice.Eq.{bytes_eq-Decides}
-use Rattle.std.proofs.lemmas.List.{take-append-le}
 use Rattle.std.proofs.lemmas.List.Elements.{filter-append}
 use Rattle.sh_map.specs.declared.call.Call.{Call}
 use Rattle.sh_map.specs.declared.call.Call.TheVariants as call
@@ -14,10 +12,10 @@ use Rattle.sh_map.specs.declared.call.Reply.TheVariants as reply
 use Rattle.sh_map.specs.declared.log.Entry.{Entry}
 use Rattle.sh_map.specs.declared.book.Done.{Done}
 use Rattle.sh_map.specs.Map.{get}
-use Rattle.sh_map.specs.Log.{map_of, map_at}
+use Rattle.sh_map.specs.Log.{map_at}
 use Rattle.sh_map.specs.Made.{entries_by}
 use Rattle.sh_map.specs.Points.{IsLeastPoint}
-use Rattle.sh_map.specs.Book.{Answers, made}
+use Rattle.sh_map.specs.Book.{made}
 use Rattle.sh_map.proofs.BookLemmas.{Answers-push, IsLeastPoint-push}
 use Rattle.sh_scene.specs.Change.{HasNoneOf}
 use Rattle.sh_core.specs.Actors.{had_same, least_from, least_point, IsLeast, IsAnswered, AreAnswered, AreInOrder, updates, made_by}

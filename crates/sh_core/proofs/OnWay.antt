@@ -1,9 +1,8 @@
 -- READs without a lock.
-use Rattle.std.proofs.Common.{◌≡◌, ◌≢◌, ℕ, zero, suc, ◌+◌, ◌-◌, ◌<◌, ◌≤◌, Bool, true, false, List, [], ◌∷◌, ◌++◌, length, get_or, Option, Some, None, refl, sym, ap, ◌∙◌, subst, arith, eqb-true}
-use Rattle.std.specs.Prelude.{◌^◌, ◌==◌, ◌&&◌, if◌then◌else◌, nat_lt}
+use Rattle.std.proofs.Common.{◌≡◌, ◌≢◌, ℕ, ◌+◌, ◌-◌, ◌<◌, ◌≤◌, Bool, true, false, List, [], ◌∷◌, ◌++◌, length, get_or, Option, Some, None, refl, sym, ap, ◌∙◌, subst, arith, eqb-true}
+use Rattle.std.specs.Prelude.{◌==◌, ◌&&◌, if◌then◌else◌, nat_lt}
 use Rattle.std.proofs.lemmas.Bool.Decides.{nat_tests}
 use Rattle.sh_base.specs.declared.config.ConfigParts.{ConfigParts}
-use Rattle.sh_base.specs.declared.event.Event.{Event}
 use Rattle.sh_base.specs.declared.event.Event.TheVariants.{Load}
 use Rattle.sh_base.specs.Setting.{node_size, IsSetting}
 use Rattle.sh_base.specs.Layout.{node_word}
@@ -11,13 +10,9 @@ use Rattle.sh_base.proofs.LayoutLemmas.{node_size_is}
 use Rattle.sh_map.specs.declared.call.Call.{Call}
 use Rattle.sh_map.specs.declared.call.Call.TheVariants as call
 use Rattle.sh_map.specs.declared.call.Reply.{Reply}
-use Rattle.sh_map.specs.declared.call.Reply.TheVariants as reply
 use Rattle.sh_map.specs.declared.log.Entry.{Entry as LogEntry}
-use Rattle.sh_map.specs.declared.book.Done.{Done}
 use Rattle.sh_map.specs.Made.{entries_by}
 use Rattle.sh_map.specs.Calls.{IsInRange, IsKey}
-use Rattle.sh_map.specs.Map.{get}
-use Rattle.sh_map.specs.Log.{map_at}
 use Rattle.sh_image.specs.declared.inner.Image.{Image}
 use Rattle.sh_image.specs.declared.inner.Image.TheVariants.{Leaf as LeafImage, Inner as InnerImage}
 use Rattle.sh_image.specs.declared.read.Seen.{Seen}
@@ -25,20 +20,16 @@ use Rattle.sh_image.specs.declared.read.Seen.TheVariants.{Leaf as LeafSeen, Inne
 use Rattle.sh_image.specs.Seen.{SeenBy}
 use Rattle.sh_image.specs.Leaf.{Leaf}
 use Rattle.sh_edit.specs.Held.{held}
-use Rattle.sh_edit.specs.Pairing.{root_over}
-use Rattle.sh_image.specs.Inner.{inner_words}
-use Rattle.sh_alloc.specs.declared.state.NodeRange.{NodeRange}
-use Rattle.sh_alloc.specs.declared.state.Walk.{Walk}
 use Rattle.sh_alloc.specs.Spares.{lowest, without_lowest}
 use Rattle.sh_alloc.specs.Walks.{start_of as walk_start}
-use Rattle.sh_read.specs.declared.state.Progress.TheVariants.{More, Accepted, Again, Odd}
+use Rattle.sh_read.specs.declared.state.Progress.TheVariants.{More}
 use Rattle.sh_read.specs.Judging.{seen_of}
 use Rattle.sh_read.specs.Reads.{Reads, accepted, answer_to, image_in, left_by, reads_with, start_of}
 use Rattle.sh_read.proofs.JudgingLemmas.{judged_by}
 use Rattle.sh_descend.specs.declared.Hop.{Hop}
 use Rattle.sh_descend.specs.declared.Hop.TheVariants.{Here, Right, Down, Restart}
-use Rattle.sh_descend.specs.Descent.{hop_of, level_of, high_of}
-use Rattle.sh_scene.specs.Scene.{Linked, Seat, Scene, writing}
+use Rattle.sh_descend.specs.Descent.{hop_of, level_of}
+use Rattle.sh_scene.specs.Scene.{Seat, Scene}
 use Rattle.sh_known.specs.Points.{HadAt}
 use Rattle.sh_known.specs.Hand.{IsNamed, IsImageOf}
 use Rattle.sh_known.proofs.HandLemmas.{right_named, down_named, down_inner, here_is}
@@ -46,22 +37,20 @@ use Rattle.sh_client.specs.declared.state.Post.{Post}
 use Rattle.sh_client.specs.declared.state.Tally.{Tally}
 use Rattle.sh_client.specs.declared.state.Aim.{Aim}
 use Rattle.sh_client.specs.declared.state.Aim.TheVariants.{Own, Posts}
-use Rattle.sh_client.specs.declared.state.Way.{Way}
 use Rattle.sh_client.specs.declared.state.Way.TheVariants as way
-use Rattle.sh_client.specs.declared.state.Phase.{Phase}
-use Rattle.sh_client.specs.declared.state.Phase.TheVariants.{Root, Read, Draw, Top, Raise, Ended}
+use Rattle.sh_client.specs.declared.state.Phase.TheVariants.{Root, Read, Draw, Top, Ended}
 use Rattle.sh_client.specs.Machine.{Machine, up, to, answering, sparing}
 use Rattle.sh_client.specs.Aims.{call_key, is_node, key_of, takes_lock, target}
 use Rattle.sh_client.specs.Leaves.{answer_of, reply_with}
-use Rattle.sh_client.specs.Ways.{is_below, way_of, way_by, way_here, found_in}
+use Rattle.sh_client.specs.Ways.{is_below, way_of, way_by, way_here}
 use Rattle.sh_client.specs.Feeds.{read_by, arrived, went}
 use Rattle.sh_client.specs.Splitting.{grown, growing, raised}
 use Rattle.sh_core.specs.Actors.{Actor, becomes, ending, point_of}
-use Rattle.sh_core.specs.Fits.{Fits, Owes, IsOnWay, IsThere, HasRead, Reaches, IsPosting, IsBelow, duty_of}
-use Rattle.sh_core.specs.Keeps.{holding, pending, pending_aim, Hands, Keeps}
+use Rattle.sh_core.specs.Fits.{Owes, IsOnWay, IsThere, HasRead, Reaches, IsBelow, duty_of}
+use Rattle.sh_core.specs.Keeps.{pending_aim, Keeps}
 use Rattle.sh_core.specs.Core.{Inv, Moves}
 use Rattle.sh_core.proofs.Logs.{least_is}
-use Rattle.sh_core.proofs.Frame.{next, me, at, with, goes_on, IsEnding, ends_now, work_with, work_ended, same_here, same_grows, IsCalm, Before, moves_by, stays, one_log}
+use Rattle.sh_core.proofs.Frame.{next, me, at, with, goes_on, IsEnding, ends_now, work_with, work_ended, same_here, same_grows, Before, moves_by, stays, one_log}
 use Rattle.sh_core.proofs.Spares.{takes_lowest, none_spare}
 use Rattle.sh_core.proofs.Raising.{work_raised, begins_walk}
 use Rattle.sh_scene.proofs.Joins.{nothing_done}

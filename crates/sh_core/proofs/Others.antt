@@ -1,6 +1,6 @@
 -- What the actors that don't act keep, and the new invariant from its parts.
-use Rattle.std.proofs.Common.{◌≡◌, ◌≢◌, ◌⊎◌, ℕ, zero, suc, ◌+◌, ◌-◌, ◌<◌, ◌≤◌, Bool, true, false, List, [], ◌∷◌, ◌++◌, length, get_or, set, drop, Option, Some, None, refl, sym, ap, ◌∙◌, subst, ⊎_elim, inl, inr, arith, append-nil, append_assoc, length-append}
-use Rattle.std.specs.Prelude.{slice_get, ◌↔◌, ◌*◌}
+use Rattle.std.proofs.Common.{◌≡◌, ◌≢◌, ℕ, zero, suc, ◌+◌, ◌<◌, ◌≤◌, Bool, List, [], ◌∷◌, ◌++◌, length, get_or, set, Option, Some, None, refl, sym, ap, ◌∙◌, subst, inl, inr, arith, append-nil, length-append}
+use Rattle.std.specs.Prelude.{slice_get, ◌*◌}
 use mathlib.Core.Logic.{dite}
 use native.Mathlib.Decide.{ℕ_discrete}
 use Rattle.std.proofs.lemmas.List.{take-append-le}
@@ -12,13 +12,11 @@ use Rattle.sh_map.specs.declared.call.Call.TheVariants as call
 use Rattle.sh_map.specs.declared.call.Reply.{Reply}
 use Rattle.sh_map.specs.declared.call.Reply.TheVariants as reply
 use Rattle.sh_map.specs.declared.log.Entry.{Entry as LogEntry}
-use Rattle.sh_map.specs.declared.book.Done.{Done}
 use Rattle.sh_map.specs.Map.{get}
 use Rattle.sh_map.specs.Log.{changed, key_of as change_key, map_of, map_at}
 use Rattle.sh_map.specs.Made.{entries_by}
 use Rattle.sh_map.proofs.BookLemmas.{slice_get-append_left}
 use Rattle.sh_alloc.specs.declared.state.NodeRange.{NodeRange}
-use Rattle.sh_tree.specs.Lists.{is_in}
 use Rattle.sh_image.specs.declared.inner.Pair.{Pair}
 use Rattle.sh_image.specs.Leaf.{IsEntry, leaf_in, leaf_words}
 use Rattle.sh_image.specs.Inner.{inner_in, inner_words}
@@ -27,12 +25,12 @@ use Rattle.sh_edit.specs.Splitting.{left_half, right_half, separator_of, IsSplit
 use Rattle.sh_edit.specs.Pairing.{left_inner, right_inner, middle_of, with_pair}
 use Rattle.sh_read.specs.Reads.{Reads}
 use Rattle.sh_scene.specs.Nodes.{low_in, high_in, entries_of, IsStandingLeaf}
-use Rattle.sh_scene.specs.Scene.{Fresh, Linked, Post as NodePost, Pending, Skipped, Owner, Seat, Right, Hold, Held, Writes, Owns, Scene, writing}
+use Rattle.sh_scene.specs.Scene.{Linked, Pending, Skipped, Owner, Seat, Right, Hold, Held, Owns, Scene}
 use Rattle.sh_scene.specs.Ground.{Ground}
 use Rattle.sh_scene.specs.Change.{ChangeFor, Change}
 use Rattle.sh_own.specs.Counters.{Bounded}
 use Rattle.sh_ends.specs.Images.{IsEntryOf, IsPairOf}
-use Rattle.sh_known.specs.Knows.{IsFed, fed_from, fed_words}
+use Rattle.sh_known.specs.Knows.{fed_from, fed_words}
 use Rattle.sh_known.specs.Hand.{IsNamed}
 use Rattle.sh_known.proofs.Known.{known_on}
 use Rattle.sh_client.specs.declared.state.Post.{Post}
@@ -47,8 +45,8 @@ use Rattle.sh_client.specs.declared.state.Phase.TheVariants.{Idle, Root, Read, D
 use Rattle.sh_client.specs.Machine.{Machine}
 use Rattle.sh_client.specs.Aims.{key_of, post_of, target}
 use Rattle.sh_core.specs.Actors.{Actor, AreAnswered, made_by}
-use Rattle.sh_core.specs.Fits.{HasEntry, IsPosting, Owes, duty_of, HasRead, IsOnWay, AreLast, IsReading, IsToSplit, AreSpares, IsFilled, PlansEntry, PlansLeaf, PlansLeftLeaf, PlansPair, PlansInner, PlansLeftInner, PlansHalf, PlansSplit, HadNone, IsDecided, Follows, Plans, write_of, storing_hold, IsStoring, IsHolding, IsLeaving, IsBelow, IsThere, Fits}
-use Rattle.sh_core.specs.Keeps.{holding, Hands, Waits, pending, Skips, Keeps}
+use Rattle.sh_core.specs.Fits.{HasEntry, IsPosting, Owes, HasRead, IsOnWay, AreLast, IsFilled, PlansEntry, PlansLeaf, PlansLeftLeaf, PlansPair, PlansInner, PlansLeftInner, PlansHalf, HadNone, IsDecided, Follows, Plans, storing_hold, IsHolding, IsLeaving, IsBelow, IsThere, Fits}
+use Rattle.sh_core.specs.Keeps.{holding, Hands, Waits, Skips, Keeps}
 use Rattle.sh_core.specs.Core.{WantsAdd, SomeAdds, Inv, Moves}
 use Rattle.sh_core.proofs.Logs.{made_by-append, made_by_none, answered_longer}
 

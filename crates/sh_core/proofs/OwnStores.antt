@@ -1,5 +1,5 @@
 -- Stores into a node of the seat's own: the right half of a split, and a new root.
-use Rattle.std.proofs.Common.{◌≡◌, ◌≢◌, ◌⊎◌, ℕ, zero, suc, ◌+◌, ◌-◌, ◌<◌, ◌≤◌, Bool, true, false, List, [], ◌∷◌, ◌++◌, length, get_or, set, Option, Some, None, refl, sym, ap, ◌∙◌, subst, inl, inr, arith, append-nil, eqb-true, get_or-set_same, get_or-set_other}
+use Rattle.std.proofs.Common.{◌≡◌, ◌≢◌, ℕ, ◌+◌, ◌<◌, Bool, true, false, List, [], ◌++◌, length, get_or, set, Option, Some, None, refl, sym, ap, ◌∙◌, subst, arith, eqb-true, get_or-set_same, get_or-set_other}
 use Rattle.std.specs.Prelude.{◌==◌, if◌then◌else◌}
 use Rattle.std.proofs.lemmas.Bool.Decides.{nat_tests}
 use mathlib.Core.Logic.{dite}
@@ -7,13 +7,10 @@ use native.Mathlib.Decide.{ℕ_discrete}
 use Rattle.sh_base.specs.declared.config.ConfigParts.{ConfigParts}
 use Rattle.sh_base.specs.declared.event.Event.TheVariants.{Store}
 use Rattle.sh_base.specs.Setting.{node_size, IsSetting}
-use Rattle.sh_base.specs.Layout.{lock_of, node_word}
-use Rattle.sh_map.specs.declared.call.Call.{Call}
-use Rattle.sh_map.specs.declared.call.Reply.{Reply}
-use Rattle.sh_map.specs.declared.log.Entry.{Entry as LogEntry}
+use Rattle.sh_base.specs.Layout.{node_word}
 use Rattle.sh_map.specs.Made.{entries_by}
 use Rattle.sh_alloc.specs.declared.state.NodeRange.{NodeRange}
-use Rattle.sh_scene.specs.Scene.{Fresh, Linked, Seat, Held, Scene, put}
+use Rattle.sh_scene.specs.Scene.{Linked, Scene}
 use Rattle.sh_scene.specs.Acts.{filled}
 use Rattle.sh_scene.proofs.Puts.{put_here, put_else}
 use Rattle.sh_scene.proofs.Scenes.{fresh_linked}
@@ -26,11 +23,11 @@ use Rattle.sh_client.specs.declared.state.Phase.{Phase}
 use Rattle.sh_client.specs.declared.state.Phase.TheVariants.{Fill, Waiting, Raise, Swap}
 use Rattle.sh_client.specs.Machine.{Machine}
 use Rattle.sh_core.specs.Actors.{Actor, becomes}
-use Rattle.sh_core.specs.Fits.{Fits, IsFilled, IsBelow, Plans, PlansHalf}
-use Rattle.sh_core.specs.Keeps.{holding, pending, pending_write, pending_then, Hands, Keeps}
+use Rattle.sh_core.specs.Fits.{Fits, IsFilled, Plans, PlansHalf}
+use Rattle.sh_core.specs.Keeps.{holding, pending, Hands, Keeps}
 use Rattle.sh_core.specs.Core.{Inv, Moves}
-use Rattle.sh_core.proofs.Others.{StaysUnder, half_on, below_on}
-use Rattle.sh_core.proofs.Frame.{next, me, at, with, SameNodes, same_grows, IsCalm, Before}
+use Rattle.sh_core.proofs.Others.{half_on, below_on}
+use Rattle.sh_core.proofs.Frame.{next, me, at, SameNodes, same_grows, IsCalm, Before}
 use Rattle.sh_core.proofs.Locks.{Claim, advance}
 
 -- one word more of an own node

@@ -1,18 +1,16 @@
 -- A new root is made ready, and a walk over the counters begins.
-use Rattle.std.proofs.Common.{◌≡◌, ◌≢◌, ℕ, zero, suc, ◌+◌, ◌<◌, ◌≤◌, List, Option, Some, None, refl, sym, ap, ◌∙◌, subst, arith}
-use Rattle.std.specs.Prelude.{◌%◌}
+use Rattle.std.proofs.Common.{◌≡◌, ℕ, ◌+◌, List, Some, None, refl, arith}
 use Rattle.std.proofs.Math.Nat.{mod-lt}
 use Rattle.sh_base.specs.declared.config.ConfigParts.{ConfigParts}
-use Rattle.sh_base.specs.Setting.{node_size, IsSetting}
+use Rattle.sh_base.specs.Setting.{IsSetting}
 use Rattle.sh_base.proofs.LayoutLemmas.{node_size_is}
 use Rattle.sh_image.specs.Inner.{inner_words}
 use Rattle.sh_edit.specs.Pairing.{root_over}
 use Rattle.sh_alloc.specs.declared.state.NodeRange.{NodeRange}
 use Rattle.sh_alloc.specs.declared.state.Walk.{Walk}
-use Rattle.sh_alloc.specs.declared.state.Phase.TheVariants.{Loading, Found}
 use Rattle.sh_alloc.specs.Walks.{start_of}
 use Rattle.sh_read.specs.Reads.{Reads}
-use Rattle.sh_scene.specs.Scene.{Fresh, Scene}
+use Rattle.sh_scene.specs.Scene.{Scene}
 use Rattle.sh_client.specs.declared.state.Post.{Post}
 use Rattle.sh_client.specs.declared.state.Phase.{Phase}
 use Rattle.sh_client.specs.declared.state.Phase.TheVariants.{Raise}

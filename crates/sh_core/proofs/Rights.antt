@@ -1,19 +1,18 @@
 -- A lock is handed over and taken up, without an event.
-use Rattle.std.proofs.Common.{◌≡◌, ◌≢◌, ◌⊎◌, ℕ, zero, suc, ◌+◌, ◌-◌, ◌<◌, ◌≤◌, Bool, true, false, List, [], ◌∷◌, ◌++◌, length, Option, Some, None, refl, sym, ap, ◌∙◌, subst, ⊎_elim, inl, inr, arith, length-append, drop_of_length-le}
+use Rattle.std.proofs.Common.{◌≡◌, ◌≢◌, ◌⊎◌, ℕ, ◌-◌, ◌≤◌, List, [], ◌++◌, length, Some, None, refl, sym, ap, ◌∙◌, subst, inl, inr, arith, length-append, drop_of_length-le}
 use Rattle.sh_base.specs.declared.config.ConfigParts.{ConfigParts}
 use Rattle.sh_base.specs.Setting.{all_seats, node_size, IsSetting}
 use Rattle.sh_base.specs.Layout.{lock_of, compute_of}
 use Rattle.sh_base.proofs.LayoutLemmas.{node_size_is}
 use Rattle.sh_map.specs.declared.log.Entry.{Entry as LogEntry}
-use Rattle.sh_read.specs.Reads.{Reads, start_of}
-use Rattle.sh_scene.specs.Scene.{Owner, Seat, Right, Hold, Held, Owns, Scene}
+use Rattle.sh_read.specs.Reads.{start_of}
+use Rattle.sh_scene.specs.Scene.{Owner, Seat, Right, Hold, Held, Scene}
 use Rattle.sh_scene.specs.Nodes.{Orderly}
 use Rattle.sh_scene.specs.Acts.{with_hold}
 use Rattle.sh_scene.specs.Ground.{Ground}
 use Rattle.sh_scene.specs.Change.{ChangeFor}
 use Rattle.sh_scene.proofs.Puts.{put_here, put_else, put_case}
 use Rattle.sh_scene.proofs.Holds.{hand_act}
-use Rattle.sh_own.specs.Counters.{Bounded}
 use Rattle.sh_client.specs.declared.state.Aim.{Aim}
 use Rattle.sh_client.specs.declared.state.Then.{Then}
 use Rattle.sh_client.specs.declared.state.Then.TheVariants.{Ends, Starts, Takes}
@@ -27,8 +26,8 @@ use Rattle.sh_core.specs.Actors.{Actor, becomes, ending, stepped, turned}
 use Rattle.sh_core.specs.Fits.{Fits}
 use Rattle.sh_core.specs.Keeps.{holding, Hands, pending, Keeps}
 use Rattle.sh_core.specs.Core.{Inv, Moves, SomeAdds}
-use Rattle.sh_core.proofs.Others.{named_on, follows_on, seat_apart, adds_before, bounded_less, step_to}
-use Rattle.sh_core.proofs.Frame.{next, me, at, with, goes_on, ends_now, decided_ends, work_with, work_ended, SameNodes, same_grows, IsCalm, no_add, Before}
+use Rattle.sh_core.proofs.Others.{named_on, seat_apart, adds_before, bounded_less, step_to}
+use Rattle.sh_core.proofs.Frame.{next, me, at, with, goes_on, ends_now, decided_ends, work_with, work_ended, same_grows, IsCalm, no_add, Before}
 use Rattle.sh_core.proofs.Locks.{same_hold, hands_take, hands_drop}
 
 held_is : (u v : Owner) (d e : ℕ) → Held u d ≡ Held v e → (u ≡ v) × (d ≡ e)
@@ -108,14 +107,14 @@ module _ (p : ConfigParts) (ok : IsSetting p) (words : List ℕ) (Has Now : ℕ 
         let ch = hand_act p words s b.ground l f.depth depth (Seat i) (Right c) f.held refl f.carries.1 in
         hands_to l x x' ch kept calm mv
         (λ y e d. put_case (λ z. z ≡ Held (Right e) d → After y e d) s.hold l x y
-          (λ w o. let u = held_is (Right c) (Right e) depth d o in subst (λ (z : ℕ × ℕ × ℕ). After z.0 z.1 z.2) (λ j. (sym w j, right_is c e u.0 j, u.1 j)) here)
-          (λ w o. on y e d (b.given y e d o)))
+        (λ w o. let u = held_is (Right c) (Right e) depth d o in subst (λ (z : ℕ × ℕ × ℕ). After z.0 z.1 z.2) (λ j. (sym w j, right_is c e u.0 j, u.1 j)) here)
+        (λ w o. on y e d (b.given y e d o)))
         (λ y e d o. put_case (λ z. z ≡ Held (Right e) d) s.hold l x y
-          (λ w. elim (back y e d o) [
-            | inl z ↦ (λ j. Held (Right (sym z.1 j)) (sym z.2 j))
-            | inr z ↦ absurd (seat_right i e (held_is (Seat i) (Right e) f.depth d (sym f.held ∙ ap s.hold (sym w) ∙ b.out y e d z)).0)
-          ])
-          (λ w. elim (back y e d o) [ inl z ↦ absurd (w z.0) | inr z ↦ b.out y e d z ]))
+        (λ w. elim (back y e d o) [
+          | inl z ↦ (λ j. Held (Right (sym z.1 j)) (sym z.2 j))
+          | inr z ↦ absurd (seat_right i e (held_is (Seat i) (Right e) f.depth d (sym f.held ∙ ap s.hold (sym w) ∙ b.out y e d z)).0)
+        ])
+        (λ w. elim (back y e d o) [ inl z ↦ absurd (w z.0) | inr z ↦ b.out y e d z ]))
 
     abbrev given_over : Tally
     given_over = record { again = m.tally.again; rights = m.tally.rights; splits = m.tally.splits; handed = up m.tally.handed; from_cache = m.tally.from_cache; skipped_spent = m.tally.skipped_spent; skipped_worn = m.tally.skipped_worn; rewritten = m.tally.rewritten }

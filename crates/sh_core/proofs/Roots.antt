@@ -1,5 +1,5 @@
 -- The exchange of the root word, for a new root.
-use Rattle.std.proofs.Common.{◌≡◌, ◌≢◌, ◌⊎◌, ℕ, zero, suc, ◌+◌, ◌-◌, ◌<◌, ◌≤◌, Bool, true, false, List, [], ◌∷◌, ◌++◌, length, get_or, set, Option, Some, None, refl, sym, ap, ◌∙◌, subst, inl, inr, arith, append-nil, eqb-true}
+use Rattle.std.proofs.Common.{◌≡◌, ◌≢◌, ℕ, suc, ◌+◌, ◌≤◌, Bool, true, false, List, [], ◌∷◌, ◌++◌, length, get_or, set, Some, None, refl, sym, ap, ◌∙◌, subst, arith, append-nil, eqb-true}
 use Rattle.std.specs.Prelude.{◌==◌, ◌*◌, if◌then◌else◌}
 use mathlib.Core.Logic.{dite}
 use native.Mathlib.Decide.{ℕ_discrete}
@@ -17,22 +17,19 @@ use Rattle.sh_map.specs.declared.log.Entry.{Entry as LogEntry}
 use Rattle.sh_image.specs.Inner.{inner_words}
 use Rattle.sh_image.proofs.InnerLemmas.{length-inner_words}
 use Rattle.sh_edit.specs.Pairing.{root_over}
-use Rattle.sh_alloc.specs.declared.state.NodeRange.{NodeRange}
 use Rattle.sh_alloc.specs.Spares.{with_lowest}
-use Rattle.sh_scene.specs.Scene.{Fresh, Linked, Posted, Pending, Skipped, Seat, Scene, put}
-use Rattle.sh_scene.specs.Scene as scene
+use Rattle.sh_scene.specs.Scene.{Linked, Posted, Pending, Skipped, Scene, put}
 use Rattle.sh_scene.specs.Acts.{grown}
 use Rattle.sh_scene.proofs.Puts.{put_else, put_case}
 use Rattle.sh_scene.proofs.Scenes.{linked_is}
 use Rattle.sh_scene.proofs.Roots.{root_act}
-use Rattle.sh_scene.proofs.Joins.{nothing_done}
 use Rattle.sh_client.specs.declared.state.Post.{Post}
 use Rattle.sh_client.specs.declared.state.Aim.TheVariants.{Posts}
 use Rattle.sh_client.specs.declared.state.Phase.TheVariants.{Root, Swap, Ended}
-use Rattle.sh_client.specs.Machine.{Machine, to, sparing}
+use Rattle.sh_client.specs.Machine.{Machine, sparing}
 use Rattle.sh_core.specs.Actors.{Actor, becomes, ending}
-use Rattle.sh_core.specs.Fits.{HasEntry, IsDecided, Owes, IsPosting}
-use Rattle.sh_core.specs.Keeps.{Waits, Skips, Keeps}
+use Rattle.sh_core.specs.Fits.{HasEntry, IsDecided, Owes}
+use Rattle.sh_core.specs.Keeps.{Waits, Skips}
 use Rattle.sh_core.specs.Core.{Inv, Moves}
 use Rattle.sh_core.proofs.Others.{owes_on}
 use Rattle.sh_core.proofs.Frame.{next, me, at, goes_on, ends_now, decided_ends, same_here, same_grows, Before, moves_to, stays, one_log}

@@ -1,9 +1,9 @@
 -- A spare node is taken.
-use Rattle.std.proofs.Common.{◌≡◌, ◌≢◌, ℕ, zero, suc, ◌+◌, ◌-◌, ◌<◌, ◌≤◌, Bool, true, false, Option, Some, None, refl, sym, ap, ◌∙◌, subst, arith}
+use Rattle.std.proofs.Common.{◌≡◌, ◌≢◌, ℕ, ◌+◌, ◌-◌, Bool, true, false, Some, None, refl, sym, ap, ◌∙◌, arith}
 use Rattle.std.specs.Prelude.{◌==◌, if◌then◌else◌}
 use Rattle.std.proofs.lemmas.Bool.Decides.{nat_tests}
 use Rattle.sh_alloc.specs.declared.state.NodeRange.{NodeRange}
-use Rattle.sh_alloc.specs.Spares.{IsSpare, lowest, nodes_from, without_lowest}
+use Rattle.sh_alloc.specs.Spares.{lowest, nodes_from, without_lowest}
 use Rattle.sh_scene.specs.Scene.{Fresh, Scene}
 use Rattle.sh_core.specs.Fits.{AreSpares}
 

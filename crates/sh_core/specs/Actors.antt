@@ -1,8 +1,8 @@
 -- A client with what its seat has seen and what its calls were answered, and how a turn changes them.
-use Rattle.std.specs.Prelude.{◌≡◌, ◌≢◌, ◌⊎◌, ℕ, zero, suc, ◌+◌, ◌-◌, ◌≤◌, ◌==◌, if◌then◌else◌, Bool, true, false, List, [], ◌∷◌, ◌++◌, length, filter, Option, Some, None}
+use Rattle.std.specs.Prelude.{◌≡◌, ℕ, zero, suc, ◌+◌, ◌-◌, ◌≤◌, ◌==◌, if◌then◌else◌, Bool, true, false, List, [], ◌∷◌, ◌++◌, length, filter, Option, Some, None}
 use Rattle.std.specs.Str.{bytes_eq}
 use Rattle.sh_map.specs.declared.call.Call.{Call}
-use Rattle.sh_map.specs.declared.call.Call.TheVariants.{Get, Put, Del, Range}
+use Rattle.sh_map.specs.declared.call.Call.TheVariants.{Get, Put, Del}
 use Rattle.sh_map.specs.declared.call.Reply.{Reply}
 use Rattle.sh_map.specs.declared.call.Reply.TheVariants as reply
 use Rattle.sh_map.specs.declared.log.Entry.{Entry}

@@ -1,9 +1,9 @@
 -- The invariant of clients over one pool, and the laws that keep it, whatever the order of their turns.
-use Rattle.std.specs.Prelude.{◌≡◌, ◌≢◌, ◌⊎◌, ℕ, ◌+◌, ◌<◌, ◌≤◌, Bool, true, false, List, [], ◌∷◌, ◌++◌, length, Option, Some, None}
+use Rattle.std.specs.Prelude.{◌≡◌, ◌≢◌, ◌⊎◌, ℕ, ◌<◌, ◌≤◌, true, List, ◌++◌, length, Some, None}
 use Rattle.sh_base.specs.declared.config.ConfigParts.{ConfigParts}
 use Rattle.sh_base.specs.declared.event.Event.{Event}
 use Rattle.sh_base.specs.declared.event.Event.TheVariants as event
-use Rattle.sh_base.specs.Setting.{all_seats, IsSetting}
+use Rattle.sh_base.specs.Setting.{all_seats}
 use Rattle.sh_base.specs.Layout.{counter_word, compute_of, lock_of}
 use Rattle.sh_base.specs.Memory.{apply, found_by}
 use Rattle.sh_map.specs.declared.call.Call.{Call}
@@ -16,7 +16,7 @@ use Rattle.sh_client.specs.declared.state.Aim.{Aim}
 use Rattle.sh_client.specs.declared.state.Then.{Then}
 use Rattle.sh_client.specs.declared.state.Want.{Want}
 use Rattle.sh_client.specs.declared.state.Want.TheVariants as want
-use Rattle.sh_client.specs.declared.state.Phase.TheVariants.{Idle, Look, Leave, Ended}
+use Rattle.sh_client.specs.declared.state.Phase.TheVariants.{Look, Leave, Ended}
 use Rattle.sh_client.specs.Machine.{Machine}
 use Rattle.sh_client.specs.Giving.{makes}
 use Rattle.sh_client.specs.Rests.{is_resting}

@@ -1,5 +1,5 @@
 -- What a client knows of the scene, by what it is at.
-use Rattle.std.specs.Prelude.{◌≡◌, ◌≢◌, ◌⊎◌, ℕ, zero, suc, ◌+◌, ◌-◌, ◌*◌, ◌^◌, ◌<◌, ◌≤◌, Bool, true, false, List, [], ◌∷◌, length, drop, slice_index, slice_set, slice_get, Option, Some, None}
+use Rattle.std.specs.Prelude.{◌≡◌, ◌≢◌, ℕ, zero, suc, ◌+◌, ◌-◌, ◌*◌, ◌^◌, ◌<◌, ◌≤◌, Bool, true, false, List, [], ◌∷◌, length, drop, slice_index, slice_set, slice_get, Option, Some, None}
 use Rattle.sh_base.specs.declared.config.ConfigParts.{ConfigParts}
 use Rattle.sh_base.specs.Setting.{node_size, last_version, IsNode}
 use Rattle.sh_base.specs.Layout.{lock_of, entry_at}
@@ -17,7 +17,7 @@ use Rattle.sh_image.specs.declared.inner.Pair.{Pair}
 use Rattle.sh_image.specs.declared.inner.Image.{Image}
 use Rattle.sh_image.specs.Entries.{entry_words}
 use Rattle.sh_image.specs.Leaf.{Leaf, IsEntry, IsLeaf, leaf_in, leaf_words}
-use Rattle.sh_image.specs.Inner.{Inner, inner_in, inner_words}
+use Rattle.sh_image.specs.Inner.{inner_in, inner_words}
 use Rattle.sh_edit.specs.Held.{map_of_entries, HasKeysOnce}
 use Rattle.sh_edit.specs.Splitting.{left_half, right_half, separator_of, IsSplit}
 use Rattle.sh_edit.specs.Pairing.{left_inner, right_inner, middle_of, root_over, with_pair}

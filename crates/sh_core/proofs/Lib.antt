@@ -15,3 +15,4 @@ pub mod Bodies
 pub mod BodyEnds
 pub mod InnerBodies
 pub mod UnderLock
+pub mod Turns

@@ -16,3 +16,4 @@ pub mod BodyEnds
 pub mod InnerBodies
 pub mod UnderLock
 pub mod Turns
+pub mod LocalLaws

@@ -1,0 +1,108 @@
+-- The laws of the turns that a compute server answers, and of rights.
+use Rattle.std.proofs.Common.{◌≡◌, ◌≢◌, ◌⊎◌, ℕ, ◌≤◌, Bool, true, false, List, [], ◌∷◌, ◌++◌, length, Option, Some, None, refl, sym, ap, ◌∙◌, subst}
+use Rattle.std.specs.Prelude.{if◌then◌else◌, nat_lt, ◌+◌, ◌-◌}
+use Rattle.sh_base.specs.declared.config.ConfigParts.{ConfigParts}
+use Rattle.sh_base.specs.Setting.{IsSetting}
+use Rattle.sh_base.specs.Layout.{lock_of, compute_of}
+use Rattle.sh_map.specs.declared.log.Entry.{Entry as LogEntry}
+use Rattle.sh_alloc.specs.declared.state.ChunkWant.{ChunkWant}
+use Rattle.sh_alloc.specs.declared.state.ChunkWant.TheVariants as chunk
+use Rattle.sh_alloc.specs.Walks.{want_of as walk_wants}
+use Rattle.sh_read.specs.Reads.{wanted}
+use Rattle.sh_scene.specs.Scene.{Scene}
+use Rattle.sh_client.specs.declared.state.Aim.{Aim}
+use Rattle.sh_client.specs.declared.state.Then.{Then}
+use Rattle.sh_client.specs.declared.state.Phase.{Phase}
+use Rattle.sh_client.specs.declared.state.Phase.TheVariants.{Idle, Root, Read, Draw, Look, Grab, Hold, Seek, Fill, Waiting, Body, Unlock, Leave, Top, Raise, Swap, Ended}
+use Rattle.sh_client.specs.Machine.{Machine}
+use Rattle.sh_client.specs.Wants.{count_of, load_of, want_in, want_of}
+use Rattle.sh_core.specs.Actors.{Actor, stepped, turned}
+use Rattle.sh_core.specs.Keeps.{IsSeated}
+use Rattle.sh_core.specs.Core.{Inv, Moves, IsLocal, HasSeen, LocalKeeps, LookKeeps, TakeKeeps, PartKeeps}
+use Rattle.sh_core.proofs.Frame.{me, at, Before}
+use Rattle.sh_core.proofs.Calls.{before}
+use Rattle.sh_core.proofs.Locals.{draw, look, turn, waiting, leave}
+use Rattle.sh_core.proofs.Rights.{takes_up, parts_with}
+
+not_local_load : (o : Option ℕ) → IsLocal (load_of o) → ⊥
+not_local_load None h = h
+not_local_load (Some x) h = h
+
+not_local_count : (w : ChunkWant) → IsLocal (count_of w) → ⊥
+not_local_count (chunk.Event e) h = h
+not_local_count (chunk.Got server c) h = h
+not_local_count chunk.AllSpent h = h
+
+-- an actor is the one of its setting, its seat and its phase
+me_is : (p : ConfigParts) (i : ℕ) (a : Actor) (ph : Phase) → IsSeated p i a.client.setting a.client.seat a.client.call → a.client.phase ≡ ph → a ≡ me p i a a.client ph
+me_is p i a ph w e = let c = a.client in λ z. record { client = record { setting = w.setting_is z; seat = w.seat_is z; spare = c.spare; tally = c.tally; call = c.call; reply = c.reply; reads = c.reads; walk = c.walk; body = c.body; right = c.right; phase = e z }; number = a.number; seen = a.seen; first = a.first; point = a.point; dones = a.dones }
+
+module _ (p : ConfigParts) (ok : IsSetting p) (words : List ℕ) (log seen : List LogEntry) (Has Now : ℕ → Actor → Type 0) (Out : ℕ → ℕ → ℕ → Type 0) (i : ℕ) (a : Actor) (inv : Inv p words log Has Out) (h : Has i a) (saw : HasSeen log seen a) where
+  whole : inv.scene.log ≡ seen ++ saw.rest
+  whole = inv.log_is ∙ saw.whole
+
+  B : Before p words Has Out inv.scene
+  B = before p words log Has Out inv
+
+  here : (ph : Phase) → a.client.phase ≡ ph → a ≡ me p i a a.client ph
+  here ph e = me_is p i a ph (inv.kept i a h).work.seated e
+
+  logs : (Out : ℕ → ℕ → ℕ → Type 0) → Inv p words inv.scene.log Now Out → Inv p words log Now Out
+  logs Out x = subst (λ (es : List LogEntry). Inv p words es Now Out) inv.log_is x
+
+  abbrev L : Phase → ℕ → Type 0
+  L ph word = Has i (me p i a a.client ph) → Moves Has i (stepped i (me p i a a.client ph) seen word) Now → Inv p words inv.scene.log Now Out
+
+  locals : (ph : Phase) (word : ℕ) → IsLocal (want_in (at p i a.client ph) ph) → L ph word
+  locals (Draw aim n) word l = draw p ok words Has Now Out i inv.scene B a a.client seen saw.rest whole saw.more aim n word
+  locals (Look aim n) word l = look p ok words Has Now Out i inv.scene B a a.client seen saw.rest whole saw.more aim n word
+  locals (Waiting n d write after) word l = waiting p ok words Has Now Out i inv.scene B a a.client seen saw.rest whole saw.more n d word write after
+  locals (Leave n None after) word l = leave p ok words Has Now Out i inv.scene B a a.client seen saw.rest whole saw.more n word after
+  locals (Leave n (Some d) after) word l = absurd l
+  locals Idle word l = absurd l
+  locals (Root aim) word l = absurd l
+  locals (Read aim top) word l = absurd (not_local_load (wanted p a.client.reads) l)
+  locals (Grab aim n) word l = absurd l
+  locals (Hold aim d) word l = absurd (not_local_load (wanted p a.client.reads) l)
+  locals (Seek aim d) word l = absurd (not_local_count (walk_wants p a.client.walk) l)
+  locals (Fill n d r done write after) word l = absurd l
+  locals (Body n carry done write after) word l = absurd l
+  locals (Unlock n after) word l = absurd l
+  locals (Top post node) word l = absurd (not_local_count (walk_wants p a.client.walk) l)
+  locals (Raise post node r done) word l = absurd l
+  locals (Swap post node r) word l = absurd l
+  locals Ended word l = absurd l
+
+  pub local_turn : (word : ℕ) → IsLocal (want_of a.client) → Moves Has i (stepped i a seen word) Now → Inv p words log Now Out
+  local_turn word l mv =
+      let e = here a.client.phase refl in
+      logs Out (locals a.client.phase word (subst (λ (x : Actor). IsLocal (want_of x.client)) e l) (subst (Has i) e h) (subst (λ (x : Actor). Moves Has i (stepped i x seen word) Now) e mv))
+
+  pub look_turn : (aim : Aim) (n : ℕ) → a.client.phase ≡ Look aim n → Moves Has i (turned i a seen None) Now → Inv p words log Now Out
+  look_turn aim n e mv =
+      let q = here (Look aim n) e in
+      logs Out (turn p ok words Has Now Out i inv.scene B a a.client seen saw.rest whole saw.more aim n (subst (Has i) q h) (subst (λ (x : Actor). Moves Has i (turned i x seen None) Now) q mv))
+
+  pub take_turn : (After : ℕ → ℕ → ℕ → Type 0) (aim : Aim) (n depth : ℕ) → a.client.phase ≡ Look aim n → Out (lock_of p n) (compute_of p i) depth
+      → ((l c d : ℕ) → After l c d → (l ≢ lock_of p n) × Out l c d) → ((l c d : ℕ) → l ≢ lock_of p n → Out l c d → After l c d) → Moves Has i (turned i a seen (Some depth)) Now → Inv p words log Now After
+  take_turn After aim n depth e out back on mv =
+      let q = here (Look aim n) e in
+      logs After (takes_up p ok words Has Now Out After i inv.scene B a a.client seen saw.rest whole saw.more aim n depth (subst (Has i) q h) out back on (subst (λ (x : Actor). Moves Has i (turned i x seen (Some depth)) Now) q mv))
+
+  pub part_turn : (After : ℕ → ℕ → ℕ → Type 0) (word n depth : ℕ) (after : Then) → a.client.phase ≡ Leave n (Some depth) after → After (lock_of p n) (compute_of p i) depth
+      → ((l c d : ℕ) → After l c d → ((l ≡ lock_of p n) × (c ≡ compute_of p i) × (d ≡ depth)) ⊎ Out l c d) → ((l c d : ℕ) → Out l c d → After l c d) → Moves Has i (stepped i a seen word) Now → Inv p words log Now After
+  part_turn After word n depth after e at back on mv =
+      let q = here (Leave n (Some depth) after) e in
+      logs After (parts_with p ok words Has Now Out After i inv.scene B a a.client seen saw.rest whole saw.more n depth at back on word after (subst (Has i) q h) (subst (λ (x : Actor). Moves Has i (stepped i x seen word) Now) q mv))
+
+pub local_keeps : (p : ConfigParts) → IsSetting p → LocalKeeps p
+local_keeps p ok words log seen Has Now Out i word a inv h l saw mv = local_turn p ok words log seen Has Now Out i a inv h saw word l mv
+
+pub look_keeps : (p : ConfigParts) → IsSetting p → LookKeeps p
+look_keeps p ok words log seen Has Now Out i a aim n inv h e saw mv = look_turn p ok words log seen Has Now Out i a inv h saw aim n e mv
+
+pub take_keeps : (p : ConfigParts) → IsSetting p → TakeKeeps p
+take_keeps p ok words log seen Has Now Out After i a aim n depth inv h e saw out back on mv = take_turn p ok words log seen Has Now Out i a inv h saw After aim n depth e out back on mv
+
+pub part_keeps : (p : ConfigParts) → IsSetting p → PartKeeps p
+part_keeps p ok words log seen Has Now Out After i word a n depth after inv h e saw at back on mv = part_turn p ok words log seen Has Now Out i a inv h saw After word n depth after e at back on mv

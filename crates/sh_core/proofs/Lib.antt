@@ -15,5 +15,6 @@ pub mod Bodies
 pub mod BodyEnds
 pub mod InnerBodies
 pub mod UnderLock
+pub mod Standing
 pub mod Turns
 pub mod LocalLaws

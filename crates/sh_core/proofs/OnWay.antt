@@ -69,7 +69,7 @@ get_ends p log i a key (Some v) h = let l = least_is log a.first key (Some v) h.
 get_ends p log i a key None h = let l = least_is log a.first key None h.0 h.1 h.2 h.3 in record { answered = record { seat_is = refl; answers = record { within = l.within; row = l.here }; least = l }; from = l.from; past = omega (arith, l.within) }
 
 -- the key of a descent is a key
-key_past : (p : ConfigParts) (c : Call) → IsInRange p c → IsKey (key_of c Own)
+pub key_past : (p : ConfigParts) (c : Call) → IsInRange p c → IsKey (key_of c Own)
 key_past p (call.Get key) h = h
 key_past p (call.Put key value) h = h.0
 key_past p (call.Del key) h = h

@@ -1,0 +1,4 @@
+pub mod IndexLemmas
+pub mod PairLemmas
+pub mod ImageLemmas
+pub mod ReadLemmas

@@ -1,6 +1,7 @@
 pub mod Machine
 pub mod Aims
 pub mod Leaves
+pub mod Bodies
 pub mod Ways
 pub mod Deciding
 pub mod Wants

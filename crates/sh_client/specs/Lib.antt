@@ -10,3 +10,4 @@ pub mod Splitting
 pub mod Feeds
 pub mod Rests
 pub mod Sound
+pub mod Courses

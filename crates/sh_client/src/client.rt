@@ -1,19 +1,20 @@
 // The client: what it wants, and what it does with what it's fed.
-ghost use Rattle.std.specs.Prelude.{◌≡◌, ◌≤◌, ◌<◌, IfOk, IfSome, Some, None};
+ghost use Rattle.std.specs.Prelude.{◌≡◌, ◌≤◌, ◌<◌, ◌++◌, IfOk, IfSome, length, vec_len};
 ghost use Rattle.sh_base.specs.Parts.{parts_of};
 ghost use Rattle.sh_base.specs.Setting.{all_seats};
 ghost use Rattle.sh_map.specs.Calls.{IsInRange};
 ghost use Rattle.sh_client.specs.declared.state.Phase.TheVariants.{Idle, Ended};
 ghost use Rattle.sh_client.specs.Machine.{fresh_machine};
-ghost use Rattle.sh_client.specs.Wants.{want_of};
 ghost use Rattle.sh_client.specs.Feeds.{begun, fed_by, finished, turned_by};
+ghost use Rattle.std.specs.Vec.{vec_capacity};
+ghost use Rattle.sh_client.specs.Giving.{makes, stored_entries};
 ghost use Rattle.sh_client.specs.Rests.{reply_of};
 ghost use Rattle.sh_client.specs.Sound.{IsPointCall};
 
-use crate::{Aim, Client, Phase, Tally, Want, Words};
+use crate::{Aim, Client, Phase, Tally, Words, Write};
 use sh_alloc::{Chunks, Spare};
 use sh_base::Config;
-use sh_map::{Call, Reply};
+use sh_map::{Call, Log, Reply, log_call};
 use sh_read::Reading;
 use std::alloc::AllocError;
 
@@ -148,5 +149,56 @@ impl Client {
         ensures { result ≡ self.now.tally }
     {
         self.tally
+    }
+
+    /// Logs what the wanted event makes: an update's entry at the last store of its entry, of its rewritten leaf or of
+    /// its left half, and nothing at any other. Condition: there is room for one entry more.
+    pub fn log_made(&self, log: &mut Log)
+        requires { vec_len log.old < vec_capacity log.old }
+        ensures { log.new.items ≡ log.old.items ++ makes self.now }
+    {
+        match self.phase {
+            Phase::Body {
+                node: _,
+                carry: _,
+                done,
+                write,
+                after: _,
+            } => self.log_stored(log, done, write),
+            Phase::Idle
+            | Phase::Root { .. }
+            | Phase::Read { .. }
+            | Phase::Draw { .. }
+            | Phase::Look { .. }
+            | Phase::Grab { .. }
+            | Phase::Hold { .. }
+            | Phase::Seek { .. }
+            | Phase::Fill { .. }
+            | Phase::Waiting { .. }
+            | Phase::Unlock { .. }
+            | Phase::Leave { .. }
+            | Phase::Top { .. }
+            | Phase::Raise { .. }
+            | Phase::Swap { .. }
+            | Phase::Ended => {}
+        }
+    }
+
+    // Logs what a store of the body makes.
+    fn log_stored(&self, log: &mut Log, done: u32, write: Write)
+        requires room { vec_len log.old < vec_capacity log.old }
+        requires done { done < length self.now.body }
+        ensures { log.new.items ≡ log.old.items ++ stored_entries self.now done write }
+    {
+        let count = self.body.count();
+        if done + 1 != count {
+            return;
+        }
+        match write {
+            Write::Entry { .. } | Write::Leaf | Write::LeftLeaf => {
+                log_call(log, self.seat, &self.call, &self.reply);
+            }
+            Write::Nothing | Write::Inner | Write::LeftInner => {}
+        }
     }
 }

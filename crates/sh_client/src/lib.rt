@@ -18,3 +18,6 @@ mod words;
 
 pub use state::{Aim, Client, Decision, Phase, Post, Tally, Then, Want, Way, Write};
 pub use words::Words;
+
+#[cfg(test)]
+mod tests;

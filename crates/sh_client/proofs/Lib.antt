@@ -2,3 +2,4 @@ pub mod IndexLemmas
 pub mod PairLemmas
 pub mod ImageLemmas
 pub mod ReadLemmas
+pub mod GiveLemmas

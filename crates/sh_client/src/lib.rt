@@ -7,6 +7,7 @@ mod client;
 mod deciding;
 mod feeds;
 mod giving;
+mod laws;
 mod leaves;
 mod splits;
 mod state;
@@ -16,6 +17,7 @@ mod wants;
 mod ways;
 mod words;
 
+pub use laws::updates_store_their_words;
 pub use state::{Aim, Client, Decision, Phase, Post, Tally, Then, Want, Way, Write};
 pub use words::Words;
 

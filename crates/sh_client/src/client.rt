@@ -158,13 +158,7 @@ impl Client {
         ensures { log.new.items ≡ log.old.items ++ makes self.now }
     {
         match self.phase {
-            Phase::Body {
-                node: _,
-                carry: _,
-                done,
-                write,
-                after: _,
-            } => self.log_stored(log, done, write),
+            Phase::Body { done, write, .. } => self.log_stored(log, done, write),
             Phase::Idle
             | Phase::Root { .. }
             | Phase::Read { .. }

@@ -25,57 +25,31 @@ impl Client {
             Phase::Idle | Phase::Ended => Want::Done,
             Phase::Root { .. } => Want::Event(Event::Load { at: 1 }),
             Phase::Read { .. } | Phase::Hold { .. } => self.want_load(),
-            Phase::Draw { aim: _, node } => Want::Draw {
+            Phase::Draw { node, .. } => Want::Draw {
                 lock: self.cfg.lock_of(node),
             },
-            Phase::Look { aim: _, node } => Want::Look {
+            Phase::Look { node, .. } => Want::Look {
                 lock: self.cfg.lock_of(node),
             },
-            Phase::Grab { aim: _, node } => self.want_grab(node),
+            Phase::Grab { node, .. } => self.want_grab(node),
             Phase::Seek { .. } | Phase::Top { .. } => self.want_count(),
-            Phase::Fill {
-                node: _,
-                depth: _,
-                fresh,
-                done,
-                write: _,
-                after: _,
-            } => self.want_fresh(fresh, done),
-            Phase::Waiting {
-                node,
-                depth: _,
-                write: _,
-                after: _,
-            } => Want::Waiting {
+            Phase::Fill { fresh, done, .. } => self.want_fresh(fresh, done),
+            Phase::Waiting { node, .. } => Want::Waiting {
                 lock: self.cfg.lock_of(node),
             },
             Phase::Body {
                 node,
-                carry: _,
                 done,
                 write,
-                after: _,
+                ..
             } => self.want_body(node, done, write),
-            Phase::Unlock { node, after: _ } => self.want_unlock(node),
-            Phase::Leave {
-                node,
-                carry,
-                after: _,
-            } => Want::Leave {
+            Phase::Unlock { node, .. } => self.want_unlock(node),
+            Phase::Leave { node, carry, .. } => Want::Leave {
                 lock: self.cfg.lock_of(node),
                 carry,
             },
-            Phase::Raise {
-                post: _,
-                root: _,
-                fresh,
-                done,
-            } => self.want_fresh(fresh, done),
-            Phase::Swap {
-                post: _,
-                root,
-                fresh,
-            } => Want::Event(Event::Exchange {
+            Phase::Raise { fresh, done, .. } => self.want_fresh(fresh, done),
+            Phase::Swap { root, fresh, .. } => Want::Event(Event::Exchange {
                 at: 1,
                 old: u64::from(root),
                 new: u64::from(fresh),

@@ -1,0 +1,5 @@
+pub mod IndexLemmas
+pub mod PairLemmas
+pub mod ImageLemmas
+pub mod ReadLemmas
+pub mod GiveLemmas

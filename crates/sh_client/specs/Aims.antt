@@ -1,0 +1,54 @@
+-- What a client is after: its call's own leaf, or the node that a post goes to.
+use Rattle.std.specs.Prelude.{ℕ, Bool, true, false, ◌&&◌, nat_le, List, replicate}
+use Rattle.sh_base.specs.declared.config.ConfigParts.{ConfigParts}
+use Rattle.sh_base.specs.Setting.{nodes}
+use Rattle.sh_map.specs.declared.call.Call.{Call}
+use Rattle.sh_map.specs.declared.call.Call.TheVariants.{Get, Put, Del, Range}
+use Rattle.sh_client.specs.declared.state.Post.{Post}
+use Rattle.sh_client.specs.declared.state.Aim.{Aim}
+use Rattle.sh_client.specs.declared.state.Aim.TheVariants.{Own, Posts}
+
+abbrev pub post_of : (separator node level : ℕ) → Post
+post_of separator node level = record { separator = separator; node = node; level = level }
+
+-- a call's key, and a range's low end
+abbrev pub call_key : Call → ℕ
+call_key (Get key) = key
+call_key (Put key value) = key
+call_key (Del key) = key
+call_key (Range low high) = low
+
+-- the key and the value that an update leaves in its entry: a delete an empty entry
+abbrev pub left_key : Call → ℕ
+left_key (Get key) = 0
+left_key (Put key value) = key
+left_key (Del key) = 0
+left_key (Range low high) = 0
+
+abbrev pub left_value : ConfigParts → Call → List ℕ
+left_value p (Get key) = replicate p.value_words 0
+left_value p (Put key value) = value
+left_value p (Del key) = replicate p.value_words 0
+left_value p (Range low high) = replicate p.value_words 0
+
+-- the key that a descent looks for
+abbrev pub key_of : Call → Aim → ℕ
+key_of call Own = call_key call
+key_of call (Posts post) = post.separator
+
+-- the level at which it ends
+abbrev pub target : Aim → ℕ
+target Own = 0
+target (Posts post) = post.level
+
+-- the node at its end is READ under its lock
+abbrev pub takes_lock : Call → Aim → Bool
+takes_lock call (Posts post) = true
+takes_lock (Get key) Own = false
+takes_lock (Put key value) Own = true
+takes_lock (Del key) Own = true
+takes_lock (Range low high) Own = false
+
+-- the number of a node of the setting
+abbrev pub is_node : ConfigParts → ℕ → Bool
+is_node p n = nat_le 1 n && nat_le n (nodes p)

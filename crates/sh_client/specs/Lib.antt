@@ -1,0 +1,13 @@
+pub mod Machine
+pub mod Aims
+pub mod Leaves
+pub mod Bodies
+pub mod Ways
+pub mod Deciding
+pub mod Wants
+pub mod Giving
+pub mod Splitting
+pub mod Feeds
+pub mod Rests
+pub mod Sound
+pub mod Courses

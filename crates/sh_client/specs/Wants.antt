@@ -1,0 +1,63 @@
+-- The turn that a client wants, by what it is at.
+use Rattle.std.specs.Prelude.{ℕ, ◌+◌, Option, Some, None, slice_index}
+use Rattle.sh_base.specs.declared.config.ConfigParts.{ConfigParts}
+use Rattle.sh_base.specs.declared.event.Event.TheVariants.{Load, Store, Exchange}
+use Rattle.sh_base.specs.Layout.{root_word, node_word, lock_of, lock_word, entry_at}
+use Rattle.sh_alloc.specs.declared.state.ChunkWant.{ChunkWant}
+use Rattle.sh_alloc.specs.declared.state.ChunkWant.TheVariants as chunk
+use Rattle.sh_alloc.specs.Walks.{want_of as walk_wants}
+use Rattle.sh_lock.specs.Locks.{grab_of}
+use Rattle.sh_read.specs.Reads.{wanted}
+use Rattle.sh_client.specs.declared.state.Write.{Write}
+use Rattle.sh_client.specs.declared.state.Write.TheVariants.{Nothing, Entry, Leaf, LeftLeaf, Inner, LeftInner}
+use Rattle.sh_client.specs.declared.state.Phase.{Phase}
+use Rattle.sh_client.specs.declared.state.Phase.TheVariants.{Idle, Root, Read, Draw, Look, Grab, Hold, Seek, Fill, Waiting, Body, Unlock, Leave, Top, Raise, Swap, Ended}
+use Rattle.sh_client.specs.declared.state.Want.{Want}
+use Rattle.sh_client.specs.declared.state.Want.TheVariants as want
+use Rattle.sh_client.specs.Machine.{Machine}
+
+-- a READ wants a load while words are left
+abbrev pub load_of : Option ℕ → Want
+load_of (Some at) = want.Event (Load at)
+load_of None = want.Done
+
+-- a walk over the counters wants an event until it has ended
+abbrev pub count_of : ChunkWant → Want
+count_of (chunk.Event e) = want.Event e
+count_of (chunk.Got server chunk) = want.Done
+count_of chunk.AllSpent = want.Done
+
+-- where in the node the stores begin: an entry's at its place, a whole node's at the first word
+abbrev pub offset_of : ConfigParts → Write → ℕ
+offset_of p Nothing = 0
+offset_of p (Entry index) = entry_at p index
+offset_of p Leaf = 0
+offset_of p LeftLeaf = 0
+offset_of p Inner = 0
+offset_of p LeftInner = 0
+
+-- the lock word of a node
+abbrev pub lock_word_of : ConfigParts → (node : ℕ) → ℕ
+lock_word_of p node = lock_word p (lock_of p node)
+
+abbrev pub want_in : Machine → Phase → Want
+want_in m Idle = want.Done
+want_in m (Root aim) = want.Event (Load root_word)
+want_in m (Read aim top) = load_of (wanted m.setting m.reads)
+want_in m (Draw aim node) = want.Draw (lock_of m.setting node)
+want_in m (Look aim node) = want.Look (lock_of m.setting node)
+want_in m (Grab aim node) = want.Event (grab_of m.setting (lock_of m.setting node) m.seat)
+want_in m (Hold aim depth) = load_of (wanted m.setting m.reads)
+want_in m (Seek aim depth) = count_of (walk_wants m.setting m.walk)
+want_in m (Fill node depth fresh done write after) = want.Event (Store (node_word m.setting fresh + done) (slice_index m.right done))
+want_in m (Waiting node depth write after) = want.Waiting (lock_of m.setting node)
+want_in m (Body node carry done write after) = want.Event (Store (node_word m.setting node + (offset_of m.setting write + done)) (slice_index m.body done))
+want_in m (Unlock node after) = want.Event (Store (lock_word_of m.setting node) 0)
+want_in m (Leave node carry after) = want.Leave (lock_of m.setting node) carry
+want_in m (Top post root) = count_of (walk_wants m.setting m.walk)
+want_in m (Raise post root fresh done) = want.Event (Store (node_word m.setting fresh + done) (slice_index m.right done))
+want_in m (Swap post root fresh) = want.Event (Exchange root_word root fresh)
+want_in m Ended = want.Done
+
+abbrev pub want_of : Machine → Want
+want_of m = want_in m m.phase

@@ -1,0 +1,233 @@
+// What a client is, what it wants, and what it is at.
+use crate::Words;
+use sh_alloc::{Chunks, Spare};
+use sh_base::{Config, Event};
+use sh_map::{Call, Reply};
+use sh_read::Reading;
+use std::marker::Model;
+
+/// The turn that a client wants.
+#[derive(Clone, Copy, Debug, PartialEq, Eq)]
+pub enum Want {
+    /// An event on one word; it's fed the word that the event found.
+    Event(Event),
+    /// A ticket of its compute server's queue of this lock; it's fed the ticket.
+    Draw { lock: u32 },
+    /// A look whether its ticket is served.
+    Look { lock: u32 },
+    /// How many later tickets were drawn; it's fed that number.
+    Waiting { lock: u32 },
+    /// To leave the queue, and where `carry` is there to hand the lock over with this depth; it's fed 0.
+    Leave { lock: u32, carry: Option<u32> },
+    /// Nothing: it's idle, or its call has ended.
+    Done,
+}
+
+/// What a client has counted since it was made. A counter stays at its last value, 2^64 - 1.
+#[derive(Clone, Copy, Debug, PartialEq, Eq)]
+pub struct Tally {
+    /// READs whose words were torn.
+    pub again: u64,
+    /// Hops to the right.
+    pub rights: u64,
+    /// Nodes that were split.
+    pub splits: u64,
+    /// Locks that were handed over.
+    pub handed: u64,
+    /// Calls that began at the child of a cached row.
+    pub from_cache: u64,
+    /// Posts that were skipped since there was no node left.
+    pub skipped_spent: u64,
+    /// Posts that were skipped since the node's version was the last one.
+    pub skipped_worn: u64,
+    /// Leaves that were rewritten.
+    pub rewritten: u64,
+}
+
+/// The post of a node: its number goes, with its low fence, into the node above it, which has this level.
+#[derive(Clone, Copy, Debug, PartialEq, Eq)]
+pub struct Post {
+    pub(crate) separator: u64,
+    pub(crate) node: u32,
+    pub(crate) level: u64,
+}
+
+/// What a descent is for: the call's own leaf, or a post.
+#[derive(Clone, Copy, Debug, PartialEq, Eq)]
+pub enum Aim {
+    Own,
+    Posts { post: Post },
+}
+
+/// What follows when a lock is given back: the call ends, or a descent starts at the root word, or the lock of the node
+/// to the right is taken.
+#[derive(Clone, Copy, Debug, PartialEq, Eq)]
+pub enum Then {
+    Ends,
+    Starts { aim: Aim },
+    Takes { aim: Aim, node: u32 },
+}
+
+/// What is stored before a lock is given back: nothing, one entry, a rewritten leaf, the left half of a leaf, an inner
+/// node with a pair more, or the left half of an inner node.
+#[derive(Clone, Copy, Debug, PartialEq, Eq)]
+pub enum Write {
+    Nothing,
+    Entry { index: u32 },
+    Leaf,
+    LeftLeaf,
+    Inner,
+    LeftInner,
+}
+
+/// Where a READ without a lock leads: to the root word again, to a READ of a node below or to the right, to the lock of
+/// a node, here or below or to the right, to a new root, or to the call's reply.
+#[derive(Clone, Copy, Debug, PartialEq, Eq)]
+pub enum Way {
+    Root,
+    Read { node: u32 },
+    Right { node: u32 },
+    Lock { node: u32 },
+    LockRight { node: u32 },
+    Grow,
+    Found,
+}
+
+/// What a READ under the lock leads to: the descent starts again, the lock of the node to the right is taken, the key is
+/// absent, an entry is written, the leaf is rewritten, the leaf can't be written any more, the node is split, the post is
+/// skipped, or the node gets a pair more.
+#[derive(Clone, Copy, Debug, PartialEq, Eq)]
+pub enum Decision {
+    Restart,
+    Right { node: u32 },
+    Absent,
+    Entry { index: u32 },
+    Rewrite { index: u32 },
+    Worn { version: u64 },
+    Split,
+    Skip,
+    Add,
+}
+
+/// What a client is at.
+#[derive(Clone, Copy, Debug, PartialEq, Eq)]
+pub enum Phase {
+    /// It has no call.
+    Idle,
+    /// It loads the root word.
+    Root {
+        aim: Aim,
+    },
+    /// It READs a node without a lock; `top` says that the root word named it.
+    Read {
+        aim: Aim,
+        top: bool,
+    },
+    /// It draws a ticket for the lock of a node.
+    Draw {
+        aim: Aim,
+        node: u32,
+    },
+    /// It looks whether its ticket is served.
+    Look {
+        aim: Aim,
+        node: u32,
+    },
+    /// It exchanges the lock word.
+    Grab {
+        aim: Aim,
+        node: u32,
+    },
+    /// It READs the node under its lock, which was handed over `depth` times.
+    Hold {
+        aim: Aim,
+        depth: u32,
+    },
+    /// It looks for a chunk of nodes, for the split of the node that it has READ under its lock.
+    Seek {
+        aim: Aim,
+        depth: u32,
+    },
+    /// It stores the right half of a split to a fresh node; `done` words are stored.
+    Fill {
+        node: u32,
+        depth: u32,
+        fresh: u32,
+        done: u32,
+        write: Write,
+        after: Then,
+    },
+    /// It asks how many wait for the lock.
+    Waiting {
+        node: u32,
+        depth: u32,
+        write: Write,
+        after: Then,
+    },
+    /// It stores what is to be written; `done` words are stored.
+    Body {
+        node: u32,
+        carry: Option<u32>,
+        done: u32,
+        write: Write,
+        after: Then,
+    },
+    /// It stores 0 to the lock word.
+    Unlock {
+        node: u32,
+        after: Then,
+    },
+    /// It leaves the queue.
+    Leave {
+        node: u32,
+        carry: Option<u32>,
+        after: Then,
+    },
+    /// It looks for a chunk of nodes, for a new root over this one.
+    Top {
+        post: Post,
+        root: u32,
+    },
+    /// It stores a new root to a fresh node; `done` words are stored.
+    Raise {
+        post: Post,
+        root: u32,
+        fresh: u32,
+        done: u32,
+    },
+    /// It exchanges the root word, of the old root for the new one.
+    Swap {
+        post: Post,
+        root: u32,
+        fresh: u32,
+    },
+    /// Its call has ended.
+    Ended,
+}
+
+/// A client of one seat. It has room for the words of two nodes to be stored, and takes memory when it is made alone.
+#[derive(Debug, Drop)]
+pub struct Client {
+    pub(crate) cfg: Config,
+    pub(crate) seat: u32,
+    pub(crate) spare: Spare,
+    pub(crate) tally: Tally,
+    pub(crate) call: Call,
+    pub(crate) reply: Reply,
+    pub(crate) reading: Reading,
+    pub(crate) chunks: Chunks,
+    pub(crate) body: Words,
+    pub(crate) right: Words,
+    pub(crate) phase: Phase,
+}
+
+impl Model for Client {
+    ghost use Rattle.sh_client.specs.Machine.{Machine};
+    ghost use Rattle.sh_client.specs.Sound.{IsClient};
+
+    ghost Value = { Machine };
+
+    ghost view = { λ c. record { setting = c.cfg.parts; seat = c.seat; spare = c.spare.range; tally = c.tally; call = c.call; reply = c.reply; reads = c.reading.reads; walk = c.chunks.walk; body = c.body; right = c.right; phase = c.phase } };
+
+    ghost invariant = { λ c. IsClient c.cfg.parts c.seat c.spare.range c.call c.reading c.chunks c.body c.right c.phase };
+}

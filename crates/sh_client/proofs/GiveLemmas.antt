@@ -95,7 +95,7 @@ begins m node carry LeftLeaf after some = refl
 begins m node carry Inner after some = refl
 begins m node carry LeftInner after some = refl
 
-freed : (count depth bound : ℕ) → (count ≡ 0) ⊎ (depth ≡ bound) → release_of count depth bound ≡ Free
+pub freed : (count depth bound : ℕ) → (count ≡ 0) ⊎ (depth ≡ bound) → release_of count depth bound ≡ Free
 freed count depth bound h = elim h [
   | inl none ↦ rw (same_test count 0 none) refl
   | inr at ↦ by (count == 0) at

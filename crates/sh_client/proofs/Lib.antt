@@ -3,3 +3,5 @@ pub mod PairLemmas
 pub mod ImageLemmas
 pub mod ReadLemmas
 pub mod GiveLemmas
+pub mod KeptLemmas
+pub mod BackLemmas

@@ -1,9 +1,12 @@
 -- A client that takes its turns one after another.
-use Rattle.std.specs.Prelude.{◌≡◌, ◌⊎◌, ℕ, zero, suc, ◌+◌, List, [], ◌∷◌, length, Some}
-use Rattle.sh_base.specs.declared.event.Event.TheVariants.{Store}
-use Rattle.sh_base.specs.Layout.{lock_of}
+use Rattle.std.specs.Prelude.{◌≡◌, ◌⊎◌, ℕ, zero, suc, ◌+◌, List, [], ◌∷◌, length, Some, None}
+use Rattle.sh_base.specs.declared.event.Event.TheVariants.{Load, Store}
+use Rattle.sh_base.specs.Layout.{lock_of, root_word}
 use Rattle.sh_image.specs.Leaf.{Leaf}
 use Rattle.sh_image.specs.declared.inner.Image.TheVariants.{Leaf as LeafImage}
+use Rattle.sh_lock.specs.declared.state.Release.TheVariants.{Hand}
+use Rattle.sh_lock.specs.Locks.{release_of}
+use Rattle.sh_client.specs.declared.state.Aim.{Aim}
 use Rattle.sh_read.specs.declared.state.Progress.TheVariants.{Accepted}
 use Rattle.sh_read.specs.Reads.{accepted, progress_of, fed_by as read_fed}
 use Rattle.sh_client.specs.declared.state.Aim.TheVariants.{Own}
@@ -48,3 +51,15 @@ pub record Finds (m : Machine) (word depth : ℕ) (a : Leaf) (d : Decision) : Ty
 -- the node of that READ
 abbrev pub node_read : Machine → (word : ℕ) → ℕ
 node_read m word = let r = read_fed m.setting m.reads word in r.node
+
+-- A client that gives the lock of a node back with nothing written and starts again: it asks how many wait; where nobody
+-- does or the depth is the bound, it stores 0 to the lock word, leaves, and loads the root word; else it leaves with the
+-- depth and one more, and loads the root word.
+pub record GivesBack (m : Machine) (node depth : ℕ) (aim : Aim) : Type 0 where
+  pub asks : want_of m ≡ want.Waiting (lock_of m.setting node)
+  pub frees : (count : ℕ) → (count ≡ 0) ⊎ (depth ≡ m.setting.bound) → wants_over 3 (fed_by m count) ≡ want.Event (Store (lock_word_of m.setting node) 0) ∷ want.Leave (lock_of m.setting node) None ∷ want.Event (Load root_word) ∷ []
+  pub hands : (count : ℕ) → release_of count depth m.setting.bound ≡ Hand → wants_over 2 (fed_by m count) ≡ want.Leave (lock_of m.setting node) (Some (depth + 1)) ∷ want.Event (Load root_word) ∷ []
+
+-- another machine of the same setting, seat and call
+abbrev pub Keeps : Machine → Machine → Type 0
+Keeps m x = (x.setting ≡ m.setting) × (x.seat ≡ m.seat) × (x.call ≡ m.call)

@@ -17,7 +17,7 @@ mod wants;
 mod ways;
 mod words;
 
-pub use laws::updates_store_their_words;
+pub use laws::{senseless_words_lead_back, turns_keep_the_call, updates_store_their_words};
 pub use state::{Aim, Client, Decision, Phase, Post, Tally, Then, Want, Way, Write};
 pub use words::Words;
 

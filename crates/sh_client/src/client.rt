@@ -1,5 +1,5 @@
 // The client: what it wants, and what it does with what it's fed.
-ghost use Rattle.std.specs.Prelude.{◌≡◌, ◌≤◌, ◌<◌, ◌++◌, IfOk, IfSome, length, vec_len};
+ghost use Rattle.std.specs.Prelude.{◌≡◌, ◌≤◌, ◌<◌, [], ◌++◌, IfOk, IfSome, length, vec_len};
 ghost use Rattle.sh_base.specs.Parts.{parts_of};
 ghost use Rattle.sh_base.specs.Setting.{all_seats};
 ghost use Rattle.sh_map.specs.Calls.{IsInRange};
@@ -14,7 +14,7 @@ ghost use Rattle.sh_client.specs.Sound.{IsPointCall};
 use crate::{Aim, Client, Phase, Tally, Words, Write};
 use sh_alloc::{Chunks, Spare};
 use sh_base::Config;
-use sh_map::{Call, Log, Reply, log_call};
+use sh_map::{Call, Log, Reply, Row, log_call};
 use sh_read::Reading;
 use std::alloc::AllocError;
 
@@ -142,6 +142,13 @@ impl Client {
         ensures { self.new ≡ finished self.old }
     {
         self.phase = Phase::Idle;
+    }
+
+    /// The rows of the last range: none, while ranges aren't served.
+    pub fn rows(&self) -> &[Row]
+        ensures { result.now ≡ [] }
+    {
+        &[]
     }
 
     /// What it has counted since it was made.

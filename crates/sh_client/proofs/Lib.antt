@@ -1,0 +1,7 @@
+pub mod IndexLemmas
+pub mod PairLemmas
+pub mod ImageLemmas
+pub mod ReadLemmas
+pub mod GiveLemmas
+pub mod KeptLemmas
+pub mod BackLemmas

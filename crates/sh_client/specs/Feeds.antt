@@ -1,22 +1,12 @@
 -- What a client is after the turn that it wanted, by what it was at and what the turn found.
-use Rattle.std.specs.Prelude.{ℕ, ◌+◌, ◌==◌, if◌then◌else◌, Bool, true, false, List, [], Option, Some, None}
-use Rattle.sh_base.specs.declared.config.ConfigParts.{ConfigParts}
+use Rattle.std.specs.Prelude.{ℕ, ◌==◌, if◌then◌else◌, Bool, true, false, Option, Some, None}
 use Rattle.sh_map.specs.declared.call.Call.{Call}
-use Rattle.sh_map.specs.declared.call.Reply.{Reply}
 use Rattle.sh_map.specs.declared.call.Reply.TheVariants as reply
-use Rattle.sh_image.specs.declared.leaf.LeafEntry.{LeafEntry}
-use Rattle.sh_image.specs.Entries.{entry_words}
-use Rattle.sh_image.specs.Leaf.{Leaf, leaf_words}
-use Rattle.sh_image.specs.Inner.{inner_words}
 use Rattle.sh_image.specs.declared.inner.Image.{Image}
-use Rattle.sh_image.specs.declared.inner.Image.TheVariants.{Leaf as LeafImage, Inner as InnerImage}
-use Rattle.sh_edit.specs.Rewriting.{rewritten}
-use Rattle.sh_edit.specs.Pairing.{with_pair}
 use Rattle.sh_read.specs.declared.state.Progress.{Progress}
 use Rattle.sh_read.specs.declared.state.Progress.TheVariants.{More, Accepted, Again, Odd}
 use Rattle.sh_read.specs.Reads.{accepted, progress_of, start_of, fed_by as read_fed}
 use Rattle.sh_client.specs.declared.state.Aim.{Aim}
-use Rattle.sh_client.specs.declared.state.Aim.TheVariants.{Own, Posts}
 use Rattle.sh_client.specs.declared.state.Then.{Then}
 use Rattle.sh_client.specs.declared.state.Then.TheVariants.{Ends, Starts, Takes}
 use Rattle.sh_client.specs.declared.state.Write.{Write}
@@ -25,15 +15,16 @@ use Rattle.sh_client.specs.declared.state.Way.{Way}
 use Rattle.sh_client.specs.declared.state.Way.TheVariants as way
 use Rattle.sh_client.specs.declared.state.Decision.{Decision}
 use Rattle.sh_client.specs.declared.state.Decision.TheVariants as decision
+use Rattle.sh_client.specs.declared.state.Aim.TheVariants.{Own}
 use Rattle.sh_client.specs.declared.state.Phase.{Phase}
 use Rattle.sh_client.specs.declared.state.Phase.TheVariants.{Idle, Root, Read, Draw, Look, Grab, Hold, Seek, Fill, Waiting, Body, Unlock, Leave, Top, Raise, Swap, Ended}
 use Rattle.sh_client.specs.Machine.{Machine, to, again, answering, storing, right_hop, skipped_worn}
-use Rattle.sh_client.specs.Aims.{call_key, is_node, left_key, left_value}
-use Rattle.sh_client.specs.Leaves.{answer_of, version_at}
+use Rattle.sh_client.specs.Aims.{is_node}
+use Rattle.sh_client.specs.Bodies.{answer_in, entry_body, inner_body, leaf_body}
 use Rattle.sh_client.specs.Ways.{way_of}
 use Rattle.sh_client.specs.Deciding.{decision_of}
 use Rattle.sh_client.specs.Giving.{left, stored, waited}
-use Rattle.sh_client.specs.Splitting.{filled, grown, pair_of, raising, sought, split, swapped, topped}
+use Rattle.sh_client.specs.Splitting.{filled, grown, raising, sought, split, swapped, topped}
 
 -- a READ of a node begins
 abbrev pub reading : Machine → (node : ℕ) → Phase → Machine
@@ -42,11 +33,6 @@ reading m node phase = record m { reads = start_of node; phase = phase }
 -- the root word named this node; a number that names none is loaded again
 abbrev pub rooted : Machine → Aim → (word : ℕ) → Machine
 rooted m aim word = if is_node m.setting word then reading m word (Read aim true) else to m (Root aim)
-
--- an image's answer to the call; an inner node has no entries
-abbrev pub answer_in : Call → Image → Reply
-answer_in call (LeafImage a) = answer_of a.entries (call_key call)
-answer_in call (InnerImage a) = reply.None
 
 -- an image that was READ without a lock leads this way
 abbrev pub went : Machine → Aim → Image → Way → Machine
@@ -66,35 +52,17 @@ arrived m aim top None = to m (Root aim)
 abbrev pub back : Machine → (depth : ℕ) → Write → Then → Machine
 back m depth write after = to m (Waiting m.reads.node depth write after)
 
--- an update's entry, with a version more
-abbrev pub entry_left : Machine → Leaf → (index : ℕ) → LeafEntry
-entry_left m a index = record { version = version_at a.entries index + 1; key = left_key m.call; value = left_value m.setting m.call }
-
--- what is stored of a leaf or of an inner node; of a node of the other kind nothing is
-abbrev pub entry_body : Machine → (index : ℕ) → Image → List ℕ
-entry_body m index (LeafImage a) = entry_words (entry_left m a index)
-entry_body m index (InnerImage a) = []
-
-abbrev pub leaf_body : Machine → (index : ℕ) → Image → List ℕ
-leaf_body m index (LeafImage a) = leaf_words (rewritten a index (left_key m.call) (left_value m.setting m.call))
-leaf_body m index (InnerImage a) = []
-
-abbrev pub inner_body : Machine → Aim → Image → List ℕ
-inner_body m (Posts post) (InnerImage a) = inner_words m.setting (with_pair a (pair_of post))
-inner_body m (Posts post) (LeafImage a) = []
-inner_body m Own image = []
-
 -- an image that was READ under its lock leads to this
 abbrev pub did : Machine → Aim → (depth : ℕ) → Image → Decision → Machine
 did m aim depth image decision.Restart = back m depth write.Nothing (Starts aim)
 did m aim depth image (decision.Right node) = back (right_hop m) depth write.Nothing (Takes aim node)
 did m aim depth image decision.Absent = back (answering m (answer_in m.call image)) depth write.Nothing Ends
-did m aim depth image (decision.Entry index) = back (storing (answering m (answer_in m.call image)) (entry_body m index image)) depth (write.Entry index) Ends
-did m aim depth image (decision.Rewrite index) = back (storing (answering m (answer_in m.call image)) (leaf_body m index image)) depth write.Leaf Ends
+did m aim depth image (decision.Entry index) = back (storing (answering m (answer_in m.call image)) (entry_body m.setting m.call index image)) depth (write.Entry index) Ends
+did m aim depth image (decision.Rewrite index) = back (storing (answering m (answer_in m.call image)) (leaf_body m.setting m.call index image)) depth write.Leaf Ends
 did m aim depth image (decision.Worn version) = back (answering m (reply.Worn version)) depth write.Nothing Ends
 did m aim depth image decision.Split = split m aim depth image
 did m aim depth image decision.Skip = back (skipped_worn m) depth write.Nothing Ends
-did m aim depth image decision.Add = back (storing m (inner_body m aim image)) depth write.Inner Ends
+did m aim depth image decision.Add = back (storing m (inner_body m.setting aim image)) depth write.Inner Ends
 
 abbrev pub held_by : Machine → Aim → (depth : ℕ) → Option Image → Machine
 held_by m aim depth (Some image) = did m aim depth image (decision_of m.setting m.call aim image)
@@ -106,21 +74,21 @@ loaded m word = record m { reads = read_fed m.setting m.reads word }
 
 -- A READ without a lock: torn words are loaded again, and words that spell no node lead to the root word.
 abbrev pub read_by : Machine → Aim → (top : Bool) → Progress → Machine
-read_by m aim top More = m
+read_by m aim top More = to m (Read aim top)
 read_by m aim top Accepted = arrived m aim top (accepted m.setting m.reads)
-read_by m aim top (Again rear front) = again m
+read_by m aim top (Again rear front) = to (again m) (Read aim top)
 read_by m aim top Odd = to m (Root aim)
 
 -- A READ under the lock: of words that spell no node the lock is given back, and the descent starts again.
 abbrev pub hold_by : Machine → Aim → (depth : ℕ) → Progress → Machine
-hold_by m aim depth More = m
+hold_by m aim depth More = to m (Hold aim depth)
 hold_by m aim depth Accepted = held_by m aim depth (accepted m.setting m.reads)
-hold_by m aim depth (Again rear front) = again m
+hold_by m aim depth (Again rear front) = to (again m) (Hold aim depth)
 hold_by m aim depth Odd = back m depth write.Nothing (Starts aim)
 
 -- the exchange of the lock word found this: with 0 the lock is taken, and was never handed over
 abbrev pub grabbed : Machine → Aim → (node word : ℕ) → Machine
-grabbed m aim node word = if word == 0 then reading m node (Hold aim 0) else m
+grabbed m aim node word = if word == 0 then reading m node (Hold aim 0) else to m (Grab aim node)
 
 abbrev pub fed_in : Machine → (word : ℕ) → Phase → Machine
 fed_in m word Idle = m

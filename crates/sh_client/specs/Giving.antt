@@ -69,8 +69,11 @@ entries_of m LeftLeaf = entries_by m.seat m.call m.reply
 entries_of m Inner = []
 entries_of m LeftInner = []
 
+abbrev pub stored_entries : Machine → (done : ℕ) → Write → List LogEntry
+stored_entries m done write = if done + 1 == length m.body then entries_of m write else []
+
 abbrev pub made_in : Machine → Phase → List LogEntry
-made_in m (Body node carry done write after) = if done + 1 == length m.body then entries_of m write else []
+made_in m (Body node carry done write after) = stored_entries m done write
 made_in m Idle = []
 made_in m (Root aim) = []
 made_in m (Read aim top) = []

@@ -1,6 +1,7 @@
 pub mod Machine
 pub mod Aims
 pub mod Leaves
+pub mod Bodies
 pub mod Ways
 pub mod Deciding
 pub mod Wants
@@ -9,3 +10,4 @@ pub mod Splitting
 pub mod Feeds
 pub mod Rests
 pub mod Sound
+pub mod Courses

@@ -1,11 +1,16 @@
 -- The client as a machine: what it keeps, and how a part of it changes.
-use Rattle.std.specs.Prelude.{ℕ, ◌+◌, ◌-◌, ◌^◌, ◌==◌, if◌then◌else◌, List}
+use Rattle.std.specs.Prelude.{ℕ, ◌+◌, ◌-◌, ◌^◌, ◌==◌, if◌then◌else◌, List, []}
 use Rattle.sh_base.specs.declared.config.ConfigParts.{ConfigParts}
 use Rattle.sh_map.specs.declared.call.Call.{Call}
 use Rattle.sh_map.specs.declared.call.Reply.{Reply}
 use Rattle.sh_alloc.specs.declared.state.NodeRange.{NodeRange}
 use Rattle.sh_alloc.specs.declared.state.Walk.{Walk}
-use Rattle.sh_read.specs.Reads.{Reads}
+use Rattle.sh_alloc.specs.Spares.{no_nodes}
+use Rattle.sh_alloc.specs.Walks.{start_of as walk_start}
+use Rattle.sh_read.specs.Reads.{Reads, start_of}
+use Rattle.sh_map.specs.declared.call.Call.TheVariants.{Get}
+use Rattle.sh_map.specs.declared.call.Reply.TheVariants as reply
+use Rattle.sh_client.specs.declared.state.Phase.TheVariants.{Idle}
 use Rattle.sh_client.specs.declared.state.Tally.{Tally}
 use Rattle.sh_client.specs.declared.state.Phase.{Phase}
 
@@ -66,3 +71,11 @@ skipped_worn m = record m { tally = record m.tally { skipped_worn = up m.tally.s
 
 abbrev pub rewrite_done : Machine → Machine
 rewrite_done m = record m { tally = record m.tally { rewritten = up m.tally.rewritten } }
+
+-- nothing is counted
+abbrev pub no_tally : Tally
+no_tally = record { again = 0; rights = 0; splits = 0; handed = 0; from_cache = 0; skipped_spent = 0; skipped_worn = 0; rewritten = 0 }
+
+-- a client of a seat: it is idle, and has no spare node
+abbrev pub fresh_machine : ConfigParts → (seat : ℕ) → Machine
+fresh_machine p seat = record { setting = p; seat = seat; spare = no_nodes; tally = no_tally; call = Get 1; reply = reply.None; reads = start_of 1; walk = walk_start p seat; body = []; right = []; phase = Idle }

@@ -1,8 +1,9 @@
 -- What a client keeps to, whatever words it is fed.
-use Rattle.std.specs.Prelude.{◌≡◌, ◌≢◌, ◌⊎◌, ℕ, ◌+◌, ◌-◌, ◌*◌, ◌^◌, ◌<◌, ◌≤◌, List, length, Option, Some, None}
+use Rattle.std.specs.Prelude.{◌≡◌, ◌≢◌, ℕ, ◌+◌, ◌-◌, ◌*◌, ◌^◌, ◌<◌, ◌≤◌, List, length, Option, Some, None}
 use Rattle.sh_base.specs.declared.config.ConfigParts.{ConfigParts}
-use Rattle.sh_base.specs.Setting.{all_seats, entry_size, node_size, nodes, IsNode}
+use Rattle.sh_base.specs.Setting.{all_seats, entry_size, last_entry_version, node_size, nodes, IsNode}
 use Rattle.sh_map.specs.declared.call.Call.{Call}
+use Rattle.sh_map.specs.declared.call.Call.TheVariants.{Get, Put, Del, Range}
 use Rattle.sh_map.specs.Calls.{IsInRange}
 use Rattle.sh_alloc.specs.declared.state.NodeRange.{NodeRange}
 use Rattle.sh_alloc.specs.declared.state.Walk.{Walk}
@@ -16,6 +17,8 @@ use Rattle.sh_image.specs.declared.inner.Image.{Image}
 use Rattle.sh_image.specs.declared.inner.Image.TheVariants.{Leaf as LeafImage, Inner as InnerImage}
 use Rattle.sh_edit.specs.Splitting.{IsSplit}
 use Rattle.sh_read.specs.Reads.{Reader, Reads, accepted, wanted}
+use Rattle.sh_read.specs.declared.state.Progress.{Progress}
+use Rattle.sh_read.specs.declared.state.Progress.TheVariants.{More, Accepted, Again, Odd}
 use Rattle.sh_client.specs.declared.state.Post.{Post}
 use Rattle.sh_client.specs.declared.state.Aim.{Aim}
 use Rattle.sh_client.specs.declared.state.Aim.TheVariants.{Own, Posts}
@@ -25,7 +28,20 @@ use Rattle.sh_client.specs.declared.state.Write.{Write}
 use Rattle.sh_client.specs.declared.state.Write.TheVariants.{Nothing, Entry, Leaf as WholeLeaf, LeftLeaf, Inner as WholeInner, LeftInner}
 use Rattle.sh_client.specs.declared.state.Phase.{Phase}
 use Rattle.sh_client.specs.declared.state.Phase.TheVariants.{Idle, Root, Read, Draw, Look, Grab, Hold, Seek, Fill, Waiting, Body, Unlock, Leave, Top, Raise, Swap, Ended}
+use Rattle.sh_client.specs.declared.state.Way.{Way}
+use Rattle.sh_client.specs.declared.state.Way.TheVariants as way
+use Rattle.sh_client.specs.declared.state.Decision.{Decision}
+use Rattle.sh_client.specs.declared.state.Decision.TheVariants as decision
+use Rattle.sh_client.specs.Machine.{Machine}
 use Rattle.sh_client.specs.Aims.{left_key}
+use Rattle.sh_client.specs.Leaves.{version_at}
+
+-- no range
+abbrev pub IsPointCall : Call → Type 0
+IsPointCall (Get key) = Unit {0}
+IsPointCall (Put key value) = Unit {0}
+IsPointCall (Del key) = Unit {0}
+IsPointCall (Range low high) = ⊥
 
 -- a post of a node of the setting, to a level that the setting may have
 pub record IsPost (p : ConfigParts) (post : Post) : Type 0 where
@@ -52,7 +68,12 @@ IsFilled p LeftInner body = length body ≡ node_size p
 
 -- or none are
 abbrev pub IsBody : ConfigParts → Write → List ℕ → Type 0
-IsBody p write body = (write ≡ Nothing) ⊎ IsFilled p write body
+IsBody p Nothing body = Unit {0}
+IsBody p (Entry index) body = IsFilled p (Entry index) body
+IsBody p WholeLeaf body = IsFilled p WholeLeaf body
+IsBody p LeftLeaf body = IsFilled p LeftLeaf body
+IsBody p WholeInner body = IsFilled p WholeInner body
+IsBody p LeftInner body = IsFilled p LeftInner body
 
 -- the spare nodes are nodes of the setting
 pub record AreSpare (p : ConfigParts) (r : NodeRange) : Type 0 where
@@ -74,6 +95,13 @@ HasSplit p call aim None = ⊥
 -- words are left to load
 abbrev pub IsLoading : ConfigParts → Reads → Type 0
 IsLoading p reads = wanted p reads ≢ None
+
+-- what is left behind an answer of a READ
+abbrev pub Leaves : ConfigParts → Reads → Progress → Type 0
+Leaves p reads More = IsLoading p reads
+Leaves p reads Accepted = accepted p reads ≢ None
+Leaves p reads (Again rear front) = IsLoading p reads
+Leaves p reads Odd = Unit {0}
 
 -- a walk over the counters under way, with no spare node left
 pub record IsWalking (p : ConfigParts) (spare : NodeRange) (walk : Walk) : Type 0 where
@@ -114,6 +142,68 @@ IsSound p spare call reads walk body right (Top post root) = IsPost p post × Is
 IsSound p spare call reads walk body right (Raise post root fresh done) = IsPost p post × IsFresh p fresh right × (fresh + 1 ≡ spare.first) × (done < node_size p)
 IsSound p spare call reads walk body right (Swap post root fresh) = IsPost p post × IsNode p fresh × (fresh + 1 ≡ spare.first)
 IsSound p spare call reads walk body right Ended = Unit {0}
+
+-- a machine may be at this
+abbrev pub Stands : Machine → Phase → Type 0
+Stands m phase = IsSound m.setting m.spare m.call m.reads m.walk m.body m.right phase
+
+-- an image that may be written so: it has the entry, and a version is left
+abbrev pub HasEntry : Image → (index : ℕ) → Type 0
+HasEntry (LeafImage a) index = index < length a.entries
+HasEntry (InnerImage a) index = ⊥
+
+-- the entry's version isn't the last one
+abbrev pub CanChange : Image → (index : ℕ) → Type 0
+CanChange (LeafImage a) index = (index < length a.entries) × (version_at a.entries index < last_entry_version)
+CanChange (InnerImage a) index = ⊥
+
+abbrev pub HasVersion : Image → Type 0
+HasVersion (LeafImage a) = a.version < 2 ^ 64 - 1
+HasVersion (InnerImage a) = a.version < 2 ^ 64 - 1
+
+abbrev pub HasRoom : ConfigParts → Aim → Image → Type 0
+HasRoom p (Posts post) (InnerImage a) = length a.pairs < 2 * p.leaf
+HasRoom p (Posts post) (LeafImage a) = ⊥
+HasRoom p Own image = ⊥
+
+-- a decision that the image allows
+abbrev pub Allows : ConfigParts → Call → Aim → Image → Decision → Type 0
+Allows p call aim image decision.Restart = Unit {0}
+Allows p call aim image (decision.Right node) = IsNode p node
+Allows p call aim image decision.Absent = Unit {0}
+Allows p call aim image (decision.Entry index) = CanChange image index
+Allows p call aim image (decision.Rewrite index) = HasEntry image index × HasVersion image
+Allows p call aim image (decision.Worn version) = Unit {0}
+Allows p call aim image decision.Split = CanSplit p call aim image
+Allows p call aim image decision.Skip = Unit {0}
+Allows p call aim image decision.Add = HasRoom p aim image × HasVersion image
+
+-- a way that leads to nodes of the setting
+abbrev pub Leads : ConfigParts → Way → Type 0
+Leads p (way.Read node) = IsNode p node
+Leads p (way.Right node) = IsNode p node
+Leads p (way.Lock node) = IsNode p node
+Leads p (way.LockRight node) = IsNode p node
+Leads p way.Root = Unit {0}
+Leads p way.Grow = Unit {0}
+Leads p way.Found = Unit {0}
+
+-- the same of the image of a READ, which there is
+abbrev pub AllowsIn : ConfigParts → Call → Aim → Option Image → Decision → Type 0
+AllowsIn p call aim (Some image) d = Allows p call aim image d
+AllowsIn p call aim None d = ⊥
+
+abbrev pub CanChangeIn : Option Image → (index : ℕ) → Type 0
+CanChangeIn (Some image) index = CanChange image index
+CanChangeIn None index = ⊥
+
+abbrev pub CanRewriteIn : Option Image → (index : ℕ) → Type 0
+CanRewriteIn (Some image) index = HasEntry image index × HasVersion image
+CanRewriteIn None index = ⊥
+
+abbrev pub CanAddIn : ConfigParts → Aim → Option Image → Type 0
+CanAddIn p aim (Some image) = HasRoom p aim image × HasVersion image
+CanAddIn p aim None = ⊥
 
 -- the parts of a client are of one setting, and fit what it is at
 pub record IsClient (p : ConfigParts) (seat : ℕ) (spare : NodeRange) (call : Call) (reader : Reader) (chunks : Chunks) (body right : List ℕ) (phase : Phase) : Type 0 where

@@ -5,7 +5,6 @@ use Rattle.sh_base.specs.Layout.{first_node}
 use Rattle.sh_map.specs.declared.call.Reply.TheVariants as reply
 use Rattle.sh_image.specs.Leaf.{Leaf, leaf_words}
 use Rattle.sh_image.specs.Inner.{Inner, inner_words}
-use Rattle.sh_image.specs.declared.inner.Pair.{Pair}
 use Rattle.sh_image.specs.declared.inner.Image.{Image}
 use Rattle.sh_image.specs.declared.inner.Image.TheVariants.{Leaf as LeafImage, Inner as InnerImage}
 use Rattle.sh_edit.specs.Splitting.{left_half, right_half, separator_of}
@@ -25,14 +24,11 @@ use Rattle.sh_client.specs.declared.state.Write.TheVariants.{Nothing, LeftLeaf, 
 use Rattle.sh_client.specs.declared.state.Phase.TheVariants.{Root, Seek, Fill, Waiting, Top, Raise, Swap, Ended}
 use Rattle.sh_client.specs.Machine.{Machine, to, answering, sparing, skipped_spent}
 use Rattle.sh_client.specs.Aims.{left_key, left_value, post_of}
+use Rattle.sh_client.specs.Bodies.{pair_of}
 
 -- the walk over the counters begins
 abbrev pub walking : Machine → Machine
 walking m = record m { walk = walk_start m.setting m.seat }
-
--- the pair that a post adds
-abbrev pub pair_of : Post → Pair
-pair_of post = record { separator = post.separator; child = post.node }
 
 -- the two halves stand ready, the right one for the fresh node
 abbrev pub halved_leaf : Machine → (depth fresh : ℕ) → Leaf → Machine
@@ -77,7 +73,7 @@ halved_by m aim depth fresh (Some image) = halved m aim depth fresh image
 halved_by m aim depth fresh None = to m (Waiting m.reads.node depth Nothing (Starts aim))
 
 abbrev pub sought_by : Machine → Aim → (depth : ℕ) → ChunkWant → Machine
-sought_by m aim depth (chunk.Event e) = m
+sought_by m aim depth (chunk.Event e) = to m (Seek aim depth)
 sought_by m aim depth (chunk.Got server chunk) = halved_by (chunk_taken m server chunk) aim depth (first_node m.setting server chunk) (accepted m.setting m.reads)
 sought_by m aim depth chunk.AllSpent = all_spent m aim depth
 
@@ -109,7 +105,7 @@ grown m (Posts post) root = growing m post root (lowest m.spare)
 
 -- with all chunks spent the post is skipped
 abbrev pub topped_by : Machine → Post → (root : ℕ) → ChunkWant → Machine
-topped_by m post root (chunk.Event e) = m
+topped_by m post root (chunk.Event e) = to m (Top post root)
 topped_by m post root (chunk.Got server chunk) = raised (chunk_taken m server chunk) post root (first_node m.setting server chunk)
 topped_by m post root chunk.AllSpent = to (skipped_spent m) Ended
 

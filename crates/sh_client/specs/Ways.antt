@@ -17,7 +17,7 @@ use Rattle.sh_client.specs.Aims.{is_node, key_of, takes_lock, target}
 -- the root that was READ is a level too low for the post: a new root goes over it
 abbrev pub is_below : Aim → Image → Bool
 is_below Own image = false
-is_below (Posts post) image = level_of image + 1 == post.level
+is_below (Posts post) image = post.level == level_of image + 1
 
 -- a leaf has the answer to a get; an inner node of level 0 there is none
 abbrev pub found_in : Image → Way

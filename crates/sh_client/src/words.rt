@@ -1,5 +1,5 @@
 // The words of a node or of an entry, that are to be stored.
-ghost use Rattle.std.specs.Prelude.{◌≡◌, ◌+◌, ◌*◌, ◌<◌, ◌≤◌, [], length, slice_get, Some};
+ghost use Rattle.std.specs.Prelude.{◌≡◌, ◌+◌, ◌*◌, ◌<◌, ◌≤◌, [], length, slice_index};
 ghost use Rattle.sh_base.specs.Parts.{parts_of};
 ghost use Rattle.sh_base.specs.Setting.{node_size};
 ghost use Rattle.sh_image.specs.Entries.{entry_words};
@@ -48,7 +48,7 @@ impl Words {
     /// A word. Condition: there are more words than the index.
     pub(crate) fn word(&self, index: u32) -> u64
         requires { index < length self.now }
-        ensures { slice_get self.now index ≡ Some result }
+        ensures { result ≡ slice_index self.now index }
     {
         prove!(index < self.count);
         self.words[index as usize]
@@ -64,6 +64,7 @@ impl Words {
     }
 
     /// Becomes the words of a leaf. Condition: a leaf of the setting.
+    #[tactic(auto, using(sh_base::proofs::LayoutLemmas::node_size_is, sh_base::proofs::LayoutLemmas::rear_at_small))]
     pub(crate) fn set_leaf(&mut self, cfg: &Config, image: &LeafImage)
         requires count { length image.now.entries ≡ cfg.now.parts.leaf }
         requires values { HaveWords (parts_of cfg.now) image.now.entries }
@@ -76,6 +77,7 @@ impl Words {
     }
 
     /// Becomes the words of an inner node. Condition: it has no more pairs than the setting allows.
+    #[tactic(auto, using(sh_base::proofs::LayoutLemmas::node_size_is, sh_base::proofs::LayoutLemmas::rear_at_small))]
     pub(crate) fn set_inner(&mut self, cfg: &Config, image: &InnerImage)
         requires { length image.now.pairs ≤ 2 * cfg.now.parts.leaf }
         ensures words { self.new ≡ inner_words (parts_of cfg.now) image.now }

@@ -26,6 +26,23 @@ impl Reading {
         }
     }
 
+    /// Begins a READ of another node, with nothing loaded. Condition: a node of this setting.
+    pub fn start(&mut self, node: u32)
+        requires { IsNode self.old.setting node }
+        ensures { self.new ≡ record self.old { reads = start_of node } }
+    {
+        self.node = node;
+        self.left = self.cfg.node_size();
+        self.image = None;
+    }
+
+    /// The node that is read.
+    pub fn node(&self) -> u32
+        ensures { result ≡ self.now.reads.node }
+    {
+        self.node
+    }
+
     /// The address of the word that is to be loaded next: from the node's last word down to its first. None exactly
     /// where all words are loaded.
     pub fn want(&self) -> Option<u32>

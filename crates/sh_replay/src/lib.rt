@@ -14,6 +14,7 @@ mod world;
 pub use laws::{replay_laws, replay_sure};
 pub use pairs::{pairs_in, sum_of};
 pub use replay::replay_top;
+pub use sh_sheet::generate;
 pub use world::World;
 
 #[cfg(test)]

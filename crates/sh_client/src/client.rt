@@ -1,0 +1,205 @@
+// The client: what it wants, and what it does with what it's fed.
+ghost use Rattle.std.specs.Prelude.{◌≡◌, ◌≤◌, ◌<◌, [], ◌++◌, IfOk, IfSome, length, vec_len};
+ghost use Rattle.sh_base.specs.Parts.{parts_of};
+ghost use Rattle.sh_base.specs.Setting.{all_seats};
+ghost use Rattle.sh_map.specs.Calls.{IsInRange};
+ghost use Rattle.sh_client.specs.declared.state.Phase.TheVariants.{Idle, Ended};
+ghost use Rattle.sh_client.specs.Machine.{fresh_machine};
+ghost use Rattle.sh_client.specs.Feeds.{begun, fed_by, finished, turned_by};
+ghost use Rattle.std.specs.Vec.{vec_capacity};
+ghost use Rattle.sh_client.specs.Giving.{makes, stored_entries};
+ghost use Rattle.sh_client.specs.Rests.{reply_of};
+ghost use Rattle.sh_client.specs.Sound.{IsPointCall};
+
+use crate::{Aim, Client, Phase, Tally, Words, Write};
+use sh_alloc::{Chunks, Spare};
+use sh_base::Config;
+use sh_map::{Call, Log, Reply, Row, log_call};
+use sh_read::Reading;
+use std::alloc::AllocError;
+
+impl Client {
+    /// A client of a seat, that is idle and has no spare node. Condition: a seat of this setting.
+    pub fn new(cfg: &Config, seat: u32) -> Result<Client, AllocError>
+        requires { seat < all_seats (parts_of cfg.now) }
+        ensures { IfOk result (λ c. c ≡ fresh_machine (parts_of cfg.now) seat) }
+    {
+        Ok(Client {
+            cfg: *cfg,
+            seat,
+            spare: Spare::none(),
+            tally: Tally::none(),
+            call: Call::Get { key: 1 },
+            reply: Reply::None,
+            reading: Reading::new(cfg, 1),
+            chunks: Chunks::new(cfg, seat),
+            body: Words::none(),
+            right: Words::none(),
+            phase: Phase::Idle,
+        })
+    }
+
+    /// Begins a call. Conditions: it's idle, and the call is in range and no range.
+    pub fn begin(&mut self, call: Call)
+        requires idle { self.old.phase ≡ Idle }
+        requires in_range { IsInRange self.old.setting call }
+        requires point { IsPointCall call }
+        ensures { self.new ≡ begun self.old call }
+    {
+        self.call = call;
+        self.phase = Phase::Root { aim: Aim::Own };
+    }
+
+    /// Takes what the wanted turn found: the event's word, the ticket, the number of a look that waits, the count of
+    /// later tickets, or 0 behind the leaving of a queue. It changes nothing where no turn is wanted.
+    pub fn fed(&mut self, word: u64)
+        ensures { self.new ≡ fed_by self.old word }
+    {
+        match self.phase {
+            Phase::Idle | Phase::Ended | Phase::Look { .. } => {}
+            Phase::Root { aim } => self.fed_root(aim, word),
+            Phase::Read { aim, top } => self.fed_read(aim, top, word),
+            Phase::Draw { aim, node } => self.fed_draw(aim, node),
+            Phase::Grab { aim, node } => self.fed_grab(aim, node, word),
+            Phase::Hold { aim, depth } => self.fed_hold(aim, depth, word),
+            Phase::Seek { aim, depth } => self.fed_seek(aim, depth, word),
+            Phase::Fill {
+                node,
+                depth,
+                fresh,
+                done,
+                write,
+                after,
+            } => self.fed_fill(node, depth, fresh, done, write, after),
+            Phase::Waiting {
+                node,
+                depth,
+                write,
+                after,
+            } => self.fed_waiting(node, depth, write, after, word),
+            Phase::Body {
+                node,
+                carry,
+                done,
+                write,
+                after,
+            } => self.fed_body(node, carry, done, write, after),
+            Phase::Unlock { node, after } => self.fed_unlock(node, after),
+            Phase::Leave { node, carry, after } => self.fed_leave(node, carry, after),
+            Phase::Top { post, root } => self.fed_top(post, root, word),
+            Phase::Raise {
+                post,
+                root,
+                fresh,
+                done,
+            } => self.fed_raise(post, root, fresh, done),
+            Phase::Swap { post, root, fresh } => self.fed_swap(post, root, fresh, word),
+        }
+    }
+
+    /// Takes a look that had its turn: with a depth the lock was handed over with it, and without one its word is to be
+    /// taken. It changes nothing where no look is wanted. Condition: a depth is at most the setting's bound.
+    pub fn fed_turn(&mut self, depth: Option<u32>)
+        requires { IfSome depth (λ d. d ≤ self.old.setting.bound) }
+        ensures { self.new ≡ turned_by self.old depth }
+    {
+        if let Phase::Look { aim, node } = self.phase {
+            match depth {
+                Some(depth) => self.handed(aim, node, depth),
+                None => self.phase = Phase::Grab { aim, node },
+            }
+        }
+    }
+
+    /// The call's answer. `Some` exactly where the call has ended.
+    pub fn reply(&self) -> Option<Reply>
+        ensures { result ≡ reply_of self.now }
+    {
+        match self.phase {
+            Phase::Ended => Some(self.reply),
+            Phase::Idle
+            | Phase::Root { .. }
+            | Phase::Read { .. }
+            | Phase::Draw { .. }
+            | Phase::Look { .. }
+            | Phase::Grab { .. }
+            | Phase::Hold { .. }
+            | Phase::Seek { .. }
+            | Phase::Fill { .. }
+            | Phase::Waiting { .. }
+            | Phase::Body { .. }
+            | Phase::Unlock { .. }
+            | Phase::Leave { .. }
+            | Phase::Top { .. }
+            | Phase::Raise { .. }
+            | Phase::Swap { .. } => None,
+        }
+    }
+
+    /// Takes the answered call away: it's idle again. Condition: the call has ended.
+    pub fn finish(&mut self)
+        requires { self.old.phase ≡ Ended }
+        ensures { self.new ≡ finished self.old }
+    {
+        self.phase = Phase::Idle;
+    }
+
+    /// The rows of the last range: none, while ranges aren't served.
+    pub fn rows(&self) -> &[Row]
+        ensures { result.now ≡ [] }
+    {
+        &[]
+    }
+
+    /// What it has counted since it was made.
+    pub fn tally(&self) -> Tally
+        ensures { result ≡ self.now.tally }
+    {
+        self.tally
+    }
+
+    /// Logs what the wanted event makes: an update's entry at the last store of its entry, of its rewritten leaf or of
+    /// its left half, and nothing at any other. Condition: there is room for one entry more.
+    pub fn log_made(&self, log: &mut Log)
+        requires { vec_len log.old < vec_capacity log.old }
+        ensures { log.new.items ≡ log.old.items ++ makes self.now }
+    {
+        match self.phase {
+            Phase::Body { done, write, .. } => self.log_stored(log, done, write),
+            Phase::Idle
+            | Phase::Root { .. }
+            | Phase::Read { .. }
+            | Phase::Draw { .. }
+            | Phase::Look { .. }
+            | Phase::Grab { .. }
+            | Phase::Hold { .. }
+            | Phase::Seek { .. }
+            | Phase::Fill { .. }
+            | Phase::Waiting { .. }
+            | Phase::Unlock { .. }
+            | Phase::Leave { .. }
+            | Phase::Top { .. }
+            | Phase::Raise { .. }
+            | Phase::Swap { .. }
+            | Phase::Ended => {}
+        }
+    }
+
+    // Logs what a store of the body makes.
+    fn log_stored(&self, log: &mut Log, done: u32, write: Write)
+        requires room { vec_len log.old < vec_capacity log.old }
+        requires done { done < length self.now.body }
+        ensures { log.new.items ≡ log.old.items ++ stored_entries self.now done write }
+    {
+        let count = self.body.count();
+        if done + 1 != count {
+            return;
+        }
+        match write {
+            Write::Entry { .. } | Write::Leaf | Write::LeftLeaf => {
+                log_call(log, self.seat, &self.call, &self.reply);
+            }
+            Write::Nothing | Write::Inner | Write::LeftInner => {}
+        }
+    }
+}

@@ -1,0 +1,152 @@
+// What a client wants.
+ghost use Rattle.std.specs.Prelude.{◌≡◌, ◌+◌, ◌<◌, ◌≤◌, length, slice_index};
+ghost use Rattle.sh_alloc.specs.Walks.{want_of as walk_wants};
+ghost use Rattle.sh_base.specs.Parts.{parts_of};
+ghost use Rattle.sh_base.specs.Layout.{lock_of, node_word};
+ghost use Rattle.sh_base.specs.Setting.{node_size, IsNode};
+ghost use Rattle.sh_lock.specs.Locks.{grab_of};
+ghost use Rattle.sh_read.specs.Reads.{wanted};
+ghost use Rattle.sh_client.specs.declared.state.Want.TheVariants as want;
+ghost use Rattle.sh_base.specs.declared.event.Event.TheVariants.{Store};
+ghost use Rattle.sh_client.specs.Sound.{IsFilled};
+ghost use Rattle.sh_client.specs.Wants.{count_of, load_of, lock_word_of, offset_of, want_of};
+
+use crate::{Client, Phase, Want, Write};
+use sh_alloc::ChunkWant;
+use sh_base::{Config, Event};
+use sh_lock::Grab;
+
+impl Client {
+    /// The turn that it wants. `Done` exactly where it has no call, or its call has ended.
+    pub fn want(&self) -> Want
+        ensures { result ≡ want_of self.now }
+    {
+        match self.phase {
+            Phase::Idle | Phase::Ended => Want::Done,
+            Phase::Root { .. } => Want::Event(Event::Load { at: 1 }),
+            Phase::Read { .. } | Phase::Hold { .. } => self.want_load(),
+            Phase::Draw { node, .. } => Want::Draw {
+                lock: self.cfg.lock_of(node),
+            },
+            Phase::Look { node, .. } => Want::Look {
+                lock: self.cfg.lock_of(node),
+            },
+            Phase::Grab { node, .. } => self.want_grab(node),
+            Phase::Seek { .. } | Phase::Top { .. } => self.want_count(),
+            Phase::Fill { fresh, done, .. } => self.want_fresh(fresh, done),
+            Phase::Waiting { node, .. } => Want::Waiting {
+                lock: self.cfg.lock_of(node),
+            },
+            Phase::Body {
+                node,
+                done,
+                write,
+                ..
+            } => self.want_body(node, done, write),
+            Phase::Unlock { node, .. } => self.want_unlock(node),
+            Phase::Leave { node, carry, .. } => Want::Leave {
+                lock: self.cfg.lock_of(node),
+                carry,
+            },
+            Phase::Raise { fresh, done, .. } => self.want_fresh(fresh, done),
+            Phase::Swap { root, fresh, .. } => Want::Event(Event::Exchange {
+                at: 1,
+                old: u64::from(root),
+                new: u64::from(fresh),
+            }),
+        }
+    }
+
+    // The READ's next word.
+    fn want_load(&self) -> Want
+        ensures { result ≡ load_of (wanted self.now.setting self.now.reads) }
+    {
+        match self.reading.want() {
+            Some(at) => Want::Event(Event::Load { at }),
+            None => Want::Done,
+        }
+    }
+
+    // The walk's next event.
+    fn want_count(&self) -> Want
+        ensures { result ≡ count_of (walk_wants self.now.setting self.now.walk) }
+    {
+        match self.chunks.want() {
+            ChunkWant::Event(event) => Want::Event(event),
+            ChunkWant::Got { .. } => Want::Done,
+            ChunkWant::AllSpent => Want::Done,
+        }
+    }
+
+    // The exchange of a lock word.
+    fn want_grab(&self, node: u32) -> Want
+        requires { IsNode self.now.setting node }
+        ensures { result ≡ want.Event (grab_of self.now.setting (lock_of self.now.setting node) self.now.seat) }
+    {
+        let lock = self.cfg.lock_of(node);
+        Want::Event(Grab::new(&self.cfg, lock, self.seat).event())
+    }
+
+    // The store of a word of a right half or a new root.
+    fn want_fresh(&self, fresh: u32, done: u32) -> Want
+        requires node { IsNode self.now.setting fresh }
+        requires done { done < length self.now.right }
+        requires size { length self.now.right ≡ node_size self.now.setting }
+        ensures { result ≡ want.Event (Store (node_word self.now.setting fresh + done) (slice_index self.now.right done)) }
+    {
+        let word = self.right.word(done);
+        let at = address(&self.cfg, fresh, done);
+        Want::Event(Event::Store { at, word })
+    }
+
+    // The store of a word that is to be written.
+    #[tactic(auto, using(sh_base::proofs::LayoutLemmas::node_size_is, sh_base::proofs::LayoutLemmas::rear_at_small))]
+    fn want_body(&self, node: u32, done: u32, write: Write) -> Want
+        requires node { IsNode self.now.setting node }
+        requires filled { IsFilled self.now.setting write self.now.body }
+        requires done { done < length self.now.body }
+        ensures { result ≡ want.Event (Store (node_word self.now.setting node + (offset_of self.now.setting write + done)) (slice_index self.now.body done)) }
+    {
+        let word = self.body.word(done);
+        let at = address(&self.cfg, node, self.offset(write) + done);
+        Want::Event(Event::Store { at, word })
+    }
+
+    // Where in its node a write begins.
+    #[tactic(auto, using(sh_base::proofs::LayoutLemmas::entry_high, sh_base::proofs::LayoutLemmas::node_size_is))]
+    fn offset(&self, write: Write) -> u32
+        requires { IsFilled self.now.setting write self.now.body }
+        ensures at { result ≡ offset_of self.now.setting write }
+        ensures within { result + length self.now.body ≤ node_size self.now.setting }
+    {
+        match write {
+            Write::Entry { index } => self.cfg.entry_at(index),
+            Write::Nothing => 0,
+            Write::Leaf => 0,
+            Write::LeftLeaf => 0,
+            Write::Inner => 0,
+            Write::LeftInner => 0,
+        }
+    }
+
+    // The store of 0 to a lock word.
+    fn want_unlock(&self, node: u32) -> Want
+        requires { IsNode self.now.setting node }
+        ensures { result ≡ want.Event (Store (lock_word_of self.now.setting node) 0) }
+    {
+        let lock = self.cfg.lock_of(node);
+        Want::Event(Event::Store {
+            at: self.cfg.lock_word(lock),
+            word: 0,
+        })
+    }
+}
+
+// The address of a node's word.
+fn address(cfg: &Config, node: u32, offset: u32) -> u32
+    requires node { IsNode (parts_of cfg.now) node }
+    requires offset { offset < node_size (parts_of cfg.now) }
+    ensures { result ≡ node_word (parts_of cfg.now) node + offset }
+{
+    cfg.node_word(node) + offset
+}

@@ -209,7 +209,7 @@ module _ (p : ConfigParts) (ok : IsSetting p) (words : List ℕ) (Has Now : ℕ 
     goes_up : (image : Image) (to : Aim) → aim ≡ to → IsImageOf s level named.low image → is_below to image ≡ true → Here' (grown M to reads.node)
     goes_up image Own own img e mv = cc
     goes_up image (Posts post) own img e mv =
-        let same : level_of image + 1 ≡ post.level = eqb-true (level_of image + 1) post.level e in
+        let same : level_of image + 1 ≡ post.level = sym (eqb-true post.level (level_of image + 1) e) in
         grows_to post (lowest m.spare) own (omega (arith, same, img.level_is)) refl mv
 
     goes_way : (image : Image) (t : Bool) → (top && is_below aim image) ≡ t → IsImageOf s level named.low image → Holds image → Here' (went M aim image (if t then way.Grow else way_by p m.call aim reads.node image (hop_of image key (target aim))))

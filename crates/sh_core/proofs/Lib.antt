@@ -8,6 +8,7 @@ pub mod Spares
 pub mod Raising
 pub mod OnWay
 pub mod Calls
+pub mod Opening
 pub mod Rights
 pub mod OwnStores
 pub mod Roots

@@ -8,7 +8,7 @@ use Rattle.std.proofs.lemmas.Bool.{cases_lt}
 use Rattle.std.proofs.lemmas.List.{length-replicate, get_or-replicate}
 use Rattle.sh_base.specs.declared.config.ConfigParts.{ConfigParts}
 use Rattle.sh_base.specs.Setting.{node_size, IsNode, IsSetting}
-use Rattle.sh_base.specs.Layout.{root_word, counter_word, node_word, first_node}
+use Rattle.sh_base.specs.Layout.{node_word, first_node}
 use Rattle.sh_base.specs.Places.{Site, Own, Root, Counter, Lock, Node, address, IsSite}
 use Rattle.sh_base.proofs.LayoutLemmas.{part_word}
 use Rattle.sh_base.proofs.PlacesLemmas.{are_places_apart}

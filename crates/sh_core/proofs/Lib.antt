@@ -9,6 +9,9 @@ pub mod Raising
 pub mod OnWay
 pub mod Calls
 pub mod Opening
+pub mod Pending
+pub mod Points
+pub mod Books
 pub mod Rights
 pub mod OwnStores
 pub mod Roots

@@ -3,3 +3,4 @@ pub mod Fits
 pub mod Keeps
 pub mod Core
 pub mod Opening
+pub mod Books

@@ -138,7 +138,7 @@ module _ (p : ConfigParts) (ok : IsSetting p) (words : List ℕ) (Has Now : ℕ 
         seated = k.work.seated;
         duty = None;
         fits = rel_fits p t i a.first N (N + 1) q None n carry Ends record { real = real; depth = depth; held = put_here s.hold (lock_of p n) (Held (Seat i) depth); carries = carries }
-            (refl, decided_entry p t.log i a.first N (N + 1) m.call m.reply record { entry = entry; is = made; stands = at_last s.log entry; from = omega (arith, k.first, k.seen); below = omega arith });
+            (refl, decided_entry p t i a.first N (N + 1) m.call m.reply record { entry = entry; is = made; stands = at_last s.log entry; from = omega (arith, k.first, k.seen); below = omega arith });
         owes = tt;
         hands = subst (Hands t i) (sym (rel_holding p q n carry Ends)) (keeps_hands t (lock_of p n) (Held (Seat i) depth) refl k.work.hands);
         waits = subst (Waits s i) none k.work.waits;

@@ -98,7 +98,7 @@ module _ (p : ConfigParts) (ok : IsSetting p) (words : List ℕ) (Has Now : ℕ 
         seated = k.work.seated;
         duty = None;
         fits = rel_fits p t i a.first a.point N q None n carry Ends record { real = u.real; depth = u.depth; held = put_here s.hold (lock_of p n) (Held (Seat i) u.depth); carries = u.carries }
-            (refl, decided_entry p t.log i a.first a.point N m.call m.reply (entry_now t a.seen log k.seen w.entry));
+            (refl, decided_entry p t i a.first a.point N m.call m.reply (entry_now t a.seen log k.seen w.entry));
         owes = tt;
         hands = subst (Hands t i) (sym (rel_holding p q n carry Ends)) (keeps_hands p ok words Has Now Out i s b a m t (lock_of p n) (Held (Seat i) u.depth) refl k.work.hands);
         waits = waits_posted s i post (subst (Waits s i) z.plan.duty_is k.work.waits);

@@ -12,6 +12,7 @@ pub mod Calls
 pub mod Rights
 pub mod OwnStores
 pub mod Roots
+pub mod Skipping
 pub mod Bodies
 pub mod BodyEnds
 pub mod InnerBodies

@@ -21,5 +21,7 @@ pub mod Standing
 pub mod LeafPlans
 pub mod LeafHalves
 pub mod LeafDecisions
+pub mod InnerHalves
+pub mod InnerDecisions
 pub mod Turns
 pub mod LocalLaws

@@ -21,5 +21,6 @@ pub mod Standing
 pub mod LeafPlans
 pub mod LeafHalves
 pub mod LeafDecisions
+pub mod HoldTurns
 pub mod Turns
 pub mod LocalLaws

@@ -84,7 +84,7 @@ module _ (p : ConfigParts) (ok : IsSetting p) (words : List ℕ) (Has Now : ℕ 
     splits e d None low mv =
         let f = K.work.fits in
         quiet_by p ok words Has Now Out i s b a m (Holds Own depth) (Seek Own depth) m.spare m.tally m.reply rd (start_of p i) m.body m.right K refl
-        (f.0, f.1, f.2, record { standing = is; image = LeafImage x; accepted_is = accepted_is; split = e }, begins_walk p ok i m.spare (none_spare s i m.spare K.work.spares low))
+        (f.0, f.1, f.2, record { standing = is; image = LeafImage x; accepted_is = accepted_is; split = e }, begins_walk p ok s i m.spare (none_spare s i m.spare K.work.spares low))
         (owes (length s.log) m.reply) K.work.spares K.work.hands refl (λ server q. cc) mv
 
     -- each decision on the leaf that stands

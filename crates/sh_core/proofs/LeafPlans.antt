@@ -127,10 +127,10 @@ answers p ws call = answer_of (entries_of p ws) (call_key call)
 abbrev pub Decided : ConfigParts → Scene → (seat n first point : ℕ) → Call → Decision → Type 0
 Decided p s i n f q call decision.Restart = Unit {0}
 Decided p s i n f q call (decision.Right next) = ⊥
-Decided p s i n f q call decision.Absent = IsDecided p s.log i f q (length s.log) call (answers p (s.node n) call) × (entries_by i call (answers p (s.node n) call) ≡ [])
+Decided p s i n f q call decision.Absent = IsDecided p s i f q (length s.log) call (answers p (s.node n) call) × (entries_by i call (answers p (s.node n) call) ≡ [])
 Decided p s i n f q call (decision.Entry index) = PlansEntry p s i (entries_by i call (answers p (s.node n) call)) (entry_words (entry_left p call (leaf_in p (s.node n)) index)) n index
 Decided p s i n f q call (decision.Rewrite index) = PlansLeaf p s i (entries_by i call (answers p (s.node n) call)) (leaf_words (rewritten (leaf_in p (s.node n)) index (left_key call) (left_value p call))) n
-Decided p s i n f q call (decision.Worn version) = IsDecided p s.log i f q (length s.log) call (reply.Worn version) × (entries_by i call (reply.Worn version) ≡ [])
+Decided p s i n f q call (decision.Worn version) = IsDecided p s i f q (length s.log) call (reply.Worn version) × (entries_by i call (reply.Worn version) ≡ [])
 Decided p s i n f q call decision.Split = SplitsFor p (s.node n) call
 Decided p s i n f q call decision.Skip = ⊥
 Decided p s i n f q call decision.Add = ⊥
@@ -148,7 +148,7 @@ record IsChange (p : ConfigParts) (s : Scene) (i n f q : ℕ) (call : Call) (ind
   pub map : (x : LeafEntry) → x.key ≡ left_key call → x.value ≡ left_value p call → map_of_entries (set (entries_of p (s.node n)) index x) ≡ changed (map_of_entries (entries_of p (s.node n))) change
   pub whole_once : HasKeysOnce (rewritten (leaf_in p (s.node n)) index (left_key call) (left_value p call)).entries
   pub whole_map : map_of_entries (rewritten (leaf_in p (s.node n)) index (left_key call) (left_value p call)).entries ≡ changed (map_of_entries (entries_of p (s.node n))) change
-  pub worn : (version : ℕ) → version ≡ last_version p → IsDecided p s.log i f q (length s.log) call (reply.Worn version) × (entries_by i call (reply.Worn version) ≡ [])
+  pub worn : (version : ℕ) → version ≡ last_version p → IsDecided p s i f q (length s.log) call (reply.Worn version) × (entries_by i call (reply.Worn version) ≡ [])
 
 module _ (p : ConfigParts) (ok : IsSetting p) (words : List ℕ) (s : Scene) (g : Ground p words s) (i n low f q : ℕ) (linked : s.class n ≡ Linked 0 low) (began : f ≤ length s.log) where
   abbrev x : Leaf
@@ -237,7 +237,7 @@ module _ (p : ConfigParts) (ok : IsSetting p) (words : List ℕ) (s : Scene) (g 
     nz = omega (arith, some)
 
     put_worn : (value : List ℕ) (version : ℕ) → version ≡ last_version p → D (Put key value) (decision.Worn version)
-    put_worn value version e = (omega (arith, e), refl)
+    put_worn value version e = (e, refl)
 
     put_change : (value : List ℕ) (index : ℕ) → length value ≡ p.value_words → IsPlace es key index → IsChange p s i n f q (Put key value) index
     put_change value index long place = record {
@@ -256,7 +256,7 @@ module _ (p : ConfigParts) (ok : IsSetting p) (words : List ℕ) (s : Scene) (g 
     }
 
     del_worn : (version : ℕ) → version ≡ last_version p → D (Del key) (decision.Worn version)
-    del_worn version e = (omega (arith, e), refl)
+    del_worn version e = (e, refl)
 
     del_change : (index : ℕ) → IsFirstWith es key index → IsChange p s i n f q (Del key) index
     del_change index first = record {
@@ -279,7 +279,7 @@ module _ (p : ConfigParts) (ok : IsSetting p) (words : List ℕ) (s : Scene) (g 
     lacks none = record { at = length s.log; from = began; below = omega arith; absent = ap (λ (es : List LogEntry). get (map_of es) key) (take-length s.log) ∙ sym (body.map key nz from below) ∙ held_none es key none }
 
     absent : HasNone es key → D (Del key) decision.Absent
-    absent none = subst (λ (o : Option (List ℕ)). IsDecided p s.log i f q (length s.log) (Del key) (reply_with o) × (entries_by i (Del key) (reply_with o) ≡ [])) (sym (held_none es key none)) (lacks none, refl)
+    absent none = subst (λ (o : Option (List ℕ)). IsDecided p s i f q (length s.log) (Del key) (reply_with o) × (entries_by i (Del key) (reply_with o) ≡ [])) (sym (held_none es key none)) (lacks none, refl)
 
     dels : (o : Option ℕ) → index_of es key ≡ o → D (Del key) (del_in p x o)
     dels (Some index) e = changes (Del key) index from below some (del_change index (first_found es key index e))

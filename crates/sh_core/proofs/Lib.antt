@@ -23,5 +23,6 @@ pub mod LeafHalves
 pub mod LeafDecisions
 pub mod InnerHalves
 pub mod InnerDecisions
+pub mod HoldTurns
 pub mod Turns
 pub mod LocalLaws

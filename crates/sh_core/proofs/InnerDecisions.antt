@@ -1,5 +1,5 @@
 -- The decisions under the lock of the node that a post goes to.
-use Rattle.std.proofs.Common.{◌≡◌, ◌≢◌, ℕ, ◌+◌, ◌<◌, List, [], ◌++◌, length, Option, Some, None, refl, sym, ap, ◌∙◌, subst, arith}
+use Rattle.std.proofs.Common.{◌≡◌, ◌≢◌, ℕ, ◌<◌, List, length, Option, Some, None, refl, sym, ap, ◌∙◌, subst}
 use Rattle.sh_base.specs.declared.config.ConfigParts.{ConfigParts}
 use Rattle.sh_base.specs.Setting.{IsSetting}
 use Rattle.sh_image.specs.declared.inner.Image.{Image}
@@ -38,7 +38,7 @@ use Rattle.sh_core.specs.Fits.{IsPosting, Owes, PlansInner}
 use Rattle.sh_core.specs.Keeps.{Keeps}
 use Rattle.sh_core.proofs.Others.{owes_on}
 use Rattle.sh_core.proofs.Frame.{next, me, with, same_here, same_grows, Before, moves_to, one_log}
-use Rattle.sh_core.proofs.Decided.{anew, quiet_by, quiet_with}
+use Rattle.sh_core.proofs.Decided.{quiet_by, quiet_with}
 use Rattle.sh_core.proofs.Skipping.{worn_more, skips_act, keeps_skipped}
 use Rattle.sh_core.proofs.Spares.{takes_lowest, none_spare}
 use Rattle.sh_core.proofs.Raising.{begins_walk}

@@ -1,5 +1,5 @@
 -- The turn of a wanted event keeps the invariant, by what the client is at: all but walks over the counters.
-use Rattle.std.proofs.Common.{◌≡◌, ◌≢◌, ℕ, ◌+◌, ◌-◌, ◌<◌, ◌≤◌, Bool, true, false, List, [], ◌∷◌, ◌++◌, length, Option, Some, None, refl, sym, ap, ◌∙◌, subst, arith, append-nil}
+use Rattle.std.proofs.Common.{◌≡◌, ℕ, ◌+◌, ◌-◌, Bool, true, false, List, ◌++◌, length, Some, None, sym, subst}
 use Rattle.std.specs.Prelude.{if◌then◌else◌, nat_lt}
 use Rattle.sh_base.specs.declared.config.ConfigParts.{ConfigParts}
 use Rattle.sh_base.specs.declared.event.Event.{Event}
@@ -9,7 +9,6 @@ use Rattle.sh_base.specs.Layout.{node_word}
 use Rattle.sh_base.specs.Memory.{apply, found_by}
 use Rattle.sh_map.specs.declared.log.Entry.{Entry as LogEntry}
 use Rattle.sh_scene.specs.Scene.{Scene}
-use Rattle.sh_client.specs.declared.state.Want.{Want}
 use Rattle.sh_client.specs.declared.state.Want.TheVariants as want
 use Rattle.sh_client.specs.declared.state.Aim.{Aim}
 use Rattle.sh_client.specs.declared.state.Phase.{Phase}

@@ -21,6 +21,8 @@ pub mod Standing
 pub mod LeafPlans
 pub mod LeafHalves
 pub mod LeafDecisions
+pub mod InnerHalves
+pub mod InnerDecisions
 pub mod HoldTurns
 pub mod Turns
 pub mod LocalLaws

@@ -17,5 +17,6 @@ pub mod BodyEnds
 pub mod InnerBodies
 pub mod UnderLock
 pub mod Standing
+pub mod Walking
 pub mod Turns
 pub mod LocalLaws

@@ -119,8 +119,8 @@ module _ (p : ConfigParts) (ok : IsSetting p) (now : List ℕ) (s u : Scene) (i 
       (join_after p (λ o. o ≢ Seat i) s u t ch.0 act.0 (λ n. refl) (λ n. refl), act.1)
 
   -- the call is answered by its entry
-  pub skips_decided : IsDecided p t.log i a.first a.point N m.call m.reply
-  skips_decided = decided_entry p u.log i a.first a.point N m.call m.reply owed.entry
+  pub skips_decided : IsDecided p t i a.first a.point N m.call m.reply
+  skips_decided = decided_entry p t i a.first a.point N m.call m.reply owed.entry
 
   work_skipped : (first : ℕ) (tally : Tally) (reads : Reads) (walk : Walk) (body right : List ℕ) (to : Phase) → let n : Machine = with p i m tally reads walk body right to in tally.skipped_spent + tally.skipped_worn ≡ count + 1
       → Fits p t i first a.point N n None to → Hands u i (holding p n to) → IsAtWork p t i first a.point N n
@@ -147,5 +147,5 @@ module _ (p : ConfigParts) (ok : IsSetting p) (now : List ℕ) (s u : Scene) (i 
       → Keeps p t i (ending i (me p i a m ph) s.log (with p i m tally reads walk body right Ended))
   keeps_ended tally reads walk body right sum hands was =
       let w = subst (Owes s i a.first a.point a.seen m.call m.reply) duty k.work.owes in
-      let end = decided_ends p s.log s.log [] i a m (sym (append-nil s.log)) k.seen k.first m.call m.reply (decided_entry p s.log i a.first a.point a.seen m.call m.reply w.entry) in
+      let end = decided_ends p s s.log [] i a m (sym (append-nil s.log)) k.seen k.first m.call m.reply (decided_entry p s i a.first a.point a.seen m.call m.reply w.entry) in
       ends_now p s t i (me p i a m ph) (with p i m tally reads walk body right Ended) s.log k same.log (omega arith) k.seen (work_skipped N tally reads walk body right Ended sum refl hands) end.answered end.from end.past was refl

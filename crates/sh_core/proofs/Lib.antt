@@ -18,5 +18,6 @@ pub mod InnerBodies
 pub mod UnderLock
 pub mod Standing
 pub mod Walking
+pub mod Topping
 pub mod Turns
 pub mod LocalLaws

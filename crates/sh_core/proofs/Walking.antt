@@ -1,22 +1,25 @@
 -- A walk over the counters is fed the word that its event found: what the counters are bounded by, and what it has passed.
-use Rattle.std.proofs.Common.{◌≡◌, ◌≢◌, ℕ, ◌+◌, ◌-◌, ◌<◌, ◌≤◌, Bool, true, false, List, [], ◌++◌, get_or, set, refl, sym, ap, ◌∙◌, subst, inl, inr, arith}
+use Rattle.std.proofs.Common.{◌≡◌, ◌≢◌, ℕ, ◌+◌, ◌-◌, ◌<◌, ◌≤◌, Bool, true, false, List, [], ◌++◌, get_or, set, Some, refl, sym, ap, ◌∙◌, subst, inl, inr, arith, append-nil}
 use Rattle.std.specs.Prelude.{◌%◌, ◌^◌, if◌then◌else◌, nat_lt}
 use Rattle.std.proofs.Math.Nat.{mod-lt, mod-eq_of_lt, add-mod_right}
 use Rattle.std.proofs.lemmas.Bool.{cases_lt}
+use Rattle.std.proofs.lemmas.Bool.Decides.{nat_tests}
 use mathlib.Core.Logic.{dite}
 use native.Mathlib.Decide.{ℕ_discrete}
 use Rattle.sh_base.specs.declared.config.ConfigParts.{ConfigParts}
 use Rattle.sh_base.specs.declared.event.Event.{Event}
 use Rattle.sh_base.specs.declared.event.Event.TheVariants.{Load, Add}
 use Rattle.sh_base.specs.Setting.{all_seats, IsSetting}
-use Rattle.sh_base.specs.Layout.{counter_word}
+use Rattle.sh_base.specs.Layout.{counter_word, first_node}
 use Rattle.sh_base.specs.Places.{Counter}
 use Rattle.sh_base.specs.Memory.{apply, found_by}
+use Rattle.sh_alloc.specs.declared.state.NodeRange.{NodeRange}
 use Rattle.sh_alloc.specs.declared.state.Phase.{Phase as Step}
 use Rattle.sh_alloc.specs.declared.state.Phase.TheVariants.{Loading, Adding, Found, Spent}
 use Rattle.sh_alloc.specs.declared.state.Walk.{Walk}
 use Rattle.sh_alloc.specs.declared.state.ChunkWant.{ChunkWant}
 use Rattle.sh_alloc.specs.declared.state.ChunkWant.TheVariants as chunk
+use Rattle.sh_alloc.specs.Spares.{lowest, nodes_from, without_lowest}
 use Rattle.sh_alloc.specs.Walks.{walk_at, with_phase, server_at, next_of, fed_in as walk_fed_in, fed_by as walk_fed, want_in as walk_want_in, want_of as walk_wants}
 use Rattle.sh_scene.specs.Scene.{Seat, Scene, put}
 use Rattle.sh_scene.specs.Ground.{Ground}
@@ -27,7 +30,7 @@ use Rattle.sh_scene.proofs.Joins.{nothing_done}
 use Rattle.sh_scene.proofs.Events.{added}
 use Rattle.sh_own.specs.Counters.{Bounded}
 use Rattle.sh_own.proofs.Late.{bounded, finds_below, raises}
-use Rattle.sh_own.proofs.Own.{draw_act, spent_act}
+use Rattle.sh_own.proofs.Own.{draw_act, drawn_mine, spent_act}
 use Rattle.sh_client.specs.declared.state.Want.TheVariants as want
 use Rattle.sh_client.specs.declared.state.Phase.{Phase}
 use Rattle.sh_client.specs.Machine.{Machine}
@@ -36,11 +39,12 @@ use Rattle.sh_core.specs.Actors.{Actor}
 use Rattle.sh_core.specs.Fits.{AreSpent, ArePassed, IsSeeking}
 use Rattle.sh_core.specs.Keeps.{Keeps}
 use Rattle.sh_core.specs.Core.{WantsAdd, SomeAdds, Inv, Moves}
-use Rattle.sh_core.proofs.Others.{others_add, adds_before, bounded_less, turn_to}
-use Rattle.sh_core.proofs.Frame.{me, at, Before, one_log}
+use Rattle.sh_core.proofs.Others.{Grows, others_add, adds_before, bounded_less, turn_to}
+use Rattle.sh_core.proofs.Frame.{me, at, SameNodes, Before, one_log}
+use Rattle.sh_core.proofs.Spares.{IsTaken, takes_lowest}
 use Rattle.sh_core.proofs.UnderLock.{is_lt, not_lt}
 
-event_is : (x y : Event) → want.Event x ≡ want.Event y → x ≡ y
+pub event_is : (x y : Event) → want.Event x ≡ want.Event y → x ≡ y
 event_is x y e = cc
 
 -- ---- each server is one of those that a walk passes once round
@@ -85,8 +89,28 @@ pub record Counts (p : ConfigParts) (i : ℕ) (s : Scene) (now : List ℕ) (f : 
   pub act : Change p i s (with_counters s f) × Ground p now (with_counters s f)
   pub rise : (server : ℕ) → s.counter server ≤ f server
 
+-- they leave the rest of the scene
+pub counts_alone : (p : ConfigParts) (i : ℕ) (s : Scene) (now : List ℕ) (f : ℕ → ℕ) → Counts p i s now f → SameNodes s (with_counters s f)
+counts_alone p i s now f c = record { log = refl; class = λ n. refl; post = λ n. refl; counts = c.rise }
+
 pub counted_rise : (s : Scene) (server v : ℕ) → s.counter v ≤ counted_on s server v
 counted_rise s server v = put_case (λ z. s.counter v ≤ z) s.counter server (s.counter server + 1) v (λ e. omega (arith, ap s.counter e)) (λ ne. omega arith)
+
+-- a chunk is drawn
+pub drawn_on : (p : ConfigParts) (i : ℕ) (s : Scene) (server e n : ℕ) → Change p i s (drawn p s server i) → e ≤ n → Grows s (drawn p s server i) i e n
+drawn_on p i s server e n ch le = record { more = []; longer = sym (append-nil s.log); linked = ch.linked; pending = λ m q. q; counts = counted_rise s server; later = le }
+
+-- its lowest node is taken, and these are spare
+abbrev pub rest_of : ConfigParts → (server chunk : ℕ) → NodeRange
+rest_of p server chunk = without_lowest (nodes_from (first_node p server chunk) p.chunk_nodes)
+
+some_lowest : (first count : ℕ) → 1 ≤ count → lowest (nodes_from first count) ≡ Some first
+some_lowest first count le = grind (arith, nat_tests)
+
+pub takes_chunk : (p : ConfigParts) (ok : IsSetting p) (s : Scene) (i server : ℕ) → IsTaken (drawn p s server i) i (first_node p server (s.counter server)) (rest_of p server (s.counter server))
+takes_chunk p ok s i server =
+    let fresh : ℕ = first_node p server (s.counter server) in
+    takes_lowest (drawn p s server i) i (nodes_from fresh p.chunk_nodes) (λ n is. drawn_mine p s i server n record { from = is.0; below = is.1 }) fresh (some_lowest fresh p.chunk_nodes ok.ranged.chunk_nodes.0)
 
 module _ (p : ConfigParts) (ok : IsSetting p) (words : List ℕ) (Has Now : ℕ → Actor → Type 0) (Out : ℕ → ℕ → ℕ → Type 0) (i : ℕ) (s : Scene) (b : Before p words Has Out s) (a : Actor) (m : Machine) (ph : Phase) (h : Has i (me p i a m ph)) where
   -- ---- the bounds of the counters

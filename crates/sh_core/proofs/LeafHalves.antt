@@ -1,5 +1,5 @@
 -- A leaf that was READ under its lock and is to be split: its halves, with a node of the seat's own.
-use Rattle.std.proofs.Common.{◌≡◌, ◌≢◌, ℕ, ◌≤◌, Bool, true, false, List, length, None, refl, sym, ap, ◌∙◌, subst, arith}
+use Rattle.std.proofs.Common.{Option, ◌≡◌, ◌≢◌, ℕ, ◌≤◌, Bool, true, false, List, length, None, refl, sym, ap, ◌∙◌, subst, arith}
 use Rattle.std.specs.Prelude.{if◌then◌else◌}
 use Rattle.sh_base.specs.declared.config.ConfigParts.{ConfigParts}
 use Rattle.sh_base.specs.Setting.{node_size, IsSetting}
@@ -22,19 +22,42 @@ use Rattle.sh_read.proofs.CauseLemmas.{image_spelled}
 use Rattle.sh_descend.specs.declared.Hop.{Hop}
 use Rattle.sh_descend.specs.declared.Hop.TheVariants.{Here, Right as HopRight, Down, Restart as HopRestart}
 use Rattle.sh_descend.specs.Descent.{hop_of}
-use Rattle.sh_scene.specs.Scene.{Linked, Scene}
-use Rattle.sh_scene.specs.Nodes.{low_in, IsStandingLeaf}
+use Rattle.sh_base.specs.Layout.{lock_of}
+use Rattle.sh_base.proofs.LayoutLemmas.{node_size_is}
+use Rattle.sh_alloc.specs.declared.state.NodeRange.{NodeRange}
+use Rattle.sh_alloc.specs.declared.state.Walk.{Walk}
+use Rattle.sh_scene.specs.Scene.{Linked, Seat, Held, Scene}
+use Rattle.sh_scene.specs.Nodes.{entries_of, low_in, IsStandingLeaf}
 use Rattle.sh_scene.specs.Ground.{Ground}
 use Rattle.sh_scene.proofs.Spelled.{leaf_is}
 use Rattle.sh_known.proofs.HandLemmas.{here_is}
+use Rattle.sh_client.specs.declared.state.Post.{Post}
+use Rattle.sh_client.specs.declared.state.Tally.{Tally}
+use Rattle.sh_client.specs.declared.state.Write.TheVariants.{LeftLeaf}
+use Rattle.sh_client.specs.declared.state.Phase.{Phase}
+use Rattle.sh_client.specs.declared.state.Phase.TheVariants.{Fill}
+use Rattle.sh_client.specs.Machine.{Machine}
+use Rattle.sh_client.specs.declared.state.Then.{Then}
 use Rattle.sh_client.specs.declared.state.Aim.TheVariants.{Own, Posts}
 use Rattle.sh_client.specs.declared.state.Then.TheVariants.{Starts}
 use Rattle.sh_client.specs.declared.state.Decision.TheVariants as decision
 use Rattle.sh_client.specs.Aims.{call_key, is_node, left_key, left_value, post_of}
 use Rattle.sh_client.specs.Deciding.{decided_by, decision_of}
-use Rattle.sh_core.specs.Fits.{HadNone, IsToSplit, PlansLeftLeaf}
+use Rattle.sh_core.specs.Fits.{HadNone, IsToSplit, PlansLeftLeaf, Fits}
+use Rattle.sh_core.proofs.Decided.{anew}
+use Rattle.sh_core.proofs.Spares.{IsTaken}
 use Rattle.sh_core.proofs.Standing.{standing_leaf}
 use Rattle.sh_core.proofs.LeafPlans.{Decided, SplitsFor, covers, lacks}
+
+-- the words of both halves, and the post of the right one behind the left one
+abbrev pub left_words : ConfigParts → (leaf : List ℕ) → Call → (fresh : ℕ) → List ℕ
+left_words p leaf call fresh = leaf_words (left_half (leaf_in p leaf) (left_key call) (left_value p call) fresh)
+
+abbrev pub right_words : ConfigParts → (leaf : List ℕ) → Call → List ℕ
+right_words p leaf call = leaf_words (right_half (leaf_in p leaf) (left_key call) (left_value p call))
+
+abbrev pub half_posts : ConfigParts → (leaf : List ℕ) → Call → (fresh : ℕ) → Then
+half_posts p leaf call fresh = Starts (Posts (post_of (separator_of (entries_of p leaf) (left_key call) (left_value p call)) fresh 1))
 
 module _ (p : ConfigParts) (ok : IsSetting p) (words : List ℕ) (s : Scene) (g : Ground p words s) (i n low : ℕ) (linked : s.class n ≡ Linked 0 low) where
   abbrev x : Leaf
@@ -43,8 +66,7 @@ module _ (p : ConfigParts) (ok : IsSetting p) (words : List ℕ) (s : Scene) (g 
   body : IsStandingLeaf p s.log (s.node n)
   body = (g.sits n 0 low linked).body
 
-  pub half_made : (call : Call) (fresh : ℕ) → SplitsFor p (s.node n) call
-      → PlansLeftLeaf p s i (entries_by i call reply.None) (leaf_words (left_half x (left_key call) (left_value p call) fresh)) (leaf_words (right_half x (left_key call) (left_value p call))) n fresh (Starts (Posts (post_of (separator_of x.entries (left_key call) (left_value p call)) fresh 1)))
+  half_made : (call : Call) (fresh : ℕ) → SplitsFor p (s.node n) call → PlansLeftLeaf p s i (entries_by i call reply.None) (left_words p (s.node n) call fresh) (right_words p (s.node n) call) n fresh (half_posts p (s.node n) call fresh)
   half_made (Get key) fresh h = absurd h
   half_made (Del key) fresh h = absurd h
   half_made (Range lo hi) fresh h = absurd h
@@ -65,6 +87,17 @@ module _ (p : ConfigParts) (ok : IsSetting p) (words : List ℕ) (s : Scene) (g 
         right_is = refl;
         after_is = refl;
       }
+
+  -- the halves stand ready, and the fresh node is to be filled
+  pub half_fits : (m : Machine) (f q e depth fresh : ℕ) (rest : NodeRange) (tally : Tally) (reads : Reads) (walk : Walk) (duty : Option Post) → duty ≡ None → s.hold (lock_of p n) ≡ Held (Seat i) depth → IsTaken s i fresh rest → SplitsFor p (s.node n) m.call
+      → let ph : Phase = Fill n depth fresh 0 LeftLeaf (half_posts p (s.node n) m.call fresh) in Fits p s i f q e (anew p i m rest tally reply.None reads walk (left_words p (s.node n) m.call fresh) (right_words p (s.node n) m.call) ph) duty ph
+  half_fits m f q e depth fresh rest tally reads walk duty none held taken h = (
+    held,
+    (none, half_made m.call fresh h),
+    record { own = taken.own; under = omega (arith, taken.follows); words = λ o lt. absurd (omega (arith, lt)) },
+    omega (arith, node_size_is p),
+    (g.sits n 0 low linked).real,
+  )
 
   -- the map has nothing at the key
   pub put_misses : (f key : ℕ) (value : List ℕ) → f ≤ length s.log → SplitsFor p (s.node n) (Put key value) → HadNone s.log f (length s.log) key

@@ -236,9 +236,6 @@ module _ (p : ConfigParts) (ok : IsSetting p) (words : List ℕ) (s : Scene) (g 
     nz : key ≢ 0
     nz = omega (arith, some)
 
-    put_worn : (value : List ℕ) (version : ℕ) → version ≡ last_version p → D (Put key value) (decision.Worn version)
-    put_worn value version e = (e, refl)
-
     put_change : (value : List ℕ) (index : ℕ) → length value ≡ p.value_words → IsPlace es key index → IsChange p s i n f q (Put key value) index
     put_change value index long place = record {
       change = change.Put key value;
@@ -252,11 +249,8 @@ module _ (p : ConfigParts) (ok : IsSetting p) (words : List ℕ) (s : Scene) (g 
       map = λ e k v. entry_placed x index e (λ z. nz (sym k ∙ z)) (subst (λ (z : ℕ). IsPlace es z index) (sym k) place) ∙ (λ z. put (map_of_entries es) (k z) (v z));
       whole_once = rewritten_placed_once x index body.once key value place;
       whole_map = elim place [ inl h ↦ rewritten_over x index key value nz h | inr h ↦ rewritten_new x index key value nz h.0 h.1 ];
-      worn = put_worn value;
+      worn = λ version e. (e, refl);
     }
-
-    del_worn : (version : ℕ) → version ≡ last_version p → D (Del key) (decision.Worn version)
-    del_worn version e = (e, refl)
 
     del_change : (index : ℕ) → IsFirstWith es key index → IsChange p s i n f q (Del key) index
     del_change index first = record {
@@ -271,7 +265,7 @@ module _ (p : ConfigParts) (ok : IsSetting p) (words : List ℕ) (s : Scene) (g 
       map = λ e k v. entry_removed x index key e nz k body.once first;
       whole_once = rewritten_removed_once x index body.once (replicate p.value_words 0) first.in_range;
       whole_map = rewritten_removed x index key (replicate p.value_words 0) nz body.once first;
-      worn = del_worn;
+      worn = λ version e. (e, refl);
     }
 
     -- the leaf has no entry of the key, so the map has nothing there
@@ -291,7 +285,7 @@ module _ (p : ConfigParts) (ok : IsSetting p) (words : List ℕ) (s : Scene) (g 
 
       puts_new : HasNone es key → (o : Option ℕ) → index_of es 0 ≡ o → D (Put key value) (put_into p x o)
       puts_new none (Some index) e = put_at index (inr (none, first_found es 0 index e))
-      puts_new none None e = unless (Put key value) decision.Split (put_worn value) (λ room. record { split = record { some = omega (arith, body.spells.lawful.count, ok.ranged.leaf.0); once = body.once; lacks = none; full = none_found es 0 e; is_key = some }; room = room; long = long; from = from; below = below })
+      puts_new none None e = unless (Put key value) decision.Split (λ version e. (e, refl)) (λ room. record { split = record { some = omega (arith, body.spells.lawful.count, ok.ranged.leaf.0); once = body.once; lacks = none; full = none_found es 0 e; is_key = some }; room = room; long = long; from = from; below = below })
 
       puts : (o : Option ℕ) → index_of es key ≡ o → D (Put key value) (put_in p x o)
       puts (Some index) e = put_at index (inl (first_found es key index e))

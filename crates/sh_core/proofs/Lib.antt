@@ -24,5 +24,7 @@ pub mod LeafDecisions
 pub mod InnerHalves
 pub mod InnerDecisions
 pub mod HoldTurns
+pub mod Walking
+pub mod Topping
 pub mod Turns
 pub mod LocalLaws

@@ -47,6 +47,7 @@ use Rattle.sh_core.specs.Fits.{HadNone, IsToSplit, PlansLeftLeaf, Fits}
 use Rattle.sh_core.proofs.Decided.{anew}
 use Rattle.sh_core.proofs.Spares.{IsTaken}
 use Rattle.sh_core.proofs.Standing.{standing_leaf}
+use Rattle.sh_core.proofs.InnerHalves.{split_here}
 use Rattle.sh_core.proofs.LeafPlans.{Decided, SplitsFor, covers, lacks}
 
 -- the words of both halves, and the post of the right one behind the left one
@@ -108,31 +109,21 @@ module _ (p : ConfigParts) (ok : IsSetting p) (words : List ℕ) (s : Scene) (g 
     low_is : low_in (s.node n) ≤ call_key call
     low_is = omega (arith, from, (g.sits n 0 low linked).low_is)
 
-    splits_by : (hop : Hop) → hop_of (LeafImage x) (call_key call) 0 ≡ hop → decided_by p call Own (LeafImage x) hop ≡ decision.Split → SplitsFor p (s.node n) call
-    splits_by Here e d = let h = here_is s 0 low (call_key call) 0 (LeafImage x) (standing_leaf p words s g n low (s.node n) refl 0 x linked body.spells) from e in subst (Decided p s i n 0 0 call) d (covers p ok words s g i n low 0 0 linked (omega arith) call in_range low_is h.1)
-    splits_by (HopRight r) e d = by (is_node p r) d
-      where
-        by : (t : Bool) → (if t then decision.Right r else decision.Restart) ≡ decision.Split → SplitsFor p (s.node n) call
-        by true d = cc
-        by false d = cc
-    splits_by (Down c) e d = cc
-    splits_by HopRestart e d = cc
+    splits : decision_of p call Own (LeafImage x) ≡ decision.Split → SplitsFor p (s.node n) call
+    splits d =
+        let hop : Hop = hop_of (LeafImage x) (call_key call) 0 in
+        let here = split_here p call Own (LeafImage x) hop d in
+        let h = here_is s 0 low (call_key call) 0 (LeafImage x) (standing_leaf p words s g n low (s.node n) refl 0 x linked body.spells) from here in
+        subst (Decided p s i n 0 0 call) (ap (decided_by p call Own (LeafImage x)) (sym here) ∙ d) (covers p ok words s g i n low 0 0 linked (omega arith) call in_range low_is h.1)
 
     image_splits : (image : Image) (loaded : List ℕ) → loaded ≡ s.node n → SeenBy p loaded (seen_as image) → decision_of p call Own image ≡ decision.Split → (image ≡ LeafImage x) × SplitsFor p (s.node n) call
     image_splits (LeafImage y) loaded is sp d =
         let one : y ≡ x = sym (leaf_is p loaded y sp.words sp.lawful) ∙ ap (leaf_in p) is in
-        (ap LeafImage one, splits_by (hop_of (LeafImage x) (call_key call) 0) refl (subst (λ (z : Leaf). decision_of p call Own (LeafImage z) ≡ decision.Split) one d))
-    image_splits (InnerImage y) loaded is sp d = absurd (inner_not (hop_of (InnerImage y) (call_key call) 0) d)
-      where
-        right_not : (r : ℕ) (t : Bool) → (if t then decision.Right r else decision.Restart) ≡ decision.Split → ⊥
-        right_not r true d = cc
-        right_not r false d = cc
-
-        inner_not : (hop : Hop) → decided_by p call Own (InnerImage y) hop ≡ decision.Split → ⊥
-        inner_not Here d = cc
-        inner_not (HopRight r) d = right_not r (is_node p r) d
-        inner_not (Down c) d = cc
-        inner_not HopRestart d = cc
+        (ap LeafImage one, splits (subst (λ (z : Leaf). decision_of p call Own (LeafImage z) ≡ decision.Split) one d))
+    image_splits (InnerImage y) loaded is sp d =
+        let hop : Hop = hop_of (InnerImage y) (call_key call) 0 in
+        let never : decision.Restart ≡ decision.Split = ap (decided_by p call Own (InnerImage y)) (sym (split_here p call Own (InnerImage y) hop d)) ∙ d in
+        absurd (cc)
 
     pub to_split : (reads : Reads) → reads.node ≡ n → (h : IsToSplit p s call reads Own) → (h.image ≡ LeafImage x) × SplitsFor p (s.node n) call
     to_split reads at h =

@@ -42,6 +42,7 @@ use Rattle.sh_client.specs.Aims.{call_key, left_key, left_value}
 use Rattle.sh_client.specs.Bodies.{entry_left}
 use Rattle.sh_client.specs.Deciding.{change_at, decided_here, del_in, put_in, put_into, unless_worn, update_in}
 use Rattle.sh_client.specs.Leaves.{answer_of, are_keys_once, index_from, index_of, reply_with, version_at}
+use Rattle.sh_core.proofs.UnderLock.{is_lt, not_lt}
 use Rattle.sh_core.specs.Fits.{HadNone, IsDecided, PlansEntry, PlansLeaf}
 
 -- ---- where a key is
@@ -97,12 +98,6 @@ del_made i key (Some x) old e = refl
 has_old : (key : ℕ) (o : Option (List ℕ)) (old : List ℕ) → o ≡ Some old → HasOld (change.Del key) o
 has_old key None old e = cc
 has_old key (Some x) old e = refl
-
-not_less : (a b : ℕ) → nat_lt a b ≡ false → b ≤ a
-not_less a b e = grind (arith, nat_tests)
-
-less : (a b : ℕ) → nat_lt a b ≡ true → a < b
-less a b e = grind (arith, nat_tests)
 
 -- ---- the decision
 
@@ -171,8 +166,8 @@ module _ (p : ConfigParts) (ok : IsSetting p) (words : List ℕ) (s : Scene) (g 
   unless call d worn h = by (nat_lt x.version (last_version p)) refl
     where
       by : (t : Bool) → nat_lt x.version (last_version p) ≡ t → D call (if t then d else decision.Worn x.version)
-      by true e = h (less x.version (last_version p) e)
-      by false e = worn x.version (omega (arith, not_less x.version (last_version p) e, body.spells.lawful.version))
+      by true e = h (is_lt x.version (last_version p) e)
+      by false e = worn x.version (omega (arith, not_lt x.version (last_version p) e, body.spells.lawful.version))
 
   -- a change is made in the entry alone, by a rewrite, or not at all
   module _ (call : Call) (index : ℕ) (from : low_in (s.node n) ≤ call_key call) (below : call_key call < high_in (s.node n)) (some : 1 ≤ call_key call) (c : IsChange p s i n f q call index) where
@@ -229,7 +224,7 @@ module _ (p : ConfigParts) (ok : IsSetting p) (words : List ℕ) (s : Scene) (g 
     changes = by (nat_lt (version_at es index) last_entry_version) refl
       where
         by : (t : Bool) → nat_lt (version_at es index) last_entry_version ≡ t → D call (if t then decision.Entry index else unless_worn p x.version (decision.Rewrite index))
-        by true e = alone (less (version_at es index) last_entry_version e)
+        by true e = alone (is_lt (version_at es index) last_entry_version e)
         by false e = unless call (decision.Rewrite index) c.worn whole
 
   module _ (key : ℕ) (some : 1 ≤ key) (from : low_in (s.node n) ≤ key) (below : key < high_in (s.node n)) where

@@ -1,7 +1,6 @@
 -- An inner node that stands and covers a post's separator: what the decision on it says, and its plans with the post's pair.
 use Rattle.std.proofs.Common.{◌≡◌, ℕ, suc, ◌+◌, ◌*◌, ◌<◌, ◌≤◌, Bool, true, false, List, length, Option, Some, refl, sym, ap, ◌∙◌, subst, arith}
 use Rattle.std.specs.Prelude.{if◌then◌else◌, nat_lt}
-use Rattle.std.proofs.lemmas.Bool.Decides.{nat_tests}
 use Rattle.sh_base.specs.declared.config.ConfigParts.{ConfigParts}
 use Rattle.sh_base.specs.Setting.{node_size, last_version, IsSetting}
 use Rattle.sh_base.specs.Layout.{lock_of}
@@ -45,6 +44,7 @@ use Rattle.sh_client.specs.Deciding.{decided_by, decided_here, decision_of, has_
 use Rattle.sh_core.specs.Fits.{IsPosting, IsToSplit, PlansPair, PlansInner, PlansLeftInner, Fits}
 use Rattle.sh_core.proofs.Decided.{anew}
 use Rattle.sh_core.proofs.Spares.{IsTaken}
+use Rattle.sh_core.proofs.UnderLock.{is_lt, not_lt}
 use Rattle.sh_core.proofs.Standing.{standing_inner}
 
 -- what a decision on an inner node for a post says of it
@@ -54,12 +54,6 @@ IsFor p x decision.Skip = Unit {0}
 IsFor p x decision.Add = (length x.pairs < 2 * p.leaf) × (x.version < last_version p)
 IsFor p x decision.Split = (2 * p.leaf ≤ length x.pairs) × (x.version < last_version p)
 IsFor p x d = ⊥
-
-is_lt : (a b : ℕ) → nat_lt a b ≡ true → a < b
-is_lt a b e = grind (arith, nat_tests)
-
-not_lt : (a b : ℕ) → nat_lt a b ≡ false → b ≤ a
-not_lt a b e = grind (arith, nat_tests)
 
 -- only here a node is split
 pub split_here : (p : ConfigParts) (call : Call) (aim : Aim) (image : Image) (hop : Hop) → decided_by p call aim image hop ≡ decision.Split → hop ≡ Here
@@ -118,7 +112,7 @@ module _ (p : ConfigParts) (ok : IsSetting p) (words : List ℕ) (s : Scene) (g 
   unfolding pair_planned
   adds lt h = record { plan = pair_planned lt; space = h.0; room = h.1; body_is = refl }
 
-  half_planned : (fresh : ℕ) → post.separator < x.high → IsFor p x decision.Split → PlansLeftInner p s i (left_pairs p (s.node n) post fresh) (right_pairs p (s.node n) post) n fresh (Some post) (inner_posts p (s.node n) post fresh)
+  pub half_planned : (fresh : ℕ) → post.separator < x.high → IsFor p x decision.Split → PlansLeftInner p s i (left_pairs p (s.node n) post fresh) (right_pairs p (s.node n) post) n fresh (Some post) (inner_posts p (s.node n) post fresh)
   unfolding pair_planned
   half_planned fresh lt h =
       let up : x.level + 1 ≡ suc (suc w.below) = omega (arith, sits.level_is) in

@@ -1,5 +1,5 @@
 -- A post is skipped: its node is one of those that the seat skipped, and the seat has none to post.
-use Rattle.std.proofs.Common.{◌≡◌, ◌≢◌, ℕ, ◌+◌, ◌<◌, Bool, true, false, List, [], ◌∷◌, length, Option, Some, None, refl, sym, ap, ◌∙◌, subst, inl, inr, arith, append-nil}
+use Rattle.std.proofs.Common.{◌≡◌, ◌≢◌, ℕ, ◌+◌, ◌<◌, Bool, true, false, List, [], ◌∷◌, length, Some, None, refl, sym, ◌∙◌, subst, inl, inr, arith, append-nil}
 use Rattle.std.specs.Prelude.{◌-◌, ◌^◌}
 use Rattle.std.specs.List.{AllByRecursion}
 use Rattle.std.proofs.lemmas.Bool.Decides.{nat_tests}
@@ -12,7 +12,7 @@ use Rattle.sh_alloc.specs.declared.state.Walk.{Walk}
 use Rattle.sh_read.specs.Reads.{Reads}
 use Rattle.sh_tree.specs.Lists.{is_in}
 use Rattle.sh_tree.proofs.ListLemmas.{in_head, in_more, in_cases, few_nodes}
-use Rattle.sh_scene.specs.Scene.{Class, Undrawn, Reserved, Fresh, Linked, Posted, Pending, Skipped, Seat, Held, Scene}
+use Rattle.sh_scene.specs.Scene.{Class, Undrawn, Reserved, Fresh, Linked, Pending, Skipped, Seat, Held, Scene}
 use Rattle.sh_scene.specs.Nodes.{IsLinked}
 use Rattle.sh_scene.specs.Ground.{Ground}
 use Rattle.sh_scene.specs.Change.{Change}
@@ -32,13 +32,7 @@ use Rattle.sh_core.specs.Fits.{IsDecided, Owes, Fits}
 use Rattle.sh_core.specs.Keeps.{holding, pending, Hands, Waits, Skips, IsAtWork, Keeps}
 use Rattle.sh_core.proofs.Others.{owes_on}
 use Rattle.sh_core.proofs.Frame.{next, me, at, with, goes_on, ends_now, decided_ends, SameNodes, same_grows, skips_on}
-use Rattle.sh_core.proofs.Roots.{decided_entry}
-
-posted_skipped : (i : ℕ) → Posted ≡ Skipped i → ⊥
-posted_skipped i e = cc
-
-pending_skipped : (i : ℕ) → Pending i ≡ Skipped i → ⊥
-pending_skipped i e = cc
+use Rattle.sh_core.proofs.Roots.{pending_skipped, posted_skipped, decided_entry}
 
 skipped_pending : (i : ℕ) → Skipped i ≡ Pending i → ⊥
 skipped_pending i e = cc
@@ -119,8 +113,8 @@ module _ (p : ConfigParts) (ok : IsSetting p) (now : List ℕ) (s u : Scene) (i 
       (join_after p (λ o. o ≢ Seat i) s u t ch.0 act.0 (λ n. refl) (λ n. refl), act.1)
 
   -- the call is answered by its entry
-  pub skips_decided : IsDecided p t.log i a.first a.point N m.call m.reply
-  skips_decided = decided_entry p u.log i a.first a.point N m.call m.reply owed.entry
+  pub skips_decided : IsDecided p t i a.first a.point N m.call m.reply
+  skips_decided = decided_entry p t i a.first a.point N m.call m.reply owed.entry
 
   work_skipped : (first : ℕ) (tally : Tally) (reads : Reads) (walk : Walk) (body right : List ℕ) (to : Phase) → let n : Machine = with p i m tally reads walk body right to in tally.skipped_spent + tally.skipped_worn ≡ count + 1
       → Fits p t i first a.point N n None to → Hands u i (holding p n to) → IsAtWork p t i first a.point N n
@@ -147,5 +141,5 @@ module _ (p : ConfigParts) (ok : IsSetting p) (now : List ℕ) (s u : Scene) (i 
       → Keeps p t i (ending i (me p i a m ph) s.log (with p i m tally reads walk body right Ended))
   keeps_ended tally reads walk body right sum hands was =
       let w = subst (Owes s i a.first a.point a.seen m.call m.reply) duty k.work.owes in
-      let end = decided_ends p s.log s.log [] i a m (sym (append-nil s.log)) k.seen k.first m.call m.reply (decided_entry p s.log i a.first a.point a.seen m.call m.reply w.entry) in
+      let end = decided_ends p s s.log [] i a m (sym (append-nil s.log)) k.seen k.first m.call m.reply (decided_entry p s i a.first a.point a.seen m.call m.reply w.entry) in
       ends_now p s t i (me p i a m ph) (with p i m tally reads walk body right Ended) s.log k same.log (omega arith) k.seen (work_skipped N tally reads walk body right Ended sum refl hands) end.answered end.from end.past was refl

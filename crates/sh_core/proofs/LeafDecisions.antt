@@ -2,7 +2,6 @@
 use Rattle.std.proofs.Common.{◌≡◌, ℕ, List, [], length, Option, Some, None, refl, sym, ap, ◌∙◌, subst, arith}
 use Rattle.sh_base.specs.declared.config.ConfigParts.{ConfigParts}
 use Rattle.sh_base.specs.Setting.{IsSetting}
-use Rattle.sh_base.proofs.LayoutLemmas.{node_size_is}
 use Rattle.sh_map.specs.declared.call.Reply.{Reply}
 use Rattle.sh_map.specs.declared.call.Reply.TheVariants as reply
 use Rattle.sh_image.specs.declared.inner.Image.{Image}
@@ -11,7 +10,6 @@ use Rattle.sh_image.specs.Entries.{entry_words}
 use Rattle.sh_image.specs.Leaf.{Leaf, leaf_in, leaf_words}
 use Rattle.sh_image.specs.Seen.{SeenBy}
 use Rattle.sh_edit.specs.Rewriting.{rewritten}
-use Rattle.sh_edit.specs.Splitting.{left_half, right_half, separator_of}
 use Rattle.sh_alloc.specs.Spares.{lowest, without_lowest}
 use Rattle.sh_alloc.specs.Walks.{start_of}
 use Rattle.sh_read.specs.Causes.{seen_as}
@@ -21,16 +19,16 @@ use Rattle.sh_descend.specs.Descent.{hop_of}
 use Rattle.sh_scene.specs.Scene.{Scene}
 use Rattle.sh_scene.proofs.Spelled.{leaf_is}
 use Rattle.sh_known.proofs.HandLemmas.{here_is}
-use Rattle.sh_client.specs.declared.state.Aim.TheVariants.{Own, Posts}
+use Rattle.sh_client.specs.declared.state.Aim.TheVariants.{Own}
 use Rattle.sh_client.specs.declared.state.Then.{Then}
-use Rattle.sh_client.specs.declared.state.Then.TheVariants.{Ends, Starts}
+use Rattle.sh_client.specs.declared.state.Then.TheVariants.{Ends}
 use Rattle.sh_client.specs.declared.state.Write.{Write}
 use Rattle.sh_client.specs.declared.state.Write.TheVariants.{Nothing, Entry, Leaf as WholeLeaf, LeftLeaf}
 use Rattle.sh_client.specs.declared.state.Decision.{Decision}
 use Rattle.sh_client.specs.declared.state.Decision.TheVariants as decision
 use Rattle.sh_client.specs.declared.state.Phase.TheVariants.{Hold as Holds, Waiting, Seek, Fill}
 use Rattle.sh_client.specs.Machine.{Machine}
-use Rattle.sh_client.specs.Aims.{call_key, left_key, left_value, post_of}
+use Rattle.sh_client.specs.Aims.{call_key, left_key, left_value}
 use Rattle.sh_client.specs.Bodies.{entry_left}
 use Rattle.sh_client.specs.Deciding.{decided_by, decided_here, decision_of}
 use Rattle.sh_client.specs.Feeds.{did}
@@ -45,7 +43,7 @@ use Rattle.sh_core.proofs.Raising.{begins_walk}
 use Rattle.sh_core.proofs.UnderLock.{Lands, real}
 use Rattle.sh_core.proofs.Standing.{M, restarts, standing_leaf}
 use Rattle.sh_core.proofs.LeafPlans.{answers, Decided, covers}
-use Rattle.sh_core.proofs.LeafHalves.{half_made}
+use Rattle.sh_core.proofs.LeafHalves.{half_fits, half_posts, left_words, right_words}
 
 module _ (p : ConfigParts) (ok : IsSetting p) (words : List ℕ) (Has Now : ℕ → Actor → Type 0) (Out : ℕ → ℕ → ℕ → Type 0) (i : ℕ) (s : Scene) (b : Before p words Has Out s) (a : Actor) (m : Machine) (depth : ℕ)
     (h : Has i (me p i a m (Holds Own depth))) (loaded : List ℕ) where
@@ -77,10 +75,8 @@ module _ (p : ConfigParts) (ok : IsSetting p) (words : List ℕ) (Has Now : ℕ 
     splits e d (Some fresh) low mv =
         let f = K.work.fits in
         let taken = takes_lowest s i m.spare K.work.spares fresh low in
-        quiet_with p ok words Has Now Out i s b a m (Holds Own depth) (Fill n depth fresh 0 LeftLeaf (Starts (Posts (post_of (separator_of x.entries (left_key m.call) (left_value p m.call)) fresh 1)))) (without_lowest m.spare) m.tally reply.None rd m.walk
-        (leaf_words (left_half x (left_key m.call) (left_value p m.call) fresh)) (leaf_words (right_half x (left_key m.call) (left_value p m.call))) K refl
-        (f.2, (f.0, half_made p ok words s b.ground i n f.1.low f.1.linked m.call fresh d), record { own = taken.own; under = omega (arith, taken.follows); words = λ o lt. absurd (omega (arith, lt)) }, omega (arith, node_size_is p), real p ok words Has Now Out i s b a m Own depth h)
-        (owes (length s.log) reply.None) taken.spares K.work.hands refl tt mv
+        quiet_with p ok words Has Now Out i s b a m (Holds Own depth) (Fill n depth fresh 0 LeftLeaf (half_posts p (s.node n) m.call fresh)) (without_lowest m.spare) m.tally reply.None rd m.walk (left_words p (s.node n) m.call fresh) (right_words p (s.node n) m.call) K refl
+        (half_fits p ok words s b.ground i n f.1.low f.1.linked m a.first a.point (length s.log) depth fresh (without_lowest m.spare) m.tally rd m.walk K.work.duty f.0 f.2 taken d) (owes (length s.log) reply.None) taken.spares K.work.hands refl tt mv
     splits e d None low mv =
         let f = K.work.fits in
         quiet_by p ok words Has Now Out i s b a m (Holds Own depth) (Seek Own depth) m.spare m.tally m.reply rd (start_of p i) m.body m.right K refl

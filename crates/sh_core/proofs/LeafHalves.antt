@@ -1,5 +1,5 @@
 -- A leaf that was READ under its lock and is to be split: its halves, with a node of the seat's own.
-use Rattle.std.proofs.Common.{◌≡◌, ◌≢◌, ℕ, ◌≤◌, Bool, true, false, List, length, None, refl, sym, ap, ◌∙◌, subst, arith}
+use Rattle.std.proofs.Common.{Option, ◌≡◌, ◌≢◌, ℕ, ◌≤◌, Bool, true, false, List, length, None, refl, sym, ap, ◌∙◌, subst, arith}
 use Rattle.std.specs.Prelude.{if◌then◌else◌}
 use Rattle.sh_base.specs.declared.config.ConfigParts.{ConfigParts}
 use Rattle.sh_base.specs.Setting.{node_size, IsSetting}
@@ -22,19 +22,43 @@ use Rattle.sh_read.proofs.CauseLemmas.{image_spelled}
 use Rattle.sh_descend.specs.declared.Hop.{Hop}
 use Rattle.sh_descend.specs.declared.Hop.TheVariants.{Here, Right as HopRight, Down, Restart as HopRestart}
 use Rattle.sh_descend.specs.Descent.{hop_of}
-use Rattle.sh_scene.specs.Scene.{Linked, Scene}
-use Rattle.sh_scene.specs.Nodes.{low_in, IsStandingLeaf}
+use Rattle.sh_base.specs.Layout.{lock_of}
+use Rattle.sh_base.proofs.LayoutLemmas.{node_size_is}
+use Rattle.sh_alloc.specs.declared.state.NodeRange.{NodeRange}
+use Rattle.sh_alloc.specs.declared.state.Walk.{Walk}
+use Rattle.sh_scene.specs.Scene.{Linked, Seat, Held, Scene}
+use Rattle.sh_scene.specs.Nodes.{entries_of, low_in, IsStandingLeaf}
 use Rattle.sh_scene.specs.Ground.{Ground}
 use Rattle.sh_scene.proofs.Spelled.{leaf_is}
 use Rattle.sh_known.proofs.HandLemmas.{here_is}
+use Rattle.sh_client.specs.declared.state.Post.{Post}
+use Rattle.sh_client.specs.declared.state.Tally.{Tally}
+use Rattle.sh_client.specs.declared.state.Write.TheVariants.{LeftLeaf}
+use Rattle.sh_client.specs.declared.state.Phase.{Phase}
+use Rattle.sh_client.specs.declared.state.Phase.TheVariants.{Fill}
+use Rattle.sh_client.specs.Machine.{Machine}
+use Rattle.sh_client.specs.declared.state.Then.{Then}
 use Rattle.sh_client.specs.declared.state.Aim.TheVariants.{Own, Posts}
 use Rattle.sh_client.specs.declared.state.Then.TheVariants.{Starts}
 use Rattle.sh_client.specs.declared.state.Decision.TheVariants as decision
 use Rattle.sh_client.specs.Aims.{call_key, is_node, left_key, left_value, post_of}
 use Rattle.sh_client.specs.Deciding.{decided_by, decision_of}
-use Rattle.sh_core.specs.Fits.{HadNone, IsToSplit, PlansLeftLeaf}
+use Rattle.sh_core.specs.Fits.{HadNone, IsToSplit, PlansLeftLeaf, Fits}
+use Rattle.sh_core.proofs.Decided.{anew}
+use Rattle.sh_core.proofs.Spares.{IsTaken}
 use Rattle.sh_core.proofs.Standing.{standing_leaf}
+use Rattle.sh_core.proofs.InnerHalves.{split_here}
 use Rattle.sh_core.proofs.LeafPlans.{Decided, SplitsFor, covers, lacks}
+
+-- the words of both halves, and the post of the right one behind the left one
+abbrev pub left_words : ConfigParts → (leaf : List ℕ) → Call → (fresh : ℕ) → List ℕ
+left_words p leaf call fresh = leaf_words (left_half (leaf_in p leaf) (left_key call) (left_value p call) fresh)
+
+abbrev pub right_words : ConfigParts → (leaf : List ℕ) → Call → List ℕ
+right_words p leaf call = leaf_words (right_half (leaf_in p leaf) (left_key call) (left_value p call))
+
+abbrev pub half_posts : ConfigParts → (leaf : List ℕ) → Call → (fresh : ℕ) → Then
+half_posts p leaf call fresh = Starts (Posts (post_of (separator_of (entries_of p leaf) (left_key call) (left_value p call)) fresh 1))
 
 module _ (p : ConfigParts) (ok : IsSetting p) (words : List ℕ) (s : Scene) (g : Ground p words s) (i n low : ℕ) (linked : s.class n ≡ Linked 0 low) where
   abbrev x : Leaf
@@ -43,8 +67,7 @@ module _ (p : ConfigParts) (ok : IsSetting p) (words : List ℕ) (s : Scene) (g 
   body : IsStandingLeaf p s.log (s.node n)
   body = (g.sits n 0 low linked).body
 
-  pub half_made : (call : Call) (fresh : ℕ) → SplitsFor p (s.node n) call
-      → PlansLeftLeaf p s i (entries_by i call reply.None) (leaf_words (left_half x (left_key call) (left_value p call) fresh)) (leaf_words (right_half x (left_key call) (left_value p call))) n fresh (Starts (Posts (post_of (separator_of x.entries (left_key call) (left_value p call)) fresh 1)))
+  pub half_made : (call : Call) (fresh : ℕ) → SplitsFor p (s.node n) call → PlansLeftLeaf p s i (entries_by i call reply.None) (left_words p (s.node n) call fresh) (right_words p (s.node n) call) n fresh (half_posts p (s.node n) call fresh)
   half_made (Get key) fresh h = absurd h
   half_made (Del key) fresh h = absurd h
   half_made (Range lo hi) fresh h = absurd h
@@ -66,6 +89,17 @@ module _ (p : ConfigParts) (ok : IsSetting p) (words : List ℕ) (s : Scene) (g 
         after_is = refl;
       }
 
+  -- the halves stand ready, and the fresh node is to be filled
+  pub half_fits : (m : Machine) (f q e depth fresh : ℕ) (rest : NodeRange) (tally : Tally) (reads : Reads) (walk : Walk) (duty : Option Post) → duty ≡ None → s.hold (lock_of p n) ≡ Held (Seat i) depth → IsTaken s i fresh rest → SplitsFor p (s.node n) m.call
+      → let ph : Phase = Fill n depth fresh 0 LeftLeaf (half_posts p (s.node n) m.call fresh) in Fits p s i f q e (anew p i m rest tally reply.None reads walk (left_words p (s.node n) m.call fresh) (right_words p (s.node n) m.call) ph) duty ph
+  half_fits m f q e depth fresh rest tally reads walk duty none held taken h = (
+    held,
+    (none, half_made m.call fresh h),
+    record { own = taken.own; under = omega (arith, taken.follows); words = λ o lt. absurd (omega (arith, lt)) },
+    omega (arith, node_size_is p),
+    (g.sits n 0 low linked).real,
+  )
+
   -- the map has nothing at the key
   pub put_misses : (f key : ℕ) (value : List ℕ) → f ≤ length s.log → SplitsFor p (s.node n) (Put key value) → HadNone s.log f (length s.log) key
   put_misses f key value began h = lacks p ok words s g i n low f 0 linked began key h.split.is_key h.from h.below h.split.lacks
@@ -75,31 +109,21 @@ module _ (p : ConfigParts) (ok : IsSetting p) (words : List ℕ) (s : Scene) (g 
     low_is : low_in (s.node n) ≤ call_key call
     low_is = omega (arith, from, (g.sits n 0 low linked).low_is)
 
-    splits_by : (hop : Hop) → hop_of (LeafImage x) (call_key call) 0 ≡ hop → decided_by p call Own (LeafImage x) hop ≡ decision.Split → SplitsFor p (s.node n) call
-    splits_by Here e d = let h = here_is s 0 low (call_key call) 0 (LeafImage x) (standing_leaf p words s g n low (s.node n) refl 0 x linked body.spells) from e in subst (Decided p s i n 0 0 call) d (covers p ok words s g i n low 0 0 linked (omega arith) call in_range low_is h.1)
-    splits_by (HopRight r) e d = by (is_node p r) d
-      where
-        by : (t : Bool) → (if t then decision.Right r else decision.Restart) ≡ decision.Split → SplitsFor p (s.node n) call
-        by true d = cc
-        by false d = cc
-    splits_by (Down c) e d = cc
-    splits_by HopRestart e d = cc
+    splits : decision_of p call Own (LeafImage x) ≡ decision.Split → SplitsFor p (s.node n) call
+    splits d =
+        let hop : Hop = hop_of (LeafImage x) (call_key call) 0 in
+        let here = split_here p call Own (LeafImage x) hop d in
+        let h = here_is s 0 low (call_key call) 0 (LeafImage x) (standing_leaf p words s g n low (s.node n) refl 0 x linked body.spells) from here in
+        subst (Decided p s i n 0 0 call) (ap (decided_by p call Own (LeafImage x)) (sym here) ∙ d) (covers p ok words s g i n low 0 0 linked (omega arith) call in_range low_is h.1)
 
     image_splits : (image : Image) (loaded : List ℕ) → loaded ≡ s.node n → SeenBy p loaded (seen_as image) → decision_of p call Own image ≡ decision.Split → (image ≡ LeafImage x) × SplitsFor p (s.node n) call
     image_splits (LeafImage y) loaded is sp d =
         let one : y ≡ x = sym (leaf_is p loaded y sp.words sp.lawful) ∙ ap (leaf_in p) is in
-        (ap LeafImage one, splits_by (hop_of (LeafImage x) (call_key call) 0) refl (subst (λ (z : Leaf). decision_of p call Own (LeafImage z) ≡ decision.Split) one d))
-    image_splits (InnerImage y) loaded is sp d = absurd (inner_not (hop_of (InnerImage y) (call_key call) 0) d)
-      where
-        right_not : (r : ℕ) (t : Bool) → (if t then decision.Right r else decision.Restart) ≡ decision.Split → ⊥
-        right_not r true d = cc
-        right_not r false d = cc
-
-        inner_not : (hop : Hop) → decided_by p call Own (InnerImage y) hop ≡ decision.Split → ⊥
-        inner_not Here d = cc
-        inner_not (HopRight r) d = right_not r (is_node p r) d
-        inner_not (Down c) d = cc
-        inner_not HopRestart d = cc
+        (ap LeafImage one, splits (subst (λ (z : Leaf). decision_of p call Own (LeafImage z) ≡ decision.Split) one d))
+    image_splits (InnerImage y) loaded is sp d =
+        let hop : Hop = hop_of (InnerImage y) (call_key call) 0 in
+        let never : decision.Restart ≡ decision.Split = ap (decided_by p call Own (InnerImage y)) (sym (split_here p call Own (InnerImage y) hop d)) ∙ d in
+        absurd (cc)
 
     pub to_split : (reads : Reads) → reads.node ≡ n → (h : IsToSplit p s call reads Own) → (h.image ≡ LeafImage x) × SplitsFor p (s.node n) call
     to_split reads at h =

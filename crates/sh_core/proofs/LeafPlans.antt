@@ -42,6 +42,7 @@ use Rattle.sh_client.specs.Aims.{call_key, left_key, left_value}
 use Rattle.sh_client.specs.Bodies.{entry_left}
 use Rattle.sh_client.specs.Deciding.{change_at, decided_here, del_in, put_in, put_into, unless_worn, update_in}
 use Rattle.sh_client.specs.Leaves.{answer_of, are_keys_once, index_from, index_of, reply_with, version_at}
+use Rattle.sh_core.proofs.UnderLock.{is_lt, not_lt}
 use Rattle.sh_core.specs.Fits.{HadNone, IsDecided, PlansEntry, PlansLeaf}
 
 -- ---- where a key is
@@ -97,12 +98,6 @@ del_made i key (Some x) old e = refl
 has_old : (key : ℕ) (o : Option (List ℕ)) (old : List ℕ) → o ≡ Some old → HasOld (change.Del key) o
 has_old key None old e = cc
 has_old key (Some x) old e = refl
-
-not_less : (a b : ℕ) → nat_lt a b ≡ false → b ≤ a
-not_less a b e = grind (arith, nat_tests)
-
-less : (a b : ℕ) → nat_lt a b ≡ true → a < b
-less a b e = grind (arith, nat_tests)
 
 -- ---- the decision
 
@@ -171,8 +166,8 @@ module _ (p : ConfigParts) (ok : IsSetting p) (words : List ℕ) (s : Scene) (g 
   unless call d worn h = by (nat_lt x.version (last_version p)) refl
     where
       by : (t : Bool) → nat_lt x.version (last_version p) ≡ t → D call (if t then d else decision.Worn x.version)
-      by true e = h (less x.version (last_version p) e)
-      by false e = worn x.version (omega (arith, not_less x.version (last_version p) e, body.spells.lawful.version))
+      by true e = h (is_lt x.version (last_version p) e)
+      by false e = worn x.version (omega (arith, not_lt x.version (last_version p) e, body.spells.lawful.version))
 
   -- a change is made in the entry alone, by a rewrite, or not at all
   module _ (call : Call) (index : ℕ) (from : low_in (s.node n) ≤ call_key call) (below : call_key call < high_in (s.node n)) (some : 1 ≤ call_key call) (c : IsChange p s i n f q call index) where
@@ -229,15 +224,12 @@ module _ (p : ConfigParts) (ok : IsSetting p) (words : List ℕ) (s : Scene) (g 
     changes = by (nat_lt (version_at es index) last_entry_version) refl
       where
         by : (t : Bool) → nat_lt (version_at es index) last_entry_version ≡ t → D call (if t then decision.Entry index else unless_worn p x.version (decision.Rewrite index))
-        by true e = alone (less (version_at es index) last_entry_version e)
+        by true e = alone (is_lt (version_at es index) last_entry_version e)
         by false e = unless call (decision.Rewrite index) c.worn whole
 
   module _ (key : ℕ) (some : 1 ≤ key) (from : low_in (s.node n) ≤ key) (below : key < high_in (s.node n)) where
     nz : key ≢ 0
     nz = omega (arith, some)
-
-    put_worn : (value : List ℕ) (version : ℕ) → version ≡ last_version p → D (Put key value) (decision.Worn version)
-    put_worn value version e = (e, refl)
 
     put_change : (value : List ℕ) (index : ℕ) → length value ≡ p.value_words → IsPlace es key index → IsChange p s i n f q (Put key value) index
     put_change value index long place = record {
@@ -252,11 +244,8 @@ module _ (p : ConfigParts) (ok : IsSetting p) (words : List ℕ) (s : Scene) (g 
       map = λ e k v. entry_placed x index e (λ z. nz (sym k ∙ z)) (subst (λ (z : ℕ). IsPlace es z index) (sym k) place) ∙ (λ z. put (map_of_entries es) (k z) (v z));
       whole_once = rewritten_placed_once x index body.once key value place;
       whole_map = elim place [ inl h ↦ rewritten_over x index key value nz h | inr h ↦ rewritten_new x index key value nz h.0 h.1 ];
-      worn = put_worn value;
+      worn = λ version e. (e, refl);
     }
-
-    del_worn : (version : ℕ) → version ≡ last_version p → D (Del key) (decision.Worn version)
-    del_worn version e = (e, refl)
 
     del_change : (index : ℕ) → IsFirstWith es key index → IsChange p s i n f q (Del key) index
     del_change index first = record {
@@ -271,7 +260,7 @@ module _ (p : ConfigParts) (ok : IsSetting p) (words : List ℕ) (s : Scene) (g 
       map = λ e k v. entry_removed x index key e nz k body.once first;
       whole_once = rewritten_removed_once x index body.once (replicate p.value_words 0) first.in_range;
       whole_map = rewritten_removed x index key (replicate p.value_words 0) nz body.once first;
-      worn = del_worn;
+      worn = λ version e. (e, refl);
     }
 
     -- the leaf has no entry of the key, so the map has nothing there
@@ -291,7 +280,7 @@ module _ (p : ConfigParts) (ok : IsSetting p) (words : List ℕ) (s : Scene) (g 
 
       puts_new : HasNone es key → (o : Option ℕ) → index_of es 0 ≡ o → D (Put key value) (put_into p x o)
       puts_new none (Some index) e = put_at index (inr (none, first_found es 0 index e))
-      puts_new none None e = unless (Put key value) decision.Split (put_worn value) (λ room. record { split = record { some = omega (arith, body.spells.lawful.count, ok.ranged.leaf.0); once = body.once; lacks = none; full = none_found es 0 e; is_key = some }; room = room; long = long; from = from; below = below })
+      puts_new none None e = unless (Put key value) decision.Split (λ version e. (e, refl)) (λ room. record { split = record { some = omega (arith, body.spells.lawful.count, ok.ranged.leaf.0); once = body.once; lacks = none; full = none_found es 0 e; is_key = some }; room = room; long = long; from = from; below = below })
 
       puts : (o : Option ℕ) → index_of es key ≡ o → D (Put key value) (put_in p x o)
       puts (Some index) e = put_at index (inl (first_found es key index e))

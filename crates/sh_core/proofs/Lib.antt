@@ -18,10 +18,10 @@ pub mod BodyEnds
 pub mod InnerBodies
 pub mod UnderLock
 pub mod Standing
+pub mod InnerHalves
 pub mod LeafPlans
 pub mod LeafHalves
 pub mod LeafDecisions
-pub mod InnerHalves
 pub mod InnerDecisions
 pub mod HoldTurns
 pub mod Walking

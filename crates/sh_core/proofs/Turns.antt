@@ -1,5 +1,4 @@
--- The turn of a wanted event keeps the invariant, by what the client is at: all but READs under a lock and walks over the
--- counters.
+-- The turn of a wanted event keeps the invariant, by what the client is at.
 use Rattle.std.proofs.Common.{◌≡◌, ◌≢◌, ℕ, ◌+◌, ◌-◌, ◌<◌, ◌≤◌, Bool, true, false, List, [], ◌∷◌, ◌++◌, length, Option, Some, None, refl, sym, ap, ◌∙◌, subst, arith, append-nil}
 use Rattle.std.specs.Prelude.{if◌then◌else◌, nat_lt}
 use Rattle.sh_base.specs.declared.config.ConfigParts.{ConfigParts}
@@ -13,6 +12,7 @@ use Rattle.sh_scene.specs.Scene.{Scene}
 use Rattle.sh_client.specs.declared.state.Want.{Want}
 use Rattle.sh_client.specs.declared.state.Want.TheVariants as want
 use Rattle.sh_client.specs.declared.state.Aim.{Aim}
+use Rattle.sh_client.specs.declared.state.Aim.TheVariants.{Own, Posts}
 use Rattle.sh_client.specs.declared.state.Phase.{Phase}
 use Rattle.sh_client.specs.declared.state.Phase.TheVariants.{Idle, Root, Read, Draw, Look, Grab, Hold, Seek, Fill, Waiting, Body, Unlock, Leave, Top, Raise, Swap, Ended}
 use Rattle.sh_client.specs.Machine.{Machine}
@@ -26,16 +26,17 @@ use Rattle.sh_core.proofs.OnWay.{read_claim}
 use Rattle.sh_core.proofs.OwnStores.{fill, raise}
 use Rattle.sh_core.proofs.Roots.{swap}
 use Rattle.sh_core.proofs.InnerBodies.{body}
+use Rattle.sh_core.proofs.UnderLock.{ws}
+use Rattle.sh_core.proofs.LeafDecisions.{own_here}
+use Rattle.sh_core.proofs.InnerDecisions.{post_here}
+use Rattle.sh_core.proofs.HoldTurns.{CoversLead, hold_claim}
+use Rattle.sh_core.proofs.Walking.{event_is}
+use Rattle.sh_core.proofs.Topping.{top}
 use Rattle.sh_core.proofs.Calls.{before}
 
-event_is : (x y : Event) → want.Event x ≡ want.Event y → x ≡ y
-event_is x y e = cc
-
--- the client doesn't READ under a lock, nor walk over the counters
+-- the client doesn't walk over the counters for a split
 abbrev pub IsPlain : Phase → Type 0
-IsPlain (Hold aim depth) = ⊥
 IsPlain (Seek aim depth) = ⊥
-IsPlain (Top post node) = ⊥
 IsPlain ph = Unit {0}
 
 module _ (p : ConfigParts) (ok : IsSetting p) (words : List ℕ) (Has Now : ℕ → Actor → Type 0) (Out : ℕ → ℕ → ℕ → Type 0) (i : ℕ) (s : Scene) (b : Before p words Has Out s) (a : Actor) (m : Machine) where
@@ -46,6 +47,14 @@ module _ (p : ConfigParts) (ok : IsSetting p) (words : List ℕ) (Has Now : ℕ 
   reads aim top e true q = subst (C (Read aim top)) (event_is (Load (node_word p m.reads.node + (node_size p - 1 - length m.reads.loaded))) e q) (λ h mv. read_claim p ok words Has Now Out i s b a m aim top h mv)
   reads aim top e false q = cc
 
+  covers_lead : (aim : Aim) (depth : ℕ) (h : Has i (me p i a m (Hold aim depth))) → CoversLead p ok words Has Now Out i s b a m aim depth h
+  covers_lead Own depth h = own_here p ok words Has Now Out i s b a m depth h (ws p ok words Has Now Out i s b a m Own depth h)
+  covers_lead (Posts post) depth h = post_here p ok words Has Now Out i s b a m post depth h (ws p ok words Has Now Out i s b a m (Posts post) depth h)
+
+  holds : (aim : Aim) (d : ℕ) (e : Event) (t : Bool) → load_of (if t then Some (node_word p m.reads.node + (node_size p - 1 - length m.reads.loaded)) else None) ≡ want.Event e → C (Hold aim d) e
+  holds aim d e true q = subst (C (Hold aim d)) (event_is (Load (node_word p m.reads.node + (node_size p - 1 - length m.reads.loaded))) e q) (λ h mv. hold_claim p ok words Has Now Out i s b a m aim d (covers_lead aim d) h mv)
+  holds aim d e false q = cc
+
   pub turns : (ph : Phase) (e : Event) → IsPlain ph → want_in (at p i m ph) ph ≡ want.Event e → C ph e
   turns Idle e w q = cc
   turns (Root aim) e w q = subst (C (Root aim)) (event_is _ e q) (λ h mv. root p ok words Has Now Out i s b a m aim h mv)
@@ -53,14 +62,14 @@ module _ (p : ConfigParts) (ok : IsSetting p) (words : List ℕ) (Has Now : ℕ 
   turns (Draw aim n) e w q = cc
   turns (Look aim n) e w q = cc
   turns (Grab aim n) e w q = subst (C (Grab aim n)) (event_is _ e q) (λ h mv. grab p ok words Has Now Out i s b a m aim n h mv)
-  turns (Hold aim d) e w q = absurd w
+  turns (Hold aim d) e w q = holds aim d e (nat_lt (length m.reads.loaded) (node_size p)) q
   turns (Seek aim d) e w q = absurd w
   turns (Fill n d r done write after) e w q = subst (C (Fill n d r done write after)) (event_is _ e q) (λ h mv. fill p ok words Has Now Out i s b a m n d r done write after h mv)
   turns (Waiting n d write after) e w q = cc
   turns (Body n carry done write after) e w q = subst (C (Body n carry done write after)) (event_is _ e q) (λ h mv. body p ok words Has Now Out i s b a m n carry done write after h mv)
   turns (Unlock n after) e w q = subst (C (Unlock n after)) (event_is _ e q) (λ h mv. unlock p ok words Has Now Out i s b a m n after h mv)
   turns (Leave n carry after) e w q = cc
-  turns (Top post node) e w q = absurd w
+  turns (Top post node) e w q = λ h mv. top p ok words Has Now Out i s b a m post node h e q h mv
   turns (Raise post node r done) e w q = subst (C (Raise post node r done)) (event_is _ e q) (λ h mv. raise p ok words Has Now Out i s b a m post node r done h mv)
   turns (Swap post node r) e w q = subst (C (Swap post node r)) (event_is _ e q) (λ h mv. swap p ok words Has Now Out i s b a m post node r h mv)
   turns Ended e w q = cc

@@ -1,5 +1,5 @@
 -- The turns of a walk over the counters for a new root, without a lock.
-use Rattle.std.proofs.Common.{◌≡◌, ℕ, List, [], length, refl, sym, ap, ◌∙◌, subst, arith, append-nil}
+use Rattle.std.proofs.Common.{◌≡◌, ℕ, List, [], length, refl, sym, ap, ◌∙◌, subst, arith}
 use Rattle.sh_base.specs.declared.config.ConfigParts.{ConfigParts}
 use Rattle.sh_base.specs.declared.event.Event.{Event}
 use Rattle.sh_base.specs.declared.event.Event.TheVariants.{Add}
@@ -23,15 +23,15 @@ use Rattle.sh_client.specs.Machine.{Machine, up}
 use Rattle.sh_client.specs.Splitting.{topped_by}
 use Rattle.sh_client.specs.Wants.{count_of}
 use Rattle.sh_core.specs.Actors.{Actor, becomes}
-use Rattle.sh_core.specs.Fits.{AreSpent, IsSeeking}
+use Rattle.sh_core.specs.Fits.{IsSeeking}
 use Rattle.sh_core.specs.Keeps.{Keeps}
 use Rattle.sh_core.specs.Core.{WantsAdd}
-use Rattle.sh_core.proofs.Others.{Grows, below_on}
-use Rattle.sh_core.proofs.Frame.{me, at, with, goes_on, work_with, SameNodes, same_grows, Before}
+use Rattle.sh_core.proofs.Others.{below_on}
+use Rattle.sh_core.proofs.Frame.{me, at, with, goes_on, work_with, same_grows, Before}
 use Rattle.sh_core.proofs.Locks.{Claim}
 use Rattle.sh_core.proofs.Raising.{work_raised}
 use Rattle.sh_core.proofs.Skipping.{spent_more, skips_act, keeps_ended}
-use Rattle.sh_core.proofs.Walking.{Counts, Reached, counted_on, counted_rise, counts_alone, drawn_on, event_is, rest_of, takes_chunk, with_counters, walks}
+use Rattle.sh_core.proofs.Walking.{Counts, Reached, counted_on, counts_alone, drawn_on, event_is, rest_of, takes_chunk, with_counters, walks}
 
 module _ (p : ConfigParts) (ok : IsSetting p) (words : List ℕ) (Has Now : ℕ → Actor → Type 0) (Out : ℕ → ℕ → ℕ → Type 0) (i : ℕ) (s : Scene) (b : Before p words Has Out s) (a : Actor) (m : Machine) (post : Post) (root : ℕ)
     (h : Has i (me p i a m (Top post root))) where

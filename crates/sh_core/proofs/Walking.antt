@@ -17,14 +17,13 @@ use Rattle.sh_alloc.specs.declared.state.NodeRange.{NodeRange}
 use Rattle.sh_alloc.specs.declared.state.Phase.{Phase as Step}
 use Rattle.sh_alloc.specs.declared.state.Phase.TheVariants.{Loading, Adding, Found, Spent}
 use Rattle.sh_alloc.specs.declared.state.Walk.{Walk}
-use Rattle.sh_alloc.specs.declared.state.ChunkWant.{ChunkWant}
 use Rattle.sh_alloc.specs.declared.state.ChunkWant.TheVariants as chunk
 use Rattle.sh_alloc.specs.Spares.{lowest, nodes_from, without_lowest}
 use Rattle.sh_alloc.specs.Walks.{walk_at, with_phase, server_at, next_of, fed_in as walk_fed_in, fed_by as walk_fed, want_in as walk_want_in, want_of as walk_wants}
 use Rattle.sh_scene.specs.Scene.{Seat, Scene, put}
 use Rattle.sh_scene.specs.Ground.{Ground}
 use Rattle.sh_scene.specs.Change.{Change}
-use Rattle.sh_scene.specs.Acts.{counted, drawn}
+use Rattle.sh_scene.specs.Acts.{drawn}
 use Rattle.sh_scene.proofs.Puts.{put_here, put_case}
 use Rattle.sh_scene.proofs.Joins.{nothing_done}
 use Rattle.sh_scene.proofs.Events.{added}

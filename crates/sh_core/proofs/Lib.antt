@@ -9,6 +9,10 @@ pub mod Spares
 pub mod Raising
 pub mod OnWay
 pub mod Calls
+pub mod Opening
+pub mod Pending
+pub mod Points
+pub mod Books
 pub mod Rights
 pub mod OwnStores
 pub mod Roots
@@ -26,5 +30,6 @@ pub mod InnerDecisions
 pub mod HoldTurns
 pub mod Walking
 pub mod Topping
+pub mod Seeking
 pub mod Turns
 pub mod LocalLaws

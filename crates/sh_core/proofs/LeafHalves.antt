@@ -29,18 +29,18 @@ use Rattle.sh_scene.specs.Nodes.{entries_of, low_in, IsStandingLeaf}
 use Rattle.sh_scene.specs.Ground.{Ground}
 use Rattle.sh_scene.proofs.Spelled.{leaf_is}
 use Rattle.sh_known.proofs.HandLemmas.{here_is}
-use Rattle.sh_client.specs.declared.state.Post.{Post}
+use Rattle.sh_decide.specs.declared.state.Post.{Post}
 use Rattle.sh_client.specs.declared.state.Tally.{Tally}
 use Rattle.sh_client.specs.declared.state.Write.TheVariants.{LeftLeaf}
 use Rattle.sh_client.specs.declared.state.Phase.{Phase}
 use Rattle.sh_client.specs.declared.state.Phase.TheVariants.{Fill}
 use Rattle.sh_client.specs.Machine.{Machine}
 use Rattle.sh_client.specs.declared.state.Then.{Then}
-use Rattle.sh_client.specs.declared.state.Aim.TheVariants.{Own, Posts}
+use Rattle.sh_decide.specs.declared.state.Aim.TheVariants.{Own, Posts}
 use Rattle.sh_client.specs.declared.state.Then.TheVariants.{Starts}
-use Rattle.sh_client.specs.declared.state.Decision.TheVariants as decision
-use Rattle.sh_client.specs.Aims.{call_key, left_key, left_value, post_of}
-use Rattle.sh_client.specs.Deciding.{decided_by, decision_of}
+use Rattle.sh_decide.specs.declared.state.Decision.TheVariants as decision
+use Rattle.sh_decide.specs.Aims.{call_key, left_key, left_value, post_of}
+use Rattle.sh_decide.specs.Deciding.{decided_by, decision_of}
 use Rattle.sh_core.specs.Fits.{HadNone, IsToSplit, PlansLeftLeaf, Fits}
 use Rattle.sh_core.proofs.Decided.{anew}
 use Rattle.sh_core.proofs.Spares.{IsTaken}
@@ -65,7 +65,7 @@ module _ (p : ConfigParts) (ok : IsSetting p) (words : List ℕ) (s : Scene) (g 
   body : IsStandingLeaf p s.log (s.node n)
   body = (g.sits n 0 low linked).body
 
-  half_made : (call : Call) (fresh : ℕ) → SplitsFor p (s.node n) call → PlansLeftLeaf p s i (entries_by i call reply.None) (left_words p (s.node n) call fresh) (right_words p (s.node n) call) n fresh (half_posts p (s.node n) call fresh)
+  pub half_made : (call : Call) (fresh : ℕ) → SplitsFor p (s.node n) call → PlansLeftLeaf p s i (entries_by i call reply.None) (left_words p (s.node n) call fresh) (right_words p (s.node n) call) n fresh (half_posts p (s.node n) call fresh)
   half_made (Get key) fresh h = absurd h
   half_made (Del key) fresh h = absurd h
   half_made (Range lo hi) fresh h = absurd h

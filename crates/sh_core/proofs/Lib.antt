@@ -36,3 +36,4 @@ pub mod Topping
 pub mod Seeking
 pub mod Turns
 pub mod LocalLaws
+pub mod Lists

@@ -16,6 +16,7 @@ use Rattle.sh_descend.specs.Descent.{hop_of}
 use Rattle.sh_scene.specs.Scene.{Scene}
 use Rattle.sh_known.specs.Hand.{IsImageOf}
 use Rattle.sh_client.specs.declared.state.Aim.{Aim}
+use Rattle.sh_client.specs.declared.state.Aim.TheVariants.{Own, Posts}
 use Rattle.sh_client.specs.declared.state.Phase.TheVariants.{Hold as Holds}
 use Rattle.sh_client.specs.Machine.{Machine}
 use Rattle.sh_client.specs.Aims.{key_of, target}
@@ -26,6 +27,8 @@ use Rattle.sh_core.proofs.Frame.{me, Before}
 use Rattle.sh_core.proofs.Locks.{Claim}
 use Rattle.sh_core.proofs.UnderLock.{K, Lands, hold, whole, ws}
 use Rattle.sh_core.proofs.Standing.{M, by_hop, standing_inner, standing_leaf}
+use Rattle.sh_core.proofs.LeafDecisions.{own_here}
+use Rattle.sh_core.proofs.InnerDecisions.{post_here}
 
 module _ (p : ConfigParts) (ok : IsSetting p) (words : List ℕ) (Has Now : ℕ → Actor → Type 0) (Out : ℕ → ℕ → ℕ → Type 0) (i : ℕ) (s : Scene) (b : Before p words Has Out s) (a : Actor) (m : Machine) (aim : Aim) (depth : ℕ) where
   abbrev At : ℕ
@@ -53,3 +56,8 @@ module _ (p : ConfigParts) (ok : IsSetting p) (words : List ℕ) (Has Now : ℕ 
 
   pub hold_claim : ((h : Has i (me p i a m (Holds aim depth))) → CoversLead h) → Claim p ok words Has Now Out i s b a m (Holds aim depth) (Load At)
   hold_claim here h mv = hold p ok words Has Now Out i s b a m aim depth h (λ image long q acc. decides h (here h) image long q acc) mv
+
+pub hold_turn : (p : ConfigParts) (ok : IsSetting p) (words : List ℕ) (Has Now : ℕ → Actor → Type 0) (Out : ℕ → ℕ → ℕ → Type 0) (i : ℕ) (s : Scene) (b : Before p words Has Out s) (a : Actor) (m : Machine) (aim : Aim) (depth : ℕ)
+    → Claim p ok words Has Now Out i s b a m (Holds aim depth) (Load (node_word p m.reads.node + (node_size p - 1 - length m.reads.loaded)))
+hold_turn p ok words Has Now Out i s b a m Own depth h mv = hold_claim p ok words Has Now Out i s b a m Own depth (λ h. own_here p ok words Has Now Out i s b a m depth h (ws p ok words Has Now Out i s b a m Own depth h)) h mv
+hold_turn p ok words Has Now Out i s b a m (Posts post) depth h mv = hold_claim p ok words Has Now Out i s b a m (Posts post) depth (λ h. post_here p ok words Has Now Out i s b a m post depth h (ws p ok words Has Now Out i s b a m (Posts post) depth h)) h mv

@@ -41,19 +41,13 @@ use Rattle.sh_core.specs.Keeps.{pending_then, Hands, Waits}
 use Rattle.sh_core.specs.Core.{Inv, Moves}
 use Rattle.sh_core.proofs.Others.{entry_on}
 use Rattle.sh_core.proofs.Frame.{next, me, at, with, goes_on, same_here, same_grows, Before, moves_to, one_log}
-use Rattle.sh_core.proofs.Roots.{decided_entry, skips_posted, waits_posted}
+use Rattle.sh_core.proofs.Roots.{posted_skipped, decided_entry, skips_posted, waits_posted}
 use Rattle.sh_core.proofs.BodyEnds.{rel, rel_holding, rel_pending, rel_calm, rel_fits, storing_at, keeps_hands, maker, entry_last, leaf_last, left_leaf_last, rewrote, splitted, skips_pending}
 use Rattle.sh_core.proofs.Bodies.{store_more}
 use Rattle.sh_core.proofs.Locks.{Claim}
 
 none_before : (n : ℕ) → n ≡ 0 + n
 none_before n = omega arith
-
-pending_skipped : (i : ℕ) → Pending i ≡ Skipped i → ⊥
-pending_skipped i e = cc
-
-posted_skipped : (i : ℕ) → Posted ≡ Skipped i → ⊥
-posted_skipped i e = cc
 
 module _ (p : ConfigParts) (ok : IsSetting p) (words : List ℕ) (Has Now : ℕ → Actor → Type 0) (Out : ℕ → ℕ → ℕ → Type 0) (i : ℕ) (s : Scene) (b : Before p words Has Out s) (a : Actor) (m : Machine) where
   abbrev N : ℕ

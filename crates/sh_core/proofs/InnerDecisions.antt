@@ -1,13 +1,12 @@
 -- The decisions under the lock of the node that a post goes to.
-use Rattle.std.proofs.Common.{◌≡◌, ◌≢◌, ℕ, ◌+◌, ◌<◌, List, [], ◌++◌, length, Option, Some, None, refl, sym, ap, ◌∙◌, subst, arith}
+use Rattle.std.proofs.Common.{◌≡◌, ◌≢◌, ℕ, ◌<◌, List, length, Option, Some, None, refl, sym, ap, ◌∙◌, subst}
 use Rattle.sh_base.specs.declared.config.ConfigParts.{ConfigParts}
 use Rattle.sh_base.specs.Setting.{IsSetting}
-use Rattle.sh_base.proofs.LayoutLemmas.{node_size_is}
 use Rattle.sh_image.specs.declared.inner.Image.{Image}
 use Rattle.sh_image.specs.declared.inner.Image.TheVariants.{Leaf as LeafImage, Inner as InnerImage}
 use Rattle.sh_image.specs.Inner.{Inner, inner_in, inner_words}
 use Rattle.sh_image.specs.Seen.{SeenBy}
-use Rattle.sh_edit.specs.Pairing.{with_pair, left_inner, right_inner, middle_of}
+use Rattle.sh_edit.specs.Pairing.{with_pair}
 use Rattle.sh_alloc.specs.Spares.{lowest, without_lowest}
 use Rattle.sh_alloc.specs.Walks.{start_of}
 use Rattle.sh_read.specs.Causes.{seen_as}
@@ -23,32 +22,29 @@ use Rattle.sh_scene.proofs.Spelled.{inner_is}
 use Rattle.sh_client.specs.declared.state.Post.{Post}
 use Rattle.sh_client.specs.declared.state.Tally.{Tally}
 use Rattle.sh_client.specs.declared.state.Aim.TheVariants.{Posts}
-use Rattle.sh_client.specs.declared.state.Then.{Then}
-use Rattle.sh_client.specs.declared.state.Then.TheVariants.{Ends, Starts}
+use Rattle.sh_client.specs.declared.state.Then.TheVariants.{Ends}
 use Rattle.sh_client.specs.declared.state.Write.TheVariants.{Nothing, Inner as WholeInner, LeftInner}
 use Rattle.sh_client.specs.declared.state.Decision.{Decision}
 use Rattle.sh_client.specs.declared.state.Decision.TheVariants as decision
 use Rattle.sh_client.specs.declared.state.Phase.{Phase}
 use Rattle.sh_client.specs.declared.state.Phase.TheVariants.{Hold as Holds, Waiting, Seek, Fill}
 use Rattle.sh_client.specs.Machine.{Machine, up}
-use Rattle.sh_client.specs.Aims.{post_of}
 use Rattle.sh_client.specs.Bodies.{pair_of}
 use Rattle.sh_client.specs.Deciding.{decided_by, decided_here, decision_of}
 use Rattle.sh_client.specs.Feeds.{did}
 use Rattle.sh_client.specs.Splitting.{splitting}
 use Rattle.sh_core.specs.Actors.{Actor}
-use Rattle.sh_core.specs.Fits.{IsPosting, Owes, PlansInner, PlansLeftInner}
+use Rattle.sh_core.specs.Fits.{IsPosting, Owes, PlansInner}
 use Rattle.sh_core.specs.Keeps.{Keeps}
-use Rattle.sh_core.specs.Core.{Inv, Moves}
 use Rattle.sh_core.proofs.Others.{owes_on}
 use Rattle.sh_core.proofs.Frame.{next, me, with, same_here, same_grows, Before, moves_to, one_log}
-use Rattle.sh_core.proofs.Decided.{anew, quiet_by, quiet_with}
+use Rattle.sh_core.proofs.Decided.{quiet_by, quiet_with}
 use Rattle.sh_core.proofs.Skipping.{worn_more, skips_act, keeps_skipped}
 use Rattle.sh_core.proofs.Spares.{takes_lowest, none_spare}
 use Rattle.sh_core.proofs.Raising.{begins_walk}
 use Rattle.sh_core.proofs.UnderLock.{Lands, real}
 use Rattle.sh_core.proofs.Standing.{M, restarts}
-use Rattle.sh_core.proofs.InnerHalves.{IsFor, decides, covers, adds, half_planned}
+use Rattle.sh_core.proofs.InnerHalves.{IsFor, inner_posts, left_pairs, right_pairs, decides, covers, adds, pair_half_fits}
 
 module _ (p : ConfigParts) (ok : IsSetting p) (words : List ℕ) (Has Now : ℕ → Actor → Type 0) (Out : ℕ → ℕ → ℕ → Type 0) (i : ℕ) (s : Scene) (b : Before p words Has Out s) (a : Actor) (m : Machine) (post : Post) (depth : ℕ)
     (h : Has i (me p i a m (Holds (Posts post) depth))) (loaded : List ℕ) where
@@ -103,17 +99,8 @@ module _ (p : ConfigParts) (ok : IsSetting p) (words : List ℕ) (Has Now : ℕ 
     splits e d (Some fresh) low mv =
         let f = K.work.fits in
         let taken = takes_lowest s i m.spare K.work.spares fresh low in
-        let body : List ℕ = inner_words p (left_inner p.leaf x (pair_of post) fresh) in
-        let right : List ℕ = inner_words p (right_inner p.leaf x (pair_of post)) in
-        let after : Then = Starts (Posts (post_of (middle_of p.leaf x.pairs (pair_of post)) fresh (x.level + 1))) in
-        quiet_with p ok words Has Now Out i s b a m ph (Fill n depth fresh 0 LeftInner after) (without_lowest m.spare) m.tally m.reply rd m.walk body right K refl (
-          f.2,
-          subst (λ (duty : Option Post). PlansLeftInner p s i body right n fresh duty after) (sym f.0) (half_planned p ok words s b.ground i a.first a.point N m.call m.reply post owed n f.1 fresh lt d),
-          record { own = taken.own; under = omega (arith, taken.follows); words = λ o lt. absurd (omega (arith, lt)) },
-          omega (arith, node_size_is p),
-          real p ok words Has Now Out i s b a m (Posts post) depth h,
-        )
-        owes taken.spares K.work.hands refl tt mv
+        quiet_with p ok words Has Now Out i s b a m ph (Fill n depth fresh 0 LeftInner (inner_posts p (s.node n) post fresh)) (without_lowest m.spare) m.tally m.reply rd m.walk (left_pairs p (s.node n) post fresh) (right_pairs p (s.node n) post) K refl
+        (pair_half_fits p ok words s b.ground i a.first a.point N m.call m.reply post owed n f.1 m a.first a.point N depth fresh (without_lowest m.spare) m.tally rd m.walk K.work.duty f.0 f.2 taken lt d) owes taken.spares K.work.hands refl tt mv
     splits e d None low mv =
         let f = K.work.fits in
         quiet_by p ok words Has Now Out i s b a m ph (Seek (Posts post) depth) m.spare m.tally m.reply rd (start_of p i) m.body m.right K refl

@@ -1,6 +1,5 @@
 -- A leaf that was READ under its lock and is to be split: its halves, with a node of the seat's own.
-use Rattle.std.proofs.Common.{Option, ◌≡◌, ◌≢◌, ℕ, ◌≤◌, Bool, true, false, List, length, None, refl, sym, ap, ◌∙◌, subst, arith}
-use Rattle.std.specs.Prelude.{if◌then◌else◌}
+use Rattle.std.proofs.Common.{Option, ◌≡◌, ◌≢◌, ℕ, ◌≤◌, List, length, None, refl, sym, ap, ◌∙◌, subst, arith}
 use Rattle.sh_base.specs.declared.config.ConfigParts.{ConfigParts}
 use Rattle.sh_base.specs.Setting.{node_size, IsSetting}
 use Rattle.sh_map.specs.declared.call.Call.{Call}
@@ -20,7 +19,6 @@ use Rattle.sh_read.specs.Causes.{seen_as}
 use Rattle.sh_read.specs.Reads.{Reads}
 use Rattle.sh_read.proofs.CauseLemmas.{image_spelled}
 use Rattle.sh_descend.specs.declared.Hop.{Hop}
-use Rattle.sh_descend.specs.declared.Hop.TheVariants.{Here, Right as HopRight, Down, Restart as HopRestart}
 use Rattle.sh_descend.specs.Descent.{hop_of}
 use Rattle.sh_base.specs.Layout.{lock_of}
 use Rattle.sh_base.proofs.LayoutLemmas.{node_size_is}
@@ -41,7 +39,7 @@ use Rattle.sh_client.specs.declared.state.Then.{Then}
 use Rattle.sh_client.specs.declared.state.Aim.TheVariants.{Own, Posts}
 use Rattle.sh_client.specs.declared.state.Then.TheVariants.{Starts}
 use Rattle.sh_client.specs.declared.state.Decision.TheVariants as decision
-use Rattle.sh_client.specs.Aims.{call_key, is_node, left_key, left_value, post_of}
+use Rattle.sh_client.specs.Aims.{call_key, left_key, left_value, post_of}
 use Rattle.sh_client.specs.Deciding.{decided_by, decision_of}
 use Rattle.sh_core.specs.Fits.{HadNone, IsToSplit, PlansLeftLeaf, Fits}
 use Rattle.sh_core.proofs.Decided.{anew}

@@ -45,10 +45,10 @@ decided_entry p s i f q e (call.Put key value) reply.None h = h
 decided_entry p s i f q e (call.Del key) (reply.Some old) h = h
 decided_entry p s i f q e c r h = absurd (no_entry h.entry h.is)
 
-pending_skipped : (i : ℕ) → Pending i ≡ Skipped i → ⊥
+pub pending_skipped : (i : ℕ) → Pending i ≡ Skipped i → ⊥
 pending_skipped i e = cc
 
-posted_skipped : (i : ℕ) → Posted ≡ Skipped i → ⊥
+pub posted_skipped : (i : ℕ) → Posted ≡ Skipped i → ⊥
 posted_skipped i e = cc
 
 -- a node that was to be posted is posted

@@ -12,7 +12,7 @@ use Rattle.sh_alloc.specs.declared.state.Walk.{Walk}
 use Rattle.sh_read.specs.Reads.{Reads}
 use Rattle.sh_tree.specs.Lists.{is_in}
 use Rattle.sh_tree.proofs.ListLemmas.{in_head, in_more, in_cases, few_nodes}
-use Rattle.sh_scene.specs.Scene.{Class, Undrawn, Reserved, Fresh, Linked, Posted, Pending, Skipped, Seat, Held, Scene}
+use Rattle.sh_scene.specs.Scene.{Class, Undrawn, Reserved, Fresh, Linked, Pending, Skipped, Seat, Held, Scene}
 use Rattle.sh_scene.specs.Nodes.{IsLinked}
 use Rattle.sh_scene.specs.Ground.{Ground}
 use Rattle.sh_scene.specs.Change.{Change}
@@ -32,13 +32,7 @@ use Rattle.sh_core.specs.Fits.{IsDecided, Owes, Fits}
 use Rattle.sh_core.specs.Keeps.{holding, pending, Hands, Waits, Skips, IsAtWork, Keeps}
 use Rattle.sh_core.proofs.Others.{owes_on}
 use Rattle.sh_core.proofs.Frame.{next, me, at, with, goes_on, ends_now, decided_ends, SameNodes, same_grows, skips_on}
-use Rattle.sh_core.proofs.Roots.{decided_entry}
-
-posted_skipped : (i : ℕ) → Posted ≡ Skipped i → ⊥
-posted_skipped i e = cc
-
-pending_skipped : (i : ℕ) → Pending i ≡ Skipped i → ⊥
-pending_skipped i e = cc
+use Rattle.sh_core.proofs.Roots.{pending_skipped, posted_skipped, decided_entry}
 
 skipped_pending : (i : ℕ) → Skipped i ≡ Pending i → ⊥
 skipped_pending i e = cc

@@ -207,13 +207,14 @@ pub record Before (p : ConfigParts) (words : List ℕ) (Has : ℕ → Actor → 
   pub held : (j l : ℕ) → Owns (s.hold l) (Seat j) → (a : Actor) × Has j a
   pub pends : (j n : ℕ) → s.post n ≡ Pending j → (a : Actor) × Has j a
   pub skips : (j n : ℕ) → s.post n ≡ Skipped j → (a : Actor) × Has j a
+  pub makes : (j : ℕ) → made_by j s.log ≢ [] → (a : Actor) × Has j a
   pub given : (l c d : ℕ) → s.hold l ≡ Held (Right c) d → Out l c d
   pub out : (l c d : ℕ) → Out l c d → s.hold l ≡ Held (Right c) d
 
 module _ (p : ConfigParts) (ok : IsSetting p) (words : List ℕ) (Has Now : ℕ → Actor → Type 0) (Out : ℕ → ℕ → ℕ → Type 0) (i : ℕ) (s : Scene) (b : Before p words Has Out s) where
   -- another scene with the same counters, where the actor is to count none on
   pub moves_by : (now : List ℕ) (t : Scene) (x : Actor) → Change p i s t × Ground p now t → Keeps p t i x → ((server : ℕ) → t.counter server ≡ s.counter server) → ((server : ℕ) → WantsAdd p server x.client → ⊥) → Moves Has i x Now → Inv p now t.log Now Out
-  moves_by now t x ch k same calm mv = turn_to p Has Now i x mv ok words now s t b.ground ch.1 k b.kept b.held b.pends b.skips Out ch.0 (λ server. omega (arith, same server))
+  moves_by now t x ch k same calm mv = turn_to p Has Now i x mv ok words now s t b.ground ch.1 k b.kept b.held b.pends b.skips b.makes Out ch.0 (λ server. omega (arith, same server))
       (λ server lt. subst (λ (c : ℕ). Bounded p.chunks (all_seats p) c (λ j. SomeAdds p Now server j)) (sym (same server))
       (bounded_less p.chunks (all_seats p) (s.counter server) (λ j. SomeAdds p Has server j) (λ j. SomeAdds p Now server j) (adds_before p Has Now i x mv server (calm server)) (b.bounded server lt)))
       b.given b.out

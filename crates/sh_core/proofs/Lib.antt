@@ -9,6 +9,10 @@ pub mod Spares
 pub mod Raising
 pub mod OnWay
 pub mod Calls
+pub mod Opening
+pub mod Pending
+pub mod Points
+pub mod Books
 pub mod Rights
 pub mod OwnStores
 pub mod Roots

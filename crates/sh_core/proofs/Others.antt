@@ -337,7 +337,8 @@ module _ (p : ConfigParts) (Has Now : ℕ → Actor → Type 0) (i : ℕ) (a : A
 
   module _ (ok : IsSetting p) (words now : List ℕ) (s t : Scene) (g : Ground p words s) (g' : Ground p now t) (here : Keeps p t i a)
       (kept : (j : ℕ) (b : Actor) → Has j b → Keeps p s j b) (held : (j l : ℕ) → Owns (s.hold l) (Seat j) → (b : Actor) × Has j b)
-      (pends : (j n : ℕ) → s.post n ≡ Pending j → (b : Actor) × Has j b) (skips : (j n : ℕ) → s.post n ≡ Skipped j → (b : Actor) × Has j b) where
+      (pends : (j n : ℕ) → s.post n ≡ Pending j → (b : Actor) × Has j b) (skips : (j n : ℕ) → s.post n ≡ Skipped j → (b : Actor) × Has j b)
+      (makes : (j : ℕ) → made_by j s.log ≢ [] → (b : Actor) × Has j b) where
     pub step_to : (After : ℕ → ℕ → ℕ → Type 0) (Other : Owner → Type 0) → ((j : ℕ) → j ≢ i → Other (Seat j)) → ChangeFor p Other s t → ((server : ℕ) → s.counter server ≤ t.counter server)
         → ((server : ℕ) → server < p.servers → Bounded p.chunks (all_seats p) (t.counter server) (λ j. SomeAdds p Now server j))
         → ((l c d : ℕ) → t.hold l ≡ Held (Right c) d → After l c d) → ((l c d : ℕ) → After l c d → t.hold l ≡ Held (Right c) d) → Inv p now t.log Now After
@@ -353,6 +354,7 @@ module _ (p : ConfigParts) (Has Now : ℕ → Actor → Type 0) (i : ℕ) (a : A
       held = λ j l o. still_there j (λ n. held j l (ch.back (Seat j) l (other j n) o));
       pends = λ j n e. still_there j (λ ne. pends j n ((ch.posts j n (Pending j) (other j ne) refl).1 e));
       skips = λ j n e. still_there j (λ ne. skips j n ((ch.posts j n (Skipped j) (other j ne) refl).1 e));
+      makes = λ j h. still_there j (λ ne. makes j (λ e. h (ap (made_by j) ch.longer ∙ made_by-append j s.log ch.more ∙ ap (λ (es : List LogEntry). es ++ made_by j ch.more) e ∙ made_by_none j ch.more (ch.entries j (other j ne)))));
       given = given;
       out = out;
     }

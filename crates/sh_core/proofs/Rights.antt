@@ -49,7 +49,7 @@ module _ (p : ConfigParts) (ok : IsSetting p) (words : List ℕ) (Has Now : ℕ 
       → ((k c d : ℕ) → (with_hold s l x).hold k ≡ Held (Right c) d → After k c d) → ((k c d : ℕ) → After k c d → (with_hold s l x).hold k ≡ Held (Right c) d) → Inv p words s.log Now After
   hands_to l x x' ch k calm mv given out =
       let t : Scene = with_hold s l x in
-      step_to p Has Now i x' mv ok words words s t b.ground ch.1 k b.kept b.held b.pends b.skips After (λ o. (o ≢ Seat i) × (o ≢ Right (compute_of p i))) (λ j ne. (seat_apart j i ne, λ q. seat_right j (compute_of p i) q)) ch.0 (λ server. omega arith)
+      step_to p Has Now i x' mv ok words words s t b.ground ch.1 k b.kept b.held b.pends b.skips b.makes After (λ o. (o ≢ Seat i) × (o ≢ Right (compute_of p i))) (λ j ne. (seat_apart j i ne, λ q. seat_right j (compute_of p i) q)) ch.0 (λ server. omega arith)
       (λ server lt. bounded_less p.chunks (all_seats p) (s.counter server) (λ j. SomeAdds p Has server j) (λ j. SomeAdds p Now server j) (adds_before p Has Now i x' mv server (λ q. no_add p server x'.client x'.client.phase calm q)) (b.bounded server lt))
       given out
 

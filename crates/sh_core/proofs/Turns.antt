@@ -61,7 +61,7 @@ module _ (p : ConfigParts) (ok : IsSetting p) (words : List ℕ) (Has Now : ℕ 
   turns (Swap post node r) e q = subst (C (Swap post node r)) (event_is _ e q) (λ h mv. swap p ok words Has Now Out i s b a m post node r h mv)
   turns Ended e q = cc
 
--- the law
+-- the law of the wanted turn
 pub turn_keeps : (p : ConfigParts) → IsSetting p → TurnKeeps p
 turn_keeps p ok words log Has Now Out i a e inv h q mv =
     let s = inv.scene in

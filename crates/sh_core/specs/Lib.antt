@@ -2,3 +2,5 @@ pub mod Actors
 pub mod Fits
 pub mod Keeps
 pub mod Core
+pub mod Opening
+pub mod Books

@@ -18,6 +18,7 @@ use Rattle.sh_map.specs.Points.{IsLeastPoint}
 use Rattle.sh_map.specs.Book.{entry_of, made}
 use Rattle.sh_map.specs.declared.log.Change.TheVariants as change
 use Rattle.sh_map.proofs.BookLemmas.{IsLeastPoint-push}
+use Rattle.sh_alloc.specs.declared.state.NodeRange.{NodeRange}
 use Rattle.sh_alloc.specs.declared.state.Walk.{Walk}
 use Rattle.sh_read.specs.Reads.{Reads, wanted}
 use Rattle.sh_scene.specs.Scene.{Pending, Skipped, Right, Seat, Held, Owns, Scene}
@@ -33,7 +34,7 @@ use Rattle.sh_client.specs.declared.state.Phase.TheVariants.{Idle, Root, Read, D
 use Rattle.sh_client.specs.Machine.{Machine}
 use Rattle.sh_client.specs.Wants.{want_in, load_of}
 use Rattle.sh_core.specs.Actors.{Actor, ending, done_of, least_point, point_of, IsAnswered, AreAnswered, made_by, updates}
-use Rattle.sh_core.specs.Fits.{HadNone, IsDecided, Fits}
+use Rattle.sh_core.specs.Fits.{AreSpares, HadNone, IsDecided, Owes, Fits}
 use Rattle.sh_core.specs.Keeps.{holding, Hands, Waits, pending, Skips, IsAtWork, Keeps}
 use Rattle.sh_core.specs.Core.{WantsAdd, SomeAdds, Inv, Moves}
 use Rattle.sh_core.proofs.Logs.{grows as log_grows, updates-snoc, in_order_snoc, answered_snoc, least_is}
@@ -117,9 +118,13 @@ module _ (p : ConfigParts) (s : Scene) (sn rest : List LogEntry) (i : ℕ) (a : 
 
 -- ---- the client's part, where its call, its reply and its nodes stay
 
--- the machine with other parts
+-- the machine with all parts new but its setting, its seat and its call
+abbrev pub anew : ConfigParts → ℕ → Machine → NodeRange → Tally → Reply → Reads → Walk → (body right : List ℕ) → Phase → Machine
+anew p i m spare tally reply reads walk body right ph = record { setting = p; seat = i; spare = spare; tally = tally; call = m.call; reply = reply; reads = reads; walk = walk; body = body; right = right; phase = ph }
+
+-- the same spare nodes and reply
 abbrev pub with : ConfigParts → ℕ → Machine → Tally → Reads → Walk → (body right : List ℕ) → Phase → Machine
-with p i m tally reads walk body right ph = record { setting = p; seat = i; spare = m.spare; tally = tally; call = m.call; reply = m.reply; reads = reads; walk = walk; body = body; right = right; phase = ph }
+with p i m tally reads walk body right ph = anew p i m m.spare tally m.reply reads walk body right ph
 
 -- a duty is what it was, in a scene of the same posts
 pub waits_on : (s t : Scene) (i : ℕ) → ((n : ℕ) → t.post n ≡ s.post n) → (duty : Option Post) → Waits s i duty → Waits t i duty
@@ -142,19 +147,25 @@ same_here s = record { log = refl; class = λ n. refl; post = λ n. refl; counts
 pub same_grows : (s t : Scene) (i e n : ℕ) → SameNodes s t → e ≤ n → Grows s t i e n
 same_grows s t i e n h le = record { more = []; longer = h.log ∙ sym (append-nil s.log); linked = λ m l a q. h.class m ∙ q; pending = λ m q. h.post m ∙ q; counts = h.counts; later = le }
 
+-- its duty stays: the seat has the same node to post
+pub work_anew : (p : ConfigParts) (s t : Scene) (i f q e n : ℕ) (m : Machine) (ph : Phase) (w : IsAtWork p s i f q e (at p i m ph)) → ((r : ℕ) → t.post r ≡ s.post r) → (spare : NodeRange) (tally : Tally) (reply : Reply) (reads : Reads) (walk : Walk) (body right : List ℕ) (to : Phase)
+    → tally.skipped_spent + tally.skipped_worn ≡ m.tally.skipped_spent + m.tally.skipped_worn → let x : Machine = anew p i m spare tally reply reads walk body right to in
+    Fits p t i f q n x w.duty to → Owes t i f q n m.call reply w.duty → AreSpares t i spare → Hands t i (holding p x to) → IsAtWork p t i f q n x
+work_anew p s t i f q e n m ph w post spare tally reply reads walk body right to sum fits owes spares hands = record {
+  seated = w.seated;
+  duty = w.duty;
+  fits = fits;
+  owes = owes;
+  hands = hands;
+  waits = waits_on s t i post w.duty w.waits;
+  spares = spares;
+  skips = skips_on s t i (m.tally.skipped_spent + m.tally.skipped_worn) (tally.skipped_spent + tally.skipped_worn) post sum w.skips;
+}
+
 module _ (p : ConfigParts) (s t : Scene) (i f q e n : ℕ) (m : Machine) (ph : Phase) (w : IsAtWork p s i f q e (at p i m ph)) (same : SameNodes s t) (le : e ≤ n) where
   pub work_with : (tally : Tally) (reads : Reads) (walk : Walk) (body right : List ℕ) (to : Phase) → tally.skipped_spent + tally.skipped_worn ≡ m.tally.skipped_spent + m.tally.skipped_worn → Fits p t i f q n (with p i m tally reads walk body right to) w.duty to
       → Hands t i (holding p (with p i m tally reads walk body right to) to) → IsAtWork p t i f q n (with p i m tally reads walk body right to)
-  work_with tally reads walk body right to sum fits hands = record {
-    seated = w.seated;
-    duty = w.duty;
-    fits = fits;
-    owes = owes_on p s t i f q e n (same_grows s t i e n same le) m.call m.reply w.duty w.owes;
-    hands = hands;
-    waits = waits_on s t i same.post w.duty w.waits;
-    spares = λ r is. same.class r ∙ w.spares r is;
-    skips = skips_on s t i (m.tally.skipped_spent + m.tally.skipped_worn) (tally.skipped_spent + tally.skipped_worn) same.post sum w.skips;
-  }
+  work_with tally reads walk body right to sum fits hands = work_anew p s t i f q e n m ph w same.post m.spare tally m.reply reads walk body right to sum fits (owes_on p s t i f q e n (same_grows s t i e n same le) m.call m.reply w.duty w.owes) (λ r is. same.class r ∙ w.spares r is) hands
 
   -- with nothing to post its call has ended, with this reply
   pub work_ended : (tally : Tally) (answer : Reply) (reads : Reads) (walk : Walk) (body right : List ℕ) → tally.skipped_spent + tally.skipped_worn ≡ m.tally.skipped_spent + m.tally.skipped_worn → w.duty ≡ None → Hands t i None

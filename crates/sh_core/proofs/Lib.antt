@@ -3,7 +3,6 @@ pub mod Others
 pub mod Frame
 pub mod Locals
 pub mod Locks
-pub mod Decided
 pub mod Images
 pub mod Spares
 pub mod Raising
@@ -23,11 +22,9 @@ pub mod InnerBodies
 pub mod UnderLock
 pub mod Standing
 pub mod InnerHalves
-pub mod LeafPlans
 pub mod LeafHalves
 pub mod LeafDecisions
 pub mod InnerDecisions
-pub mod HoldTurns
 pub mod Walking
 pub mod Topping
 pub mod Seeking

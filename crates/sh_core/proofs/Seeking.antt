@@ -47,12 +47,10 @@ use Rattle.sh_core.specs.Fits.{AreSpent, IsDecided, IsPosting, IsSeeking, Owes, 
 use Rattle.sh_core.specs.Keeps.{Keeps}
 use Rattle.sh_core.specs.Core.{WantsAdd}
 use Rattle.sh_core.proofs.Others.{named_on, owes_on}
-use Rattle.sh_core.proofs.Frame.{me, with, goes_on, work_with, same_grows, Before}
+use Rattle.sh_core.proofs.Frame.{me, with, goes_on, work_with, same_grows, Before, anew, work_anew}
 use Rattle.sh_core.proofs.Locks.{Claim}
-use Rattle.sh_core.proofs.Decided.{anew, work_anew}
 use Rattle.sh_core.proofs.Skipping.{spent_more, skips_act, keeps_skipped}
-use Rattle.sh_core.proofs.LeafPlans.{SplitsFor}
-use Rattle.sh_core.proofs.LeafHalves.{half_made, put_misses, to_split}
+use Rattle.sh_core.proofs.LeafHalves.{SplitsFor, half_made, put_misses, to_split}
 use Rattle.sh_core.proofs.InnerHalves.{half_planned, post_to_split}
 use Rattle.sh_core.proofs.Walking.{Counts, Reached, counted_on, counts_alone, drawn_on, event_is, rest_of, takes_chunk, with_counters, walks}
 

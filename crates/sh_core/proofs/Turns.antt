@@ -10,7 +10,7 @@ use Rattle.sh_base.specs.Memory.{apply, found_by}
 use Rattle.sh_map.specs.declared.log.Entry.{Entry as LogEntry}
 use Rattle.sh_scene.specs.Scene.{Scene}
 use Rattle.sh_client.specs.declared.state.Want.TheVariants as want
-use Rattle.sh_client.specs.declared.state.Aim.{Aim}
+use Rattle.sh_decide.specs.declared.state.Aim.{Aim}
 use Rattle.sh_client.specs.declared.state.Phase.{Phase}
 use Rattle.sh_client.specs.declared.state.Phase.TheVariants.{Idle, Root, Read, Draw, Look, Grab, Hold, Seek, Fill, Waiting, Body, Unlock, Leave, Top, Raise, Swap, Ended}
 use Rattle.sh_client.specs.Machine.{Machine}

@@ -4,3 +4,4 @@ pub mod Keeps
 pub mod Core
 pub mod Opening
 pub mod Books
+pub mod Moments

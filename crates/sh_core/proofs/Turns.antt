@@ -26,8 +26,8 @@ use Rattle.sh_core.proofs.Roots.{swap}
 use Rattle.sh_core.proofs.InnerBodies.{body}
 use Rattle.sh_core.proofs.HoldTurns.{hold_turn}
 use Rattle.sh_core.proofs.Walking.{event_is}
-use Rattle.sh_core.proofs.Topping.{top}
 use Rattle.sh_core.proofs.Seeking.{seek}
+use Rattle.sh_core.proofs.Topping.{top}
 use Rattle.sh_core.proofs.Calls.{before}
 
 module _ (p : ConfigParts) (ok : IsSetting p) (words : List ℕ) (Has Now : ℕ → Actor → Type 0) (Out : ℕ → ℕ → ℕ → Type 0) (i : ℕ) (s : Scene) (b : Before p words Has Out s) (a : Actor) (m : Machine) where
@@ -62,7 +62,7 @@ module _ (p : ConfigParts) (ok : IsSetting p) (words : List ℕ) (Has Now : ℕ 
   turns Ended e q = cc
 
 -- the law of the wanted turn
-pub turn_keeps : (p : ConfigParts) (ok : IsSetting p) → TurnKeeps p
+pub turn_keeps : (p : ConfigParts) → IsSetting p → TurnKeeps p
 turn_keeps p ok words log Has Now Out i a e inv h q mv =
     let s = inv.scene in
     let c = a.client in

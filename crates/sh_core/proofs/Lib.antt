@@ -13,6 +13,9 @@ pub mod Opening
 pub mod Pending
 pub mod Points
 pub mod Books
+pub mod Owners
+pub mod Moments
+pub mod AtRest
 pub mod Rights
 pub mod OwnStores
 pub mod Roots

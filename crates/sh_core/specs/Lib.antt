@@ -4,3 +4,5 @@ pub mod Keeps
 pub mod Core
 pub mod Opening
 pub mod Books
+pub mod Moments
+pub mod Rest

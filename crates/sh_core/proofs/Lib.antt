@@ -18,3 +18,6 @@ pub mod UnderLock
 pub mod Standing
 pub mod Turns
 pub mod LocalLaws
+pub mod SensesOnWay
+pub mod SensesHeld
+pub mod Senses

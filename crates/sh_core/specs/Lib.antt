@@ -2,3 +2,4 @@ pub mod Actors
 pub mod Fits
 pub mod Keeps
 pub mod Core
+pub mod Senses

@@ -21,3 +21,4 @@ pub mod LocalLaws
 pub mod SensesOnWay
 pub mod SensesHeld
 pub mod Senses
+pub mod SensesAll

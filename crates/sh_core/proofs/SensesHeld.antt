@@ -150,7 +150,7 @@ module _ (p : ConfigParts) (ok : IsSetting p) (words : List ℕ) (Has : ℕ → 
 -- ---- a chunk is found
 
 -- no node of the other kind is to be split
-split_kind : (p : ConfigParts) (c : Call) (aim : Aim) (image : Image) (hop : Hop) → decided_by p c aim image hop ≡ decision.Split → is_other_kind aim image ≡ false
+pub split_kind : (p : ConfigParts) (c : Call) (aim : Aim) (image : Image) (hop : Hop) → decided_by p c aim image hop ≡ decision.Split → is_other_kind aim image ≡ false
 split_kind p c Own (LeafImage a) hop e = refl
 split_kind p c Own (InnerImage a) Here e = cc
 split_kind p c (Posts post) (LeafImage a) Here e = cc

@@ -6,7 +6,6 @@ use Rattle.sh_base.specs.declared.config.ConfigParts.{ConfigParts}
 use Rattle.sh_base.specs.Setting.{node_size, nodes, IsNode, IsSetting}
 use Rattle.sh_base.specs.Layout.{node_word}
 use Rattle.sh_map.specs.declared.call.Call.{Call}
-use Rattle.sh_map.specs.declared.call.Call.TheVariants as call
 use Rattle.sh_map.specs.Calls.{IsKey}
 use Rattle.sh_image.specs.declared.inner.Image.{Image}
 use Rattle.sh_image.specs.declared.inner.Image.TheVariants.{Leaf as LeafImage, Inner as InnerImage}
@@ -60,12 +59,9 @@ IsLevelled (LeafImage a) = Unit {0}
 IsLevelled (InnerImage a) = 1 ≤ a.level
 
 has_answer : (c : Call) (aim : Aim) (image : Image) → level_of image ≡ target aim → IsLevelled image → lacks_answer c aim image ≡ false
-has_answer (call.Get key) Own (LeafImage a) e up = refl
-has_answer (call.Get key) Own (InnerImage a) e up = absurd (omega (arith, e, up))
-has_answer (call.Get key) (Posts post) image e up = refl
-has_answer (call.Put key value) aim image e up = refl
-has_answer (call.Del key) aim image e up = refl
-has_answer (call.Range low high) aim image e up = refl
+has_answer c aim (LeafImage a) e up = refl
+has_answer c Own (InnerImage a) e up = absurd (omega (arith, e, up))
+has_answer c (Posts post) (InnerImage a) e up = refl
 
 -- where no new root goes over it, a node isn't below the wanted level
 above : (top : Bool) (aim : Aim) (image : Image) (level : ℕ) → Reaches top (target aim) level → level_of image ≡ level → (top && is_below aim image) ≡ false → target aim ≤ level

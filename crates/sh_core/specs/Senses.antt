@@ -1,11 +1,11 @@
 -- The senseless cases: turns in which a client makes nothing of the word that it is fed but starts again. They are here by
 -- the client's own terms; no client of a pool comes to one.
-use Rattle.std.specs.Prelude.{◌≡◌, ℕ, ◌&&◌, not, if◌then◌else◌, Bool, true, false, List, Option, Some, None}
+use Rattle.std.specs.Prelude.{◌≡◌, ◌≢◌, ℕ, ◌&&◌, not, if◌then◌else◌, Bool, true, false, List, [], ◌∷◌, Option, Some, None}
 use Rattle.sh_base.specs.declared.config.ConfigParts.{ConfigParts}
 use Rattle.sh_base.specs.declared.event.Event.{Event}
 use Rattle.sh_base.specs.Memory.{found_by}
 use Rattle.sh_map.specs.declared.call.Call.{Call}
-use Rattle.sh_map.specs.declared.call.Call.TheVariants.{Get}
+use Rattle.sh_map.specs.declared.call.Call.TheVariants.{Range}
 use Rattle.sh_map.specs.declared.log.Entry.{Entry as LogEntry}
 use Rattle.sh_image.specs.declared.inner.Image.{Image}
 use Rattle.sh_image.specs.declared.inner.Image.TheVariants.{Leaf as LeafImage, Inner as InnerImage}
@@ -21,23 +21,26 @@ use Rattle.sh_descend.specs.declared.Hop.TheVariants.{Here, Right, Down, Restart
 use Rattle.sh_client.specs.declared.state.Aim.{Aim}
 use Rattle.sh_client.specs.declared.state.Aim.TheVariants.{Own, Posts}
 use Rattle.sh_client.specs.declared.state.Phase.{Phase}
-use Rattle.sh_client.specs.declared.state.Phase.TheVariants.{Root, Read, Hold, Seek}
+use Rattle.sh_client.specs.declared.state.Phase.TheVariants.{Root, Read, Hold, Seek, Waiting}
+use Rattle.sh_client.specs.declared.state.Then.TheVariants.{Starts}
+use Rattle.sh_client.specs.declared.state.Write.TheVariants.{Nothing}
 use Rattle.sh_client.specs.declared.state.Want.TheVariants as want
 use Rattle.sh_client.specs.Machine.{Machine}
-use Rattle.sh_client.specs.Aims.{is_node, key_of, target}
+use Rattle.sh_client.specs.Aims.{is_node, key_of, takes_lock, target}
 use Rattle.sh_client.specs.Leaves.{are_keys_once}
 use Rattle.sh_client.specs.Deciding.{has_separator}
 use Rattle.sh_client.specs.Ways.{is_below}
 use Rattle.sh_client.specs.Wants.{want_of}
+use Rattle.sh_client.specs.Feeds.{fed_by}
 use Rattle.sh_core.specs.Actors.{Actor}
 use Rattle.sh_core.specs.Core.{Inv}
 
 -- ---- an image that was READ without a lock
 
--- it is an inner node, where a get looks for its leaf
+-- it is an inner node, where a get or a range looks for its leaf
 abbrev pub lacks_answer : Call → Aim → Image → Bool
-lacks_answer (Get key) Own (InnerImage a) = true
-lacks_answer call aim image = false
+lacks_answer call aim (LeafImage a) = false
+lacks_answer call aim (InnerImage a) = not (takes_lock call aim)
 
 -- its hop is Restart, or to a number that names no node
 abbrev pub strays_by : ConfigParts → Call → Aim → Image → Hop → Bool
@@ -105,6 +108,44 @@ is_senseless_in m word phase = false
 
 abbrev pub is_senseless : Machine → (word : ℕ) → Bool
 is_senseless m word = is_senseless_in m word m.phase
+
+-- ---- what a client does then
+
+abbrev pub is_at_root : Phase → Bool
+is_at_root (Root aim) = true
+is_at_root phase = false
+
+-- its lock is given back with nothing written, and its descent or its post starts again
+abbrev pub gives_back : Phase → Bool
+gives_back (Waiting node depth Nothing (Starts aim)) = true
+gives_back phase = false
+
+-- or its READ under the lock begins again
+abbrev pub is_none : List ℕ → Bool
+is_none [] = true
+is_none (x ∷ loaded) = false
+
+abbrev pub leaves_off : Phase → (loaded : List ℕ) → Bool
+leaves_off (Hold aim depth) loaded = is_none loaded
+leaves_off phase loaded = gives_back phase
+
+-- Behind one of these turns a client is at the root word, or on its way there, or at the begin of its READ.
+abbrev pub starts_again : Phase → Machine → Bool
+starts_again (Root aim) m = is_at_root m.phase
+starts_again (Read aim top) m = is_at_root m.phase
+starts_again (Hold aim depth) m = leaves_off m.phase m.reads.loaded
+starts_again (Seek aim depth) m = gives_back m.phase
+starts_again phase m = false
+
+-- a get or a range takes no lock for its leaf, and no range is made
+abbrev pub IsMade : Call → Phase → Type 0
+IsMade call (Read aim top) = (low high : ℕ) → call ≢ Range low high
+IsMade call (Hold aim depth) = takes_lock call aim ≡ true
+IsMade call phase = Unit {0}
+
+-- a client starts again in the senseless cases, and in no other
+abbrev pub AreAllCases : Type 0
+AreAllCases = (m : Machine) (word : ℕ) → IsMade m.call m.phase → is_senseless m word ≡ starts_again m.phase (fed_by m word)
 
 -- What a wanted event finds is never senseless, whatever the order of the clients' turns.
 abbrev pub NeverSenseless : ConfigParts → Type 1

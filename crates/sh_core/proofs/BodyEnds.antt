@@ -43,7 +43,7 @@ use Rattle.sh_core.specs.Keeps.{holding, pending, pending_then, Hands, Waits, Sk
 use Rattle.sh_core.specs.Core.{Inv, Moves}
 use Rattle.sh_core.proofs.Logs.{made_by-append, made_by_here, answered_longer}
 use Rattle.sh_core.proofs.Frame.{me, at, with, skips_on, IsCalm, Before, moves_to}
-use Rattle.sh_core.proofs.Roots.{decided_entry}
+use Rattle.sh_core.proofs.Roots.{pending_skipped, posted_skipped, decided_entry}
 
 -- the lock is given back next
 abbrev pub rel : ℕ → Option ℕ → Then → Phase
@@ -79,12 +79,6 @@ storing_at i d n write body (suc done) k e lt = ap (λ (z : ℕ). Writes i d n (
 -- the entry that came last
 pub at_last : (log : List LogEntry) (e : LogEntry) → slice_get (log ++ e ∷ []) (length log) ≡ Some e
 at_last log e = slice_get-get_or (log ++ e ∷ []) (length log) e (omega (arith, length-append log (e ∷ []))) ∙ ap Some (get_or-append_seam log e [] e)
-
-posted_skipped : (i : ℕ) → Posted ≡ Skipped i → ⊥
-posted_skipped i e = cc
-
-pending_skipped : (i : ℕ) → Pending i ≡ Skipped i → ⊥
-pending_skipped i e = cc
 
 -- a node that wasn't skipped is to be posted
 pub skips_pending : (s t : Scene) (i count r : ℕ) → ((n : ℕ) → t.post n ≡ put s.post r (Pending i) n) → (s.post r ≡ Skipped i → ⊥) → Skips s i count → Skips t i count
@@ -138,7 +132,7 @@ module _ (p : ConfigParts) (ok : IsSetting p) (words : List ℕ) (Has Now : ℕ 
         seated = k.work.seated;
         duty = None;
         fits = rel_fits p t i a.first N (N + 1) q None n carry Ends record { real = real; depth = depth; held = put_here s.hold (lock_of p n) (Held (Seat i) depth); carries = carries }
-            (refl, decided_entry p t.log i a.first N (N + 1) m.call m.reply record { entry = entry; is = made; stands = at_last s.log entry; from = omega (arith, k.first, k.seen); below = omega arith });
+            (refl, decided_entry p t i a.first N (N + 1) m.call m.reply record { entry = entry; is = made; stands = at_last s.log entry; from = omega (arith, k.first, k.seen); below = omega arith });
         owes = tt;
         hands = subst (Hands t i) (sym (rel_holding p q n carry Ends)) (keeps_hands t (lock_of p n) (Held (Seat i) depth) refl k.work.hands);
         waits = subst (Waits s i) none k.work.waits;

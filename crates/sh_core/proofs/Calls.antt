@@ -20,7 +20,7 @@ use Rattle.sh_core.proofs.Frame.{Before, moves_to}
 
 -- the parts of the invariant
 pub before : (p : ConfigParts) (words : List ℕ) (log : List LogEntry) (Has : ℕ → Actor → Type 0) (Out : ℕ → ℕ → ℕ → Type 0) (inv : Inv p words log Has Out) → Before p words Has Out inv.scene
-before p words log Has Out inv = record { ground = inv.ground; bounded = inv.bounded; kept = inv.kept; held = inv.held; pends = inv.pends; skips = inv.skips; given = inv.given; out = inv.out }
+before p words log Has Out inv = record { ground = inv.ground; bounded = inv.bounded; kept = inv.kept; held = inv.held; pends = inv.pends; skips = inv.skips; makes = inv.makes; given = inv.given; out = inv.out }
 
 -- a client at rest has nothing to post, holds no lock, and has no entry of a call under way
 pub nothing : (p : ConfigParts) (s : Scene) (i f q e : ℕ) (m : Machine) (duty : Option Post) (ph : Phase) → rests ph ≡ true → Fits p s i f q e m duty ph → (duty ≡ None) × (holding p m ph ≡ None) × (pending i m ph ≡ [])
@@ -103,6 +103,7 @@ module _ (p : ConfigParts) (ok : IsSetting p) where
     held = λ j l o. let h = inv.held j l o in (h.0, same.on j h.0 h.1);
     pends = λ j n e. let h = inv.pends j n e in (h.0, same.on j h.0 h.1);
     skips = λ j n e. let h = inv.skips j n e in (h.0, same.on j h.0 h.1);
+    makes = λ j e. let h = inv.makes j e in (h.0, same.on j h.0 h.1);
     given = inv.given;
     out = inv.out;
   }

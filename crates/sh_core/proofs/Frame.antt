@@ -89,23 +89,23 @@ pub record IsEnding (log : List LogEntry) (i n : ℕ) (d : Done) : Type 0 where
   pub from : d.first ≤ d.point
   pub past : d.point + made d.call d.reply ≤ n
 
-module _ (p : ConfigParts) (log sn rest : List LogEntry) (i : ℕ) (a : Actor) (m : Machine) (whole : log ≡ sn ++ rest) (more : a.seen ≤ length sn) (began : a.first ≤ a.seen) where
-  shorter : length sn ≤ length log
+module _ (p : ConfigParts) (s : Scene) (sn rest : List LogEntry) (i : ℕ) (a : Actor) (m : Machine) (whole : s.log ≡ sn ++ rest) (more : a.seen ≤ length sn) (began : a.first ≤ a.seen) where
+  shorter : length sn ≤ length s.log
   shorter = omega (arith, ap length whole, length-append sn rest)
 
   abbrev done : Call → Reply → Done
   done c r = record { n = a.number; seat = i; call = c; reply = r; first = a.first; point = point_of sn a.first a.point c r; rows = [] }
 
-  absent_ends : (key : ℕ) → HadNone log a.first a.seen key → IsEnding log i (length sn) (done (call.Del key) reply.None)
+  absent_ends : (key : ℕ) → HadNone s.log a.first a.seen key → IsEnding s.log i (length sn) (done (call.Del key) reply.None)
   absent_ends key h =
       let le : h.at ≤ length sn = omega (arith, h.below, more) in
       let there : get (map_at sn h.at) key ≡ None = ap (λ (es : List LogEntry). get (map_of es) key) (sym (take-append-le h.at sn rest le)) ∙ subst (λ (es : List LogEntry). get (map_at es h.at) key ≡ None) whole h.absent in
       let l = least_is sn a.first key None h.at h.from le there in
-      let l' : IsLeastPoint log a.first key None (least_point sn a.first key None) = subst (λ (es : List LogEntry). IsLeastPoint es a.first key None (least_point sn a.first key None)) (sym whole) (least_longer a.first key None (least_point sn a.first key None) sn rest l) in
+      let l' : IsLeastPoint s.log a.first key None (least_point sn a.first key None) = subst (λ (es : List LogEntry). IsLeastPoint es a.first key None (least_point sn a.first key None)) (sym whole) (least_longer a.first key None (least_point sn a.first key None) sn rest l) in
       record { answered = record { seat_is = refl; answers = record { within = l'.within; row = l'.here }; least = l' }; from = l'.from; past = omega (arith, l.within) }
 
   -- an update, or a node or a pool that is used up
-  pub decided_ends : (c : Call) (r : Reply) → IsDecided p log i a.first a.point a.seen c r → IsEnding log i (length sn) (done c r)
+  pub decided_ends : (c : Call) (r : Reply) → IsDecided p s i a.first a.point a.seen c r → IsEnding s.log i (length sn) (done c r)
   decided_ends (call.Put key value) (reply.Some old) h = record { answered = record { seat_is = refl; answers = record { within = omega (arith, h.below, more, shorter); row = h.stands ∙ ap Some (sym (entry_is (entry_of i (change.Put key value) (Some old)) h.entry h.is)) }; least = tt }; from = h.from; past = omega (arith, h.below, more) }
   decided_ends (call.Put key value) reply.None h = record { answered = record { seat_is = refl; answers = record { within = omega (arith, h.below, more, shorter); row = h.stands ∙ ap Some (sym (entry_is (entry_of i (change.Put key value) None) h.entry h.is)) }; least = tt }; from = h.from; past = omega (arith, h.below, more) }
   decided_ends (call.Del key) (reply.Some old) h = record { answered = record { seat_is = refl; answers = record { within = omega (arith, h.below, more, shorter); row = h.stands ∙ ap Some (sym (entry_is (entry_of i (change.Del key) (Some old)) h.entry h.is)) }; least = tt }; from = h.from; past = omega (arith, h.below, more) }
@@ -129,17 +129,18 @@ waits_on s t i e (Some post) w = λ n ne q. w n ne (sym (e n) ∙ q)
 pub skips_on : (s t : Scene) (i count now : ℕ) → ((n : ℕ) → t.post n ≡ s.post n) → now ≡ count → Skips s i count → Skips t i now
 skips_on s t i count now e c h = record { nodes = h.nodes; once = h.once; are = λ n. let u = h.are n in ((λ q. e n ∙ u.0 q), (λ q. u.1 (sym (e n) ∙ q))); counted = h.counted ∙ sym c }
 
--- another scene of the same links, posts and log
+-- another scene of the same links, posts and log, whose counters are no lower
 pub record SameNodes (s t : Scene) : Type 0 where
   pub log : t.log ≡ s.log
   pub class : (n : ℕ) → t.class n ≡ s.class n
   pub post : (n : ℕ) → t.post n ≡ s.post n
+  pub counts : (server : ℕ) → s.counter server ≤ t.counter server
 
 pub same_here : (s : Scene) → SameNodes s s
-same_here s = record { log = refl; class = λ n. refl; post = λ n. refl }
+same_here s = record { log = refl; class = λ n. refl; post = λ n. refl; counts = λ server. omega arith }
 
 pub same_grows : (s t : Scene) (i e n : ℕ) → SameNodes s t → e ≤ n → Grows s t i e n
-same_grows s t i e n h le = record { more = []; longer = h.log ∙ sym (append-nil s.log); linked = λ m l a q. h.class m ∙ q; pending = λ m q. h.post m ∙ q; later = le }
+same_grows s t i e n h le = record { more = []; longer = h.log ∙ sym (append-nil s.log); linked = λ m l a q. h.class m ∙ q; pending = λ m q. h.post m ∙ q; counts = h.counts; later = le }
 
 module _ (p : ConfigParts) (s t : Scene) (i f q e n : ℕ) (m : Machine) (ph : Phase) (w : IsAtWork p s i f q e (at p i m ph)) (same : SameNodes s t) (le : e ≤ n) where
   pub work_with : (tally : Tally) (reads : Reads) (walk : Walk) (body right : List ℕ) (to : Phase) → tally.skipped_spent + tally.skipped_worn ≡ m.tally.skipped_spent + m.tally.skipped_worn → Fits p t i f q n (with p i m tally reads walk body right to) w.duty to
@@ -206,13 +207,14 @@ pub record Before (p : ConfigParts) (words : List ℕ) (Has : ℕ → Actor → 
   pub held : (j l : ℕ) → Owns (s.hold l) (Seat j) → (a : Actor) × Has j a
   pub pends : (j n : ℕ) → s.post n ≡ Pending j → (a : Actor) × Has j a
   pub skips : (j n : ℕ) → s.post n ≡ Skipped j → (a : Actor) × Has j a
+  pub makes : (j : ℕ) → made_by j s.log ≢ [] → (a : Actor) × Has j a
   pub given : (l c d : ℕ) → s.hold l ≡ Held (Right c) d → Out l c d
   pub out : (l c d : ℕ) → Out l c d → s.hold l ≡ Held (Right c) d
 
 module _ (p : ConfigParts) (ok : IsSetting p) (words : List ℕ) (Has Now : ℕ → Actor → Type 0) (Out : ℕ → ℕ → ℕ → Type 0) (i : ℕ) (s : Scene) (b : Before p words Has Out s) where
   -- another scene with the same counters, where the actor is to count none on
   pub moves_by : (now : List ℕ) (t : Scene) (x : Actor) → Change p i s t × Ground p now t → Keeps p t i x → ((server : ℕ) → t.counter server ≡ s.counter server) → ((server : ℕ) → WantsAdd p server x.client → ⊥) → Moves Has i x Now → Inv p now t.log Now Out
-  moves_by now t x ch k same calm mv = turn_to p Has Now i x mv ok words now s t b.ground ch.1 k b.kept b.held b.pends b.skips Out ch.0
+  moves_by now t x ch k same calm mv = turn_to p Has Now i x mv ok words now s t b.ground ch.1 k b.kept b.held b.pends b.skips b.makes Out ch.0 (λ server. omega (arith, same server))
       (λ server lt. subst (λ (c : ℕ). Bounded p.chunks (all_seats p) c (λ j. SomeAdds p Now server j)) (sym (same server))
       (bounded_less p.chunks (all_seats p) (s.counter server) (λ j. SomeAdds p Has server j) (λ j. SomeAdds p Now server j) (adds_before p Has Now i x mv server (calm server)) (b.bounded server lt)))
       b.given b.out

@@ -1,6 +1,5 @@
 -- The laws of the turns that a compute server answers, and of rights.
-use Rattle.std.proofs.Common.{◌≡◌, ◌≢◌, ◌⊎◌, ℕ, ◌≤◌, Bool, true, false, List, [], ◌∷◌, ◌++◌, length, Option, Some, None, refl, sym, ap, ◌∙◌, subst}
-use Rattle.std.specs.Prelude.{if◌then◌else◌, nat_lt, ◌+◌, ◌-◌}
+use Rattle.std.proofs.Common.{◌≡◌, ◌≢◌, ◌⊎◌, ℕ, List, ◌++◌, Option, Some, None, refl, ◌∙◌, subst}
 use Rattle.sh_base.specs.declared.config.ConfigParts.{ConfigParts}
 use Rattle.sh_base.specs.Setting.{IsSetting}
 use Rattle.sh_base.specs.Layout.{lock_of, compute_of}
@@ -9,12 +8,10 @@ use Rattle.sh_alloc.specs.declared.state.ChunkWant.{ChunkWant}
 use Rattle.sh_alloc.specs.declared.state.ChunkWant.TheVariants as chunk
 use Rattle.sh_alloc.specs.Walks.{want_of as walk_wants}
 use Rattle.sh_read.specs.Reads.{wanted}
-use Rattle.sh_scene.specs.Scene.{Scene}
 use Rattle.sh_client.specs.declared.state.Aim.{Aim}
 use Rattle.sh_client.specs.declared.state.Then.{Then}
 use Rattle.sh_client.specs.declared.state.Phase.{Phase}
 use Rattle.sh_client.specs.declared.state.Phase.TheVariants.{Idle, Root, Read, Draw, Look, Grab, Hold, Seek, Fill, Waiting, Body, Unlock, Leave, Top, Raise, Swap, Ended}
-use Rattle.sh_client.specs.Machine.{Machine}
 use Rattle.sh_client.specs.Wants.{count_of, load_of, want_in, want_of}
 use Rattle.sh_core.specs.Actors.{Actor, stepped, turned}
 use Rattle.sh_core.specs.Keeps.{IsSeated}

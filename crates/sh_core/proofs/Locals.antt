@@ -116,7 +116,7 @@ module _ (p : ConfigParts) (ok : IsSetting p) (words : List ℕ) (Has Now : ℕ 
   follows n Ends h mv =
       let k = b.kept i (me p i a m (Leave n None Ends)) h in
       let f = k.work.fits.1 in
-      let end = decided_ends p s.log sn rest i a m whole more k.first m.call m.reply f.1 in
+      let end = decided_ends p s sn rest i a m whole more k.first m.call m.reply f.1 in
       stays p ok words Has Now Out i s b (ending i (me p i a m (Leave n None Ends)) sn (at p i m Ended))
       (ends_now p s s i (me p i a m (Leave n None Ends)) (at p i m Ended) sn k refl short more (work_ended p s s i a.first a.point a.seen N m (Leave n None Ends) k.work (same_here s) more m.tally m.reply m.reads m.walk m.body m.right refl f.0 k.work.hands) end.answered end.from end.past refl refl) tt mv
   follows n (Starts aim) h mv = let k = b.kept i (me p i a m (Leave n None (Starts aim))) h in goes (Leave n None (Starts aim)) (Root aim) k k.work.fits.1 k.work.hands refl tt mv

@@ -38,7 +38,7 @@ use Rattle.sh_core.proofs.Frame.{next, me, at, with, goes_on, work_with, SameNod
 
 -- another hold of a lock
 pub same_hold : (s : Scene) (l : ℕ) (x : Hold) → SameNodes s (with_hold s l x)
-same_hold s l x = record { log = refl; class = λ n. refl; post = λ n. refl }
+same_hold s l x = record { log = refl; class = λ n. refl; post = λ n. refl; counts = λ server. omega arith }
 
 -- the seat's locks after a change of the one that it has
 pub hands_take : (s : Scene) (i l : ℕ) (x : Hold) → Hands s i None → Hands (with_hold s l x) i (Some l)

@@ -203,7 +203,7 @@ module _ (p : ConfigParts) (ok : IsSetting p) (words : List ℕ) (Has Now : ℕ 
         one_log p ok words Has Now Out i s b words s refl
         (moves_by p ok words Has Now Out i s b words s (next a (length s.log) n) (nothing_done p (λ o. o ≢ Seat i) s, b.ground)
         (goes_on p s s i (length s.log) (me p i a m (Read aim top)) n K refl K.seen (omega arith)
-        (work_with p s s i a.first a.point a.seen (length s.log) m (Read aim top) K.work (same_here s) K.seen m.tally reads (walk_start p i) m.body m.right (Top post reads.node) refl (duty, below, begins_walk p ok i m.spare (none_spare s i m.spare K.work.spares e)) K.work.hands)
+        (work_with p s s i a.first a.point a.seen (length s.log) m (Read aim top) K.work (same_here s) K.seen m.tally reads (walk_start p i) m.body m.right (Top post reads.node) refl (duty, below, begins_walk p ok s i m.spare (none_spare s i m.spare K.work.spares e)) K.work.hands)
         (sym (ap (λ (z : Aim). pending_aim i m.call m.reply z) own))) (λ server. refl) (λ server q. cc) mv)
 
     goes_up : (image : Image) (to : Aim) → aim ≡ to → IsImageOf s level named.low image → is_below to image ≡ true → Here' (grown M to reads.node)

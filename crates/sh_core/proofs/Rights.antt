@@ -49,7 +49,7 @@ module _ (p : ConfigParts) (ok : IsSetting p) (words : List ℕ) (Has Now : ℕ 
       → ((k c d : ℕ) → (with_hold s l x).hold k ≡ Held (Right c) d → After k c d) → ((k c d : ℕ) → After k c d → (with_hold s l x).hold k ≡ Held (Right c) d) → Inv p words s.log Now After
   hands_to l x x' ch k calm mv given out =
       let t : Scene = with_hold s l x in
-      step_to p Has Now i x' mv ok words words s t b.ground ch.1 k b.kept b.held b.pends b.skips After (λ o. (o ≢ Seat i) × (o ≢ Right (compute_of p i))) (λ j ne. (seat_apart j i ne, λ q. seat_right j (compute_of p i) q)) ch.0
+      step_to p Has Now i x' mv ok words words s t b.ground ch.1 k b.kept b.held b.pends b.skips b.makes After (λ o. (o ≢ Seat i) × (o ≢ Right (compute_of p i))) (λ j ne. (seat_apart j i ne, λ q. seat_right j (compute_of p i) q)) ch.0 (λ server. omega arith)
       (λ server lt. bounded_less p.chunks (all_seats p) (s.counter server) (λ j. SomeAdds p Has server j) (λ j. SomeAdds p Now server j) (adds_before p Has Now i x' mv server (λ q. no_add p server x'.client x'.client.phase calm q)) (b.bounded server lt))
       given out
 
@@ -137,7 +137,7 @@ module _ (p : ConfigParts) (ok : IsSetting p) (words : List ℕ) (Has Now : ℕ 
     parts Ends h mv =
         let k = b.kept i (me p i a m (Leave n (Some depth) Ends)) h in
         let f = k.work.fits.1 in
-        let end = decided_ends p s.log sn rest i a m whole more k.first m.call m.reply f.1 in
+        let end = decided_ends p s sn rest i a m whole more k.first m.call m.reply f.1 in
         puts_out Ends k (ending i (me p i a m (Leave n (Some depth) Ends)) sn (with p i m given_over m.reads m.walk m.body m.right Ended))
         (ends_now p s T i (me p i a m (Leave n (Some depth) Ends)) (with p i m given_over m.reads m.walk m.body m.right Ended) sn k refl short more
         (work_ended p s T i a.first a.point a.seen (length sn) m (Leave n (Some depth) Ends) k.work (same_hold s (lock_of p n) (Held (Right (compute_of p i)) depth)) more given_over m.reply m.reads m.walk m.body m.right refl f.0 (dropped Ends k)) end.answered end.from end.past refl refl) tt mv

@@ -39,16 +39,16 @@ no_entry : (e : LogEntry) → [] ≡ e ∷ [] → ⊥
 no_entry e q = cc
 
 -- a call that has made its entry is answered by it
-pub decided_entry : (p : ConfigParts) (log : List LogEntry) (i f q e : ℕ) (c : Call) (r : Reply) → HasEntry log i f q e c r → IsDecided p log i f q e c r
-decided_entry p log i f q e (call.Put key value) (reply.Some old) h = h
-decided_entry p log i f q e (call.Put key value) reply.None h = h
-decided_entry p log i f q e (call.Del key) (reply.Some old) h = h
-decided_entry p log i f q e c r h = absurd (no_entry h.entry h.is)
+pub decided_entry : (p : ConfigParts) (s : Scene) (i f q e : ℕ) (c : Call) (r : Reply) → HasEntry s.log i f q e c r → IsDecided p s i f q e c r
+decided_entry p s i f q e (call.Put key value) (reply.Some old) h = h
+decided_entry p s i f q e (call.Put key value) reply.None h = h
+decided_entry p s i f q e (call.Del key) (reply.Some old) h = h
+decided_entry p s i f q e c r h = absurd (no_entry h.entry h.is)
 
-pending_skipped : (i : ℕ) → Pending i ≡ Skipped i → ⊥
+pub pending_skipped : (i : ℕ) → Pending i ≡ Skipped i → ⊥
 pending_skipped i e = cc
 
-posted_skipped : (i : ℕ) → Posted ≡ Skipped i → ⊥
+pub posted_skipped : (i : ℕ) → Posted ≡ Skipped i → ⊥
 posted_skipped i e = cc
 
 -- a node that was to be posted is posted
@@ -88,7 +88,7 @@ module _ (p : ConfigParts) (ok : IsSetting p) (words : List ℕ) (Has Now : ℕ 
       let child : s.class c ≡ Linked s.height post.separator = w.linked ∙ ap (λ (l : ℕ). Linked l post.separator) below in
       let ch = root_act p words s b.ground i r root c post.separator ok root_is child w.some w.past w.mine f.3.own words_are in
       let t : Scene = grown s r c in
-      let end = decided_ends p s.log s.log [] i a m (sym (append-nil s.log)) k.seen k.first m.call m.reply (decided_entry p s.log i a.first a.point a.seen m.call m.reply w.entry) in
+      let end = decided_ends p s s.log [] i a m (sym (append-nil s.log)) k.seen k.first m.call m.reply (decided_entry p s i a.first a.point a.seen m.call m.reply w.entry) in
       one_log p ok words Has Now Out i s b (set words root_word r) t refl
       (moves_to p ok words Has Now Out i s b (set words root_word r) t (ending i (me p i a m (Swap post root r)) s.log (at p i m Ended)) ch
       (ends_now p s t i (me p i a m (Swap post root r)) (at p i m Ended) s.log k refl (omega arith) k.seen record {

@@ -1,17 +1,17 @@
 -- The image of a node that stands, and the decisions on it that its hop leads to.
-use Rattle.std.proofs.Common.{◌≡◌, ◌≢◌, ℕ, zero, suc, ◌+◌, ◌-◌, ◌<◌, ◌≤◌, Bool, true, false, List, [], ◌∷◌, ◌++◌, length, get_or, Option, Some, None, refl, sym, ap, ◌∙◌, subst, arith}
-use Rattle.std.specs.Prelude.{◌^◌, if◌then◌else◌}
+use Rattle.std.proofs.Common.{◌≡◌, ℕ, zero, suc, Bool, true, false, List, Option, refl, sym, ap, ◌∙◌, subst, arith}
+use Rattle.std.specs.Prelude.{if◌then◌else◌}
 use Rattle.sh_base.specs.declared.config.ConfigParts.{ConfigParts}
-use Rattle.sh_base.specs.Setting.{node_size, IsSetting}
+use Rattle.sh_base.specs.Setting.{IsSetting}
 use Rattle.sh_map.specs.Calls.{IsKey}
 use Rattle.sh_image.specs.declared.inner.Image.{Image}
 use Rattle.sh_image.specs.declared.inner.Image.TheVariants.{Leaf as LeafImage, Inner as InnerImage}
 use Rattle.sh_image.specs.Leaf.{Leaf, leaf_in, Spells}
 use Rattle.sh_image.specs.Inner.{Inner, inner_in, SpellsInner}
-use Rattle.sh_read.specs.Reads.{Reads, reads_with}
+use Rattle.sh_read.specs.Reads.{reads_with}
 use Rattle.sh_descend.specs.declared.Hop.{Hop}
 use Rattle.sh_descend.specs.declared.Hop.TheVariants.{Here, Right as HopRight, Down, Restart as HopRestart}
-use Rattle.sh_descend.specs.Descent.{hop_of, level_of}
+use Rattle.sh_descend.specs.Descent.{hop_of}
 use Rattle.sh_scene.specs.Scene.{Linked, Scene}
 use Rattle.sh_scene.specs.Ground.{Ground}
 use Rattle.sh_scene.specs.Nodes.{level_in}
@@ -23,19 +23,17 @@ use Rattle.sh_client.specs.declared.state.Tally.{Tally}
 use Rattle.sh_client.specs.declared.state.Aim.{Aim}
 use Rattle.sh_client.specs.declared.state.Aim.TheVariants.{Own, Posts}
 use Rattle.sh_client.specs.declared.state.Then.TheVariants.{Starts, Takes}
-use Rattle.sh_client.specs.declared.state.Decision.{Decision}
 use Rattle.sh_client.specs.declared.state.Decision.TheVariants as decision
 use Rattle.sh_client.specs.declared.state.Phase.TheVariants.{Hold as Holds}
 use Rattle.sh_client.specs.Machine.{Machine, up}
 use Rattle.sh_client.specs.Aims.{is_node, key_of, target}
-use Rattle.sh_client.specs.Deciding.{decided_by, decided_here, decision_of}
+use Rattle.sh_client.specs.Deciding.{decided_by, decided_here}
 use Rattle.sh_client.specs.Feeds.{did}
 use Rattle.sh_core.specs.Actors.{Actor}
 use Rattle.sh_core.specs.Fits.{Owes, duty_of}
-use Rattle.sh_core.specs.Core.{Inv, Moves}
 use Rattle.sh_core.proofs.Frame.{me, with, Before}
 use Rattle.sh_core.proofs.OnWay.{key_past}
-use Rattle.sh_core.proofs.UnderLock.{K, Lands, gives}
+use Rattle.sh_core.proofs.UnderLock.{Lands, gives}
 
 module _ (p : ConfigParts) (words : List ℕ) (s : Scene) (g : Ground p words s) (n low : ℕ) (ws : List ℕ) (is : ws ≡ s.node n) where
   -- words that spell a leaf are those of one

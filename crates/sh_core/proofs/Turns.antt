@@ -1,6 +1,5 @@
--- The turn of a wanted event keeps the invariant, by what the client is at: all but READs under a lock and walks over the
--- counters.
-use Rattle.std.proofs.Common.{◌≡◌, ◌≢◌, ℕ, ◌+◌, ◌-◌, ◌<◌, ◌≤◌, Bool, true, false, List, [], ◌∷◌, ◌++◌, length, Option, Some, None, refl, sym, ap, ◌∙◌, subst, arith, append-nil}
+-- The turn of a wanted event keeps the invariant, by what the client is at: all but walks over the counters.
+use Rattle.std.proofs.Common.{◌≡◌, ℕ, ◌+◌, ◌-◌, Bool, true, false, List, ◌++◌, length, Some, None, sym, subst}
 use Rattle.std.specs.Prelude.{if◌then◌else◌, nat_lt}
 use Rattle.sh_base.specs.declared.config.ConfigParts.{ConfigParts}
 use Rattle.sh_base.specs.declared.event.Event.{Event}
@@ -10,7 +9,6 @@ use Rattle.sh_base.specs.Layout.{node_word}
 use Rattle.sh_base.specs.Memory.{apply, found_by}
 use Rattle.sh_map.specs.declared.log.Entry.{Entry as LogEntry}
 use Rattle.sh_scene.specs.Scene.{Scene}
-use Rattle.sh_client.specs.declared.state.Want.{Want}
 use Rattle.sh_client.specs.declared.state.Want.TheVariants as want
 use Rattle.sh_client.specs.declared.state.Aim.{Aim}
 use Rattle.sh_client.specs.declared.state.Phase.{Phase}
@@ -26,14 +24,14 @@ use Rattle.sh_core.proofs.OnWay.{read_claim}
 use Rattle.sh_core.proofs.OwnStores.{fill, raise}
 use Rattle.sh_core.proofs.Roots.{swap}
 use Rattle.sh_core.proofs.InnerBodies.{body}
+use Rattle.sh_core.proofs.HoldTurns.{hold_turn}
 use Rattle.sh_core.proofs.Calls.{before}
 
 event_is : (x y : Event) → want.Event x ≡ want.Event y → x ≡ y
 event_is x y e = cc
 
--- the client doesn't READ under a lock, nor walk over the counters
+-- the client doesn't walk over the counters
 abbrev pub IsPlain : Phase → Type 0
-IsPlain (Hold aim depth) = ⊥
 IsPlain (Seek aim depth) = ⊥
 IsPlain (Top post node) = ⊥
 IsPlain ph = Unit {0}
@@ -46,6 +44,10 @@ module _ (p : ConfigParts) (ok : IsSetting p) (words : List ℕ) (Has Now : ℕ 
   reads aim top e true q = subst (C (Read aim top)) (event_is (Load (node_word p m.reads.node + (node_size p - 1 - length m.reads.loaded))) e q) (λ h mv. read_claim p ok words Has Now Out i s b a m aim top h mv)
   reads aim top e false q = cc
 
+  holds : (aim : Aim) (d : ℕ) (e : Event) (t : Bool) → load_of (if t then Some (node_word p m.reads.node + (node_size p - 1 - length m.reads.loaded)) else None) ≡ want.Event e → C (Hold aim d) e
+  holds aim d e true q = subst (C (Hold aim d)) (event_is (Load (node_word p m.reads.node + (node_size p - 1 - length m.reads.loaded))) e q) (λ h mv. hold_turn p ok words Has Now Out i s b a m aim d h mv)
+  holds aim d e false q = cc
+
   pub turns : (ph : Phase) (e : Event) → IsPlain ph → want_in (at p i m ph) ph ≡ want.Event e → C ph e
   turns Idle e w q = cc
   turns (Root aim) e w q = subst (C (Root aim)) (event_is _ e q) (λ h mv. root p ok words Has Now Out i s b a m aim h mv)
@@ -53,7 +55,7 @@ module _ (p : ConfigParts) (ok : IsSetting p) (words : List ℕ) (Has Now : ℕ 
   turns (Draw aim n) e w q = cc
   turns (Look aim n) e w q = cc
   turns (Grab aim n) e w q = subst (C (Grab aim n)) (event_is _ e q) (λ h mv. grab p ok words Has Now Out i s b a m aim n h mv)
-  turns (Hold aim d) e w q = absurd w
+  turns (Hold aim d) e w q = holds aim d e (nat_lt (length m.reads.loaded) (node_size p)) q
   turns (Seek aim d) e w q = absurd w
   turns (Fill n d r done write after) e w q = subst (C (Fill n d r done write after)) (event_is _ e q) (λ h mv. fill p ok words Has Now Out i s b a m n d r done write after h mv)
   turns (Waiting n d write after) e w q = cc

@@ -3,3 +3,5 @@ pub mod Fits
 pub mod Keeps
 pub mod Core
 pub mod Senses
+pub mod Opening
+pub mod Books

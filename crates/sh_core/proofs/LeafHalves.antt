@@ -65,7 +65,7 @@ module _ (p : ConfigParts) (ok : IsSetting p) (words : List ℕ) (s : Scene) (g 
   body : IsStandingLeaf p s.log (s.node n)
   body = (g.sits n 0 low linked).body
 
-  half_made : (call : Call) (fresh : ℕ) → SplitsFor p (s.node n) call → PlansLeftLeaf p s i (entries_by i call reply.None) (left_words p (s.node n) call fresh) (right_words p (s.node n) call) n fresh (half_posts p (s.node n) call fresh)
+  pub half_made : (call : Call) (fresh : ℕ) → SplitsFor p (s.node n) call → PlansLeftLeaf p s i (entries_by i call reply.None) (left_words p (s.node n) call fresh) (right_words p (s.node n) call) n fresh (half_posts p (s.node n) call fresh)
   half_made (Get key) fresh h = absurd h
   half_made (Del key) fresh h = absurd h
   half_made (Range lo hi) fresh h = absurd h

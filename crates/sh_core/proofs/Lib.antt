@@ -30,6 +30,7 @@ pub mod InnerDecisions
 pub mod HoldTurns
 pub mod Walking
 pub mod Topping
+pub mod Seeking
 pub mod Turns
 pub mod LocalLaws
 pub mod SensesOnWay

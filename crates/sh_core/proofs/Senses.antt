@@ -21,8 +21,9 @@ use Rattle.sh_core.specs.Actors.{Actor}
 use Rattle.sh_core.specs.Senses.{is_senseless, is_senseless_in, NeverSenseless}
 use Rattle.sh_core.proofs.Frame.{me, at, Before}
 use Rattle.sh_core.proofs.Calls.{before}
+use Rattle.sh_core.proofs.OnWay.{aim_key}
 use Rattle.sh_core.proofs.SensesOnWay.{is_number, read_is_sound}
-use Rattle.sh_core.proofs.SensesHeld.{aims_key, hold_is_sound, walk_is_sound}
+use Rattle.sh_core.proofs.SensesHeld.{hold_is_sound, walk_is_sound}
 
 event_is : (x y : Event) → want.Event x ≡ want.Event y → x ≡ y
 event_is x y e = cc
@@ -43,7 +44,7 @@ module _ (p : ConfigParts) (ok : IsSetting p) (words : List ℕ) (Has : ℕ → 
   on_way aim top h =
       let k = b.kept i (me p i a m (Read aim top)) h in
       let f = k.work.fits in
-      read_is_sound p ok words s b.ground a.first m.call m.reads aim top (omega (arith, k.first, k.seen)) (aims_key s i a.first a.point a.seen m.call m.reply p k.work.seated.in_range aim k.work.duty f.0 k.work.owes) f.1
+      read_is_sound p ok words s b.ground a.first m.call m.reads aim top (omega (arith, k.first, k.seen)) (aim_key p s i a.first a.point a.seen m.call m.reply aim k.work.duty k.work.seated.in_range f.0 k.work.owes) f.1
 
   under_lock : (aim : Aim) (depth : ℕ) → Sound (Hold aim depth) next_load
   under_lock aim depth h = hold_is_sound p ok words Has Out i s b a m aim depth h

@@ -37,28 +37,21 @@ use Rattle.sh_client.specs.declared.state.Decision.TheVariants as decision
 use Rattle.sh_client.specs.declared.state.Phase.TheVariants.{Hold as Holds}
 use Rattle.sh_client.specs.Machine.{Machine}
 use Rattle.sh_client.specs.Aims.{is_node, key_of, target}
-use Rattle.sh_client.specs.Deciding.{decided_by, has_separator}
+use Rattle.sh_client.specs.Deciding.{decided_by, decided_here, has_separator}
 use Rattle.sh_client.proofs.IndexLemmas.{once_is}
 use Rattle.sh_core.specs.Actors.{Actor}
 use Rattle.sh_core.specs.Fits.{IsToSplit, IsThere, Owes, duty_of}
 use Rattle.sh_core.specs.Keeps.{Keeps}
 use Rattle.sh_core.specs.Senses.{is_other_kind, is_wrong, is_wrong_by, is_wrong_here, of_image, of_read, of_walk}
 use Rattle.sh_core.proofs.Frame.{me, Before}
-use Rattle.sh_core.proofs.OnWay.{key_past}
+use Rattle.sh_core.proofs.OnWay.{aim_key}
+use Rattle.sh_core.proofs.InnerHalves.{split_here}
 use Rattle.sh_core.proofs.Standing.{standing_leaf}
-use Rattle.sh_core.proofs.UnderLock.{K, whole, ws as words_read}
+use Rattle.sh_core.proofs.UnderLock.{K, not_lt, whole, ws as words_read}
 use Rattle.sh_core.proofs.SensesOnWay.{names_node, whole_image}
-
-not_lt : (a b : ℕ) → nat_lt a b ≡ false → b ≤ a
-not_lt a b e = grind (arith, nat_tests)
 
 differ_test : (a b : ℕ) → a ≢ b → (a == b) ≡ false
 differ_test a b h = grind (arith, nat_tests)
-
--- what a descent looks for is a key
-pub aims_key : (s : Scene) (i f q e : ℕ) (c : Call) (r : Reply) (p : ConfigParts) → IsInRange p c → (aim : Aim) (duty : Option Post) → duty ≡ duty_of aim → Owes s i f q e c r duty → IsKey (key_of c aim)
-aims_key s i f q e c r p h Own duty is o = key_past p c h
-aims_key s i f q e c r p h (Posts post) duty is o = let w = subst (Owes s i f q e c r) is o in (w.some, w.past)
 
 no_pair : (pairs : List Pair) (separator : ℕ) → IsNew pairs separator → has_separator pairs separator ≡ false
 no_pair [] separator h = refl
@@ -140,7 +133,7 @@ module _ (p : ConfigParts) (ok : IsSetting p) (words : List ℕ) (Has : ℕ → 
       let f = k.work.fits in
       let le = not_lt (length ws) (node_size p) e in
       let is : ws ≡ s.node m.reads.node = whole p ok words Has Has Out i s b a m aim depth h (omega (arith, le, f.3.left)) in
-      let key = aims_key s i a.first a.point a.seen m.call m.reply p k.work.seated.in_range aim k.work.duty f.0 k.work.owes in
+      let key = aim_key p s i a.first a.point a.seen m.call m.reply aim k.work.duty k.work.seated.in_range f.0 k.work.owes in
       let z = stand_right p ok words s b.ground i a.first a.point a.seen m.call m.reply m.reads.node aim k.work.duty f.0 k.work.owes f.1 key in
       lands z.image (ap (seen_of p) is ∙ z.seen) e z.right
 
@@ -151,17 +144,13 @@ module _ (p : ConfigParts) (ok : IsSetting p) (words : List ℕ) (Has : ℕ → 
 
 -- no node of the other kind is to be split
 pub split_kind : (p : ConfigParts) (c : Call) (aim : Aim) (image : Image) (hop : Hop) → decided_by p c aim image hop ≡ decision.Split → is_other_kind aim image ≡ false
-split_kind p c Own (LeafImage a) hop e = refl
-split_kind p c Own (InnerImage a) Here e = cc
-split_kind p c (Posts post) (LeafImage a) Here e = cc
-split_kind p c (Posts post) (InnerImage a) hop e = refl
-split_kind p c aim image (Right r) e = by (is_node p r) e
+split_kind p c aim image hop e = kind aim image (sym (ap (decided_by p c aim image) (split_here p c aim image hop e)) ∙ e)
   where
-    by : (t : Bool) → (if t then decision.Right r else decision.Restart) ≡ decision.Split → is_other_kind aim image ≡ false
-    by true q = cc
-    by false q = cc
-split_kind p c aim image (Down n) e = cc
-split_kind p c aim image Restart e = cc
+    kind : (aim : Aim) (image : Image) → decided_here p c aim image ≡ decision.Split → is_other_kind aim image ≡ false
+    kind Own (LeafImage a) e = refl
+    kind Own (InnerImage a) e = cc
+    kind (Posts post) (LeafImage a) e = cc
+    kind (Posts post) (InnerImage a) e = refl
 
 pub walk_is_sound : (p : ConfigParts) (s : Scene) (c : Call) (reads : Reads) (aim : Aim) → IsToSplit p s c reads aim → (wants : ChunkWant) → of_walk (of_image (λ (z : Image). is_other_kind aim z) (accepted p reads)) wants ≡ false
 walk_is_sound p s c reads aim h (chunk.Event e) = refl

@@ -30,10 +30,8 @@ use Rattle.sh_client.specs.Aims.{is_node, key_of, target}
 use Rattle.sh_client.specs.Ways.{is_below}
 use Rattle.sh_core.specs.Fits.{IsOnWay, HasRead, Reaches}
 use Rattle.sh_core.specs.Senses.{lacks_answer, strays, strays_by, of_image, of_read}
+use Rattle.sh_core.proofs.UnderLock.{not_lt}
 use Rattle.sh_core.proofs.Images.{more_known, seen_leaf, seen_inner}
-
-not_lt : (a b : ℕ) → nat_lt a b ≡ false → b ≤ a
-not_lt a b e = grind (arith, nat_tests)
 
 not_eq : (a b : ℕ) → (a == b) ≡ false → a ≢ b
 not_eq a b e = grind (arith, nat_tests)

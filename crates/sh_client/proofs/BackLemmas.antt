@@ -4,13 +4,13 @@ use Rattle.sh_image.specs.declared.inner.Image.{Image}
 use Rattle.sh_lock.specs.Locks.{release_of}
 use Rattle.sh_read.specs.declared.state.Progress.TheVariants.{Accepted, Odd}
 use Rattle.sh_read.specs.Reads.{accepted, progress_of, fed_by as read_fed}
-use Rattle.sh_client.specs.declared.state.Aim.{Aim}
-use Rattle.sh_client.specs.declared.state.Decision.TheVariants.{Restart}
+use Rattle.sh_decide.specs.declared.state.Aim.{Aim}
+use Rattle.sh_decide.specs.declared.state.Decision.TheVariants.{Restart}
 use Rattle.sh_client.specs.declared.state.Phase.TheVariants.{Hold, Waiting}
 use Rattle.sh_client.specs.declared.state.Then.TheVariants.{Starts}
 use Rattle.sh_client.specs.declared.state.Write.TheVariants.{Nothing}
 use Rattle.sh_client.specs.Courses.{node_read, wants_over, GivesBack}
-use Rattle.sh_client.specs.Deciding.{decision_of}
+use Rattle.sh_decide.specs.Deciding.{decision_of}
 use Rattle.sh_client.specs.Feeds.{did, fed_by, fed_in, held_by, hold_by, loaded}
 use Rattle.sh_client.specs.Giving.{carried, released}
 use Rattle.sh_client.specs.Machine.{Machine, to}

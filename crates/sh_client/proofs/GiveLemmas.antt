@@ -20,9 +20,9 @@ use Rattle.sh_edit.specs.Rewriting.{rewritten}
 use Rattle.sh_lock.specs.declared.state.Release.{Release}
 use Rattle.sh_lock.specs.declared.state.Release.TheVariants.{Hand, Free}
 use Rattle.sh_lock.specs.Locks.{release_of}
-use Rattle.sh_client.specs.declared.state.Aim.TheVariants.{Own}
-use Rattle.sh_client.specs.declared.state.Decision.{Decision}
-use Rattle.sh_client.specs.declared.state.Decision.TheVariants as decision
+use Rattle.sh_decide.specs.declared.state.Aim.TheVariants.{Own}
+use Rattle.sh_decide.specs.declared.state.Decision.{Decision}
+use Rattle.sh_decide.specs.declared.state.Decision.TheVariants as decision
 use Rattle.sh_client.specs.declared.state.Phase.TheVariants.{Waiting, Body}
 use Rattle.sh_client.specs.declared.state.Then.{Then}
 use Rattle.sh_client.specs.declared.state.Then.TheVariants.{Ends}
@@ -31,7 +31,7 @@ use Rattle.sh_client.specs.declared.state.Write.{Write}
 use Rattle.sh_client.specs.declared.state.Write.TheVariants.{Nothing, Entry, Leaf, LeftLeaf, Inner, LeftInner}
 use Rattle.sh_client.specs.Machine.{Machine, answering, storing, to}
 use Rattle.sh_client.specs.Bodies.{answer_in, entry_left}
-use Rattle.sh_client.specs.Aims.{left_key, left_value}
+use Rattle.sh_decide.specs.Aims.{left_key, left_value}
 use Rattle.sh_client.specs.Courses.{after_stores, node_read, stores_of, wants_over, Finds, StoresThenFrees}
 use Rattle.sh_client.specs.Feeds.{did, fed_by, fed_in, held_by, hold_by, loaded}
 use Rattle.sh_client.specs.Giving.{carried, counted, released, writing}

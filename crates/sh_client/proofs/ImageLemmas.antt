@@ -12,7 +12,6 @@ use Rattle.sh_image.specs.declared.inner.Image.TheVariants.{Leaf as OfLeaf, Inne
 use Rattle.sh_image.specs.Leaf.{HaveWords, IsLeaf, Leaf as LeafOf}
 use Rattle.sh_image.specs.Node.{IsImage}
 use Rattle.sh_image.proofs.LeafLemmas.{values_of}
-use Rattle.sh_descend.specs.Descent.{HasSortedPairs}
 use Rattle.sh_edit.specs.Held.{pairs_of}
 use Rattle.sh_edit.specs.Rewriting.{cleared, rewritten}
 use Rattle.sh_edit.specs.Splitting.{empty_like, entry_with, left_count, left_half, pairs_after, right_half, IsSplit}
@@ -34,10 +33,6 @@ use Rattle.sh_read.specs.Reads.{Reads, accepted}
 use Rattle.sh_read.proofs.CauseLemmas.{image_spelled}
 use Rattle.sh_edit.proofs.RewriteLemmas.{all_set}
 use Rattle.sh_edit.proofs.SplitLemmas.{all_after, all_drop, all_take, length-pairs_after}
-
-pub sorted_pairs : (p : ConfigParts) (image : Image) → IsImage p image → HasSortedPairs image
-sorted_pairs p (OfLeaf a) h = tt
-sorted_pairs p (OfInner a) h = record { some = h.count.0; first = h.separators.first; rise = h.separators.rise }
 
 pub one_pair_more : (xs : List Pair) (new : Pair) → length (pairs_with xs new) ≡ length xs + 1
 one_pair_more [] new = refl

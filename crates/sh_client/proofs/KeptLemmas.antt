@@ -12,27 +12,27 @@ use Rattle.sh_lock.specs.Locks.{release_of}
 use Rattle.sh_read.specs.declared.state.Progress.{Progress}
 use Rattle.sh_read.specs.declared.state.Progress.TheVariants.{More, Accepted, Again, Odd}
 use Rattle.sh_read.specs.Reads.{accepted, progress_of}
-use Rattle.sh_client.specs.declared.state.Aim.{Aim}
-use Rattle.sh_client.specs.declared.state.Aim.TheVariants.{Own, Posts}
-use Rattle.sh_client.specs.declared.state.Decision.{Decision}
-use Rattle.sh_client.specs.declared.state.Decision.TheVariants as decision
+use Rattle.sh_decide.specs.declared.state.Aim.{Aim}
+use Rattle.sh_decide.specs.declared.state.Aim.TheVariants.{Own, Posts}
+use Rattle.sh_decide.specs.declared.state.Decision.{Decision}
+use Rattle.sh_decide.specs.declared.state.Decision.TheVariants as decision
 use Rattle.sh_client.specs.declared.state.Phase.{Phase}
 use Rattle.sh_client.specs.declared.state.Phase.TheVariants.{Idle, Root, Read, Draw, Look, Grab, Hold, Seek, Fill, Waiting, Body, Unlock, Leave, Top, Raise, Swap, Ended}
-use Rattle.sh_client.specs.declared.state.Post.{Post}
+use Rattle.sh_decide.specs.declared.state.Post.{Post}
 use Rattle.sh_client.specs.declared.state.Then.{Then}
 use Rattle.sh_client.specs.declared.state.Then.TheVariants.{Ends, Starts, Takes}
-use Rattle.sh_client.specs.declared.state.Way.{Way}
-use Rattle.sh_client.specs.declared.state.Way.TheVariants as way
+use Rattle.sh_decide.specs.declared.state.Way.{Way}
+use Rattle.sh_decide.specs.declared.state.Way.TheVariants as way
 use Rattle.sh_client.specs.declared.state.Write.{Write}
 use Rattle.sh_client.specs.declared.state.Write.TheVariants.{Nothing, Entry, Leaf, LeftLeaf, Inner, LeftInner}
-use Rattle.sh_client.specs.Aims.{is_node}
+use Rattle.sh_decide.specs.Aims.{is_node}
 use Rattle.sh_client.specs.Courses.{Keeps}
-use Rattle.sh_client.specs.Deciding.{decision_of}
+use Rattle.sh_decide.specs.Deciding.{decision_of}
 use Rattle.sh_client.specs.Feeds.{arrived, did, fed_by, fed_in, held_by, hold_by, loaded, read_by, reading, turned, turned_by, turned_in, went}
 use Rattle.sh_client.specs.Giving.{carried, counted, followed, left, released, writing}
 use Rattle.sh_client.specs.Machine.{Machine, handed_over, rewrite_done, sparing, split_done, to}
 use Rattle.sh_client.specs.Splitting.{all_spent, chunk_taken, growing, grown, halved, halved_by, raised, sought_by, splitting, topped_by, walked}
-use Rattle.sh_client.specs.Ways.{way_of}
+use Rattle.sh_decide.specs.Ways.{way_of}
 
 either : (m x y : Machine) (b : Bool) → Keeps m x → Keeps m y → Keeps m (cond b x y)
 either m x y true h k = h

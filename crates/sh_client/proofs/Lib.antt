@@ -1,5 +1,3 @@
-pub mod IndexLemmas
-pub mod PairLemmas
 pub mod ImageLemmas
 pub mod ReadLemmas
 pub mod GiveLemmas

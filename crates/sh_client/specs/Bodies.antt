@@ -13,11 +13,11 @@ use Rattle.sh_image.specs.declared.inner.Image.{Image}
 use Rattle.sh_image.specs.declared.inner.Image.TheVariants.{Leaf as LeafImage, Inner as InnerImage}
 use Rattle.sh_edit.specs.Rewriting.{rewritten}
 use Rattle.sh_edit.specs.Pairing.{with_pair}
-use Rattle.sh_client.specs.declared.state.Post.{Post}
-use Rattle.sh_client.specs.declared.state.Aim.{Aim}
-use Rattle.sh_client.specs.declared.state.Aim.TheVariants.{Own, Posts}
-use Rattle.sh_client.specs.Aims.{call_key, left_key, left_value}
-use Rattle.sh_client.specs.Leaves.{answer_of, version_at}
+use Rattle.sh_decide.specs.declared.state.Post.{Post}
+use Rattle.sh_decide.specs.declared.state.Aim.{Aim}
+use Rattle.sh_decide.specs.declared.state.Aim.TheVariants.{Own, Posts}
+use Rattle.sh_decide.specs.Aims.{call_key, left_key, left_value}
+use Rattle.sh_decide.specs.Leaves.{answer_of, version_at}
 
 -- an image's answer to the call; an inner node has no entries
 abbrev pub answer_in : Call → Image → Reply

@@ -6,13 +6,13 @@ use Rattle.sh_image.specs.Leaf.{Leaf}
 use Rattle.sh_image.specs.declared.inner.Image.TheVariants.{Leaf as LeafImage}
 use Rattle.sh_lock.specs.declared.state.Release.TheVariants.{Hand}
 use Rattle.sh_lock.specs.Locks.{release_of}
-use Rattle.sh_client.specs.declared.state.Aim.{Aim}
+use Rattle.sh_decide.specs.declared.state.Aim.{Aim}
 use Rattle.sh_read.specs.declared.state.Progress.TheVariants.{Accepted}
 use Rattle.sh_read.specs.Reads.{accepted, progress_of, fed_by as read_fed}
-use Rattle.sh_client.specs.declared.state.Aim.TheVariants.{Own}
-use Rattle.sh_client.specs.declared.state.Decision.{Decision}
+use Rattle.sh_decide.specs.declared.state.Aim.TheVariants.{Own}
+use Rattle.sh_decide.specs.declared.state.Decision.{Decision}
 use Rattle.sh_client.specs.declared.state.Phase.TheVariants.{Hold}
-use Rattle.sh_client.specs.Deciding.{decision_of}
+use Rattle.sh_decide.specs.Deciding.{decision_of}
 use Rattle.sh_client.specs.declared.state.Want.{Want}
 use Rattle.sh_client.specs.declared.state.Want.TheVariants as want
 use Rattle.sh_client.specs.Machine.{Machine}

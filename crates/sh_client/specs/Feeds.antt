@@ -6,23 +6,23 @@ use Rattle.sh_image.specs.declared.inner.Image.{Image}
 use Rattle.sh_read.specs.declared.state.Progress.{Progress}
 use Rattle.sh_read.specs.declared.state.Progress.TheVariants.{More, Accepted, Again, Odd}
 use Rattle.sh_read.specs.Reads.{accepted, progress_of, start_of, fed_by as read_fed}
-use Rattle.sh_client.specs.declared.state.Aim.{Aim}
+use Rattle.sh_decide.specs.declared.state.Aim.{Aim}
 use Rattle.sh_client.specs.declared.state.Then.{Then}
 use Rattle.sh_client.specs.declared.state.Then.TheVariants.{Ends, Starts, Takes}
 use Rattle.sh_client.specs.declared.state.Write.{Write}
 use Rattle.sh_client.specs.declared.state.Write.TheVariants as write
-use Rattle.sh_client.specs.declared.state.Way.{Way}
-use Rattle.sh_client.specs.declared.state.Way.TheVariants as way
-use Rattle.sh_client.specs.declared.state.Decision.{Decision}
-use Rattle.sh_client.specs.declared.state.Decision.TheVariants as decision
-use Rattle.sh_client.specs.declared.state.Aim.TheVariants.{Own}
+use Rattle.sh_decide.specs.declared.state.Way.{Way}
+use Rattle.sh_decide.specs.declared.state.Way.TheVariants as way
+use Rattle.sh_decide.specs.declared.state.Decision.{Decision}
+use Rattle.sh_decide.specs.declared.state.Decision.TheVariants as decision
+use Rattle.sh_decide.specs.declared.state.Aim.TheVariants.{Own}
 use Rattle.sh_client.specs.declared.state.Phase.{Phase}
 use Rattle.sh_client.specs.declared.state.Phase.TheVariants.{Idle, Root, Read, Draw, Look, Grab, Hold, Seek, Fill, Waiting, Body, Unlock, Leave, Top, Raise, Swap, Ended}
 use Rattle.sh_client.specs.Machine.{Machine, to, again, answering, storing, right_hop, skipped_worn}
-use Rattle.sh_client.specs.Aims.{is_node}
+use Rattle.sh_decide.specs.Aims.{is_node}
 use Rattle.sh_client.specs.Bodies.{answer_in, entry_body, inner_body, leaf_body}
-use Rattle.sh_client.specs.Ways.{way_of}
-use Rattle.sh_client.specs.Deciding.{decision_of}
+use Rattle.sh_decide.specs.Ways.{way_of}
+use Rattle.sh_decide.specs.Deciding.{decision_of}
 use Rattle.sh_client.specs.Giving.{left, stored, waited}
 use Rattle.sh_client.specs.Splitting.{filled, grown, raising, sought, split, swapped, topped}
 

@@ -1,9 +1,5 @@
 pub mod Machine
-pub mod Aims
-pub mod Leaves
 pub mod Bodies
-pub mod Ways
-pub mod Deciding
 pub mod Wants
 pub mod Giving
 pub mod Splitting

@@ -1,7 +1,7 @@
 -- What a client keeps to, whatever words it is fed.
-use Rattle.std.specs.Prelude.{◌≡◌, ◌≢◌, ℕ, ◌+◌, ◌-◌, ◌*◌, ◌^◌, ◌<◌, ◌≤◌, List, length, Option, Some, None}
+use Rattle.std.specs.Prelude.{◌≡◌, ◌≢◌, ℕ, ◌+◌, ◌<◌, ◌≤◌, List, length, Option, Some, None}
 use Rattle.sh_base.specs.declared.config.ConfigParts.{ConfigParts}
-use Rattle.sh_base.specs.Setting.{all_seats, entry_size, last_entry_version, node_size, nodes, IsNode}
+use Rattle.sh_base.specs.Setting.{all_seats, entry_size, node_size, nodes, IsNode}
 use Rattle.sh_map.specs.declared.call.Call.{Call}
 use Rattle.sh_map.specs.declared.call.Call.TheVariants.{Get, Put, Del, Range}
 use Rattle.sh_map.specs.Calls.{IsInRange}
@@ -10,31 +10,22 @@ use Rattle.sh_alloc.specs.declared.state.Walk.{Walk}
 use Rattle.sh_alloc.specs.declared.state.Chunks.{Chunks}
 use Rattle.sh_alloc.specs.Walks.{want_of as walk_wants}
 use Rattle.sh_alloc.specs.Chunks.{WantsEvent}
-use Rattle.sh_image.specs.Leaf.{Leaf}
-use Rattle.sh_image.specs.Inner.{Inner}
-use Rattle.sh_image.specs.Node.{IsImage}
 use Rattle.sh_image.specs.declared.inner.Image.{Image}
-use Rattle.sh_image.specs.declared.inner.Image.TheVariants.{Leaf as LeafImage, Inner as InnerImage}
-use Rattle.sh_edit.specs.Splitting.{IsSplit}
 use Rattle.sh_read.specs.Reads.{Reader, Reads, accepted, wanted}
 use Rattle.sh_read.specs.declared.state.Progress.{Progress}
 use Rattle.sh_read.specs.declared.state.Progress.TheVariants.{More, Accepted, Again, Odd}
-use Rattle.sh_client.specs.declared.state.Post.{Post}
-use Rattle.sh_client.specs.declared.state.Aim.{Aim}
-use Rattle.sh_client.specs.declared.state.Aim.TheVariants.{Own, Posts}
+use Rattle.sh_decide.specs.declared.state.Post.{Post}
+use Rattle.sh_decide.specs.declared.state.Aim.{Aim}
+use Rattle.sh_decide.specs.declared.state.Aim.TheVariants.{Own, Posts}
 use Rattle.sh_client.specs.declared.state.Then.{Then}
 use Rattle.sh_client.specs.declared.state.Then.TheVariants.{Ends, Starts, Takes}
 use Rattle.sh_client.specs.declared.state.Write.{Write}
 use Rattle.sh_client.specs.declared.state.Write.TheVariants.{Nothing, Entry, Leaf as WholeLeaf, LeftLeaf, Inner as WholeInner, LeftInner}
 use Rattle.sh_client.specs.declared.state.Phase.{Phase}
 use Rattle.sh_client.specs.declared.state.Phase.TheVariants.{Idle, Root, Read, Draw, Look, Grab, Hold, Seek, Fill, Waiting, Body, Unlock, Leave, Top, Raise, Swap, Ended}
-use Rattle.sh_client.specs.declared.state.Way.{Way}
-use Rattle.sh_client.specs.declared.state.Way.TheVariants as way
-use Rattle.sh_client.specs.declared.state.Decision.{Decision}
-use Rattle.sh_client.specs.declared.state.Decision.TheVariants as decision
+use Rattle.sh_decide.specs.declared.state.Decision.{Decision}
+use Rattle.sh_decide.specs.Allowed.{Allows, CanChange, CanSplit, HasEntry, HasRoom, HasVersion}
 use Rattle.sh_client.specs.Machine.{Machine}
-use Rattle.sh_client.specs.Aims.{left_key}
-use Rattle.sh_client.specs.Leaves.{version_at}
 
 -- no range
 abbrev pub IsPointCall : Call → Type 0
@@ -80,14 +71,7 @@ pub record AreSpare (p : ConfigParts) (r : NodeRange) : Type 0 where
   pub low : 1 ≤ r.first
   pub high : r.first + r.count ≤ nodes p + 1
 
--- a leaf that a put splits, or an inner node that a post splits
-abbrev pub CanSplit : ConfigParts → Call → Aim → Image → Type 0
-CanSplit p call Own (LeafImage a) = IsSplit a (left_key call) × (a.version < 2 ^ 64 - 1)
-CanSplit p call (Posts post) (InnerImage a) = (length a.pairs ≡ 2 * p.leaf) × (a.version < 2 ^ 64 - 1)
-CanSplit p call Own (InnerImage a) = ⊥
-CanSplit p call (Posts post) (LeafImage a) = ⊥
-
--- a READ that was accepted, of such a node
+-- a READ that was accepted, of a node that can be split so
 abbrev pub HasSplit : ConfigParts → Call → Aim → Option Image → Type 0
 HasSplit p call aim (Some image) = CanSplit p call aim image
 HasSplit p call aim None = ⊥
@@ -147,48 +131,7 @@ IsSound p spare call reads walk body right Ended = Unit {0}
 abbrev pub Stands : Machine → Phase → Type 0
 Stands m phase = IsSound m.setting m.spare m.call m.reads m.walk m.body m.right phase
 
--- an image that may be written so: it has the entry, and a version is left
-abbrev pub HasEntry : Image → (index : ℕ) → Type 0
-HasEntry (LeafImage a) index = index < length a.entries
-HasEntry (InnerImage a) index = ⊥
-
--- the entry's version isn't the last one
-abbrev pub CanChange : Image → (index : ℕ) → Type 0
-CanChange (LeafImage a) index = (index < length a.entries) × (version_at a.entries index < last_entry_version)
-CanChange (InnerImage a) index = ⊥
-
-abbrev pub HasVersion : Image → Type 0
-HasVersion (LeafImage a) = a.version < 2 ^ 64 - 1
-HasVersion (InnerImage a) = a.version < 2 ^ 64 - 1
-
-abbrev pub HasRoom : ConfigParts → Aim → Image → Type 0
-HasRoom p (Posts post) (InnerImage a) = length a.pairs < 2 * p.leaf
-HasRoom p (Posts post) (LeafImage a) = ⊥
-HasRoom p Own image = ⊥
-
--- a decision that the image allows
-abbrev pub Allows : ConfigParts → Call → Aim → Image → Decision → Type 0
-Allows p call aim image decision.Restart = Unit {0}
-Allows p call aim image (decision.Right node) = IsNode p node
-Allows p call aim image decision.Absent = Unit {0}
-Allows p call aim image (decision.Entry index) = CanChange image index
-Allows p call aim image (decision.Rewrite index) = HasEntry image index × HasVersion image
-Allows p call aim image (decision.Worn version) = Unit {0}
-Allows p call aim image decision.Split = CanSplit p call aim image
-Allows p call aim image decision.Skip = Unit {0}
-Allows p call aim image decision.Add = HasRoom p aim image × HasVersion image
-
--- a way that leads to nodes of the setting
-abbrev pub Leads : ConfigParts → Way → Type 0
-Leads p (way.Read node) = IsNode p node
-Leads p (way.Right node) = IsNode p node
-Leads p (way.Lock node) = IsNode p node
-Leads p (way.LockRight node) = IsNode p node
-Leads p way.Root = Unit {0}
-Leads p way.Grow = Unit {0}
-Leads p way.Found = Unit {0}
-
--- the same of the image of a READ, which there is
+-- what a decision needs, of the image of a READ, which there is
 abbrev pub AllowsIn : ConfigParts → Call → Aim → Option Image → Decision → Type 0
 AllowsIn p call aim (Some image) d = Allows p call aim image d
 AllowsIn p call aim None d = ⊥

@@ -14,16 +14,16 @@ use Rattle.sh_alloc.specs.declared.state.ChunkWant.TheVariants as chunk
 use Rattle.sh_alloc.specs.Spares.{lowest, nodes_from, with_lowest, without_lowest}
 use Rattle.sh_alloc.specs.Walks.{fed_by as walk_fed, start_of as walk_start, want_of as walk_wants}
 use Rattle.sh_read.specs.Reads.{accepted}
-use Rattle.sh_client.specs.declared.state.Post.{Post}
-use Rattle.sh_client.specs.declared.state.Aim.{Aim}
-use Rattle.sh_client.specs.declared.state.Aim.TheVariants.{Own, Posts}
+use Rattle.sh_decide.specs.declared.state.Post.{Post}
+use Rattle.sh_decide.specs.declared.state.Aim.{Aim}
+use Rattle.sh_decide.specs.declared.state.Aim.TheVariants.{Own, Posts}
 use Rattle.sh_client.specs.declared.state.Then.{Then}
 use Rattle.sh_client.specs.declared.state.Then.TheVariants.{Ends, Starts}
 use Rattle.sh_client.specs.declared.state.Write.{Write}
 use Rattle.sh_client.specs.declared.state.Write.TheVariants.{Nothing, LeftLeaf, LeftInner}
 use Rattle.sh_client.specs.declared.state.Phase.TheVariants.{Root, Seek, Fill, Waiting, Top, Raise, Swap, Ended}
 use Rattle.sh_client.specs.Machine.{Machine, to, answering, sparing, skipped_spent}
-use Rattle.sh_client.specs.Aims.{left_key, left_value, post_of}
+use Rattle.sh_decide.specs.Aims.{left_key, left_value, post_of}
 use Rattle.sh_client.specs.Bodies.{pair_of}
 
 -- the walk over the counters begins

@@ -5,11 +5,11 @@ ghost use Rattle.sh_base.specs.Setting.{entry_size, node_size};
 ghost use Rattle.sh_image.specs.Node.{IsImage};
 ghost use Rattle.sh_map.specs.Calls.{IsInRange};
 ghost use Rattle.sh_client.specs.Bodies.{entry_body, inner_body, leaf_body};
-ghost use Rattle.sh_client.specs.Sound.{CanChange, HasEntry, HasRoom, HasVersion};
+ghost use Rattle.sh_decide.specs.Allowed.{CanChange, HasEntry, HasRoom, HasVersion};
 
-use crate::aims::{left_key, left_value};
-use crate::{Aim, Words};
+use crate::Words;
 use sh_base::Config;
+use sh_decide::{Aim, left_key, left_value};
 use sh_edit::{add_child, rewrite};
 use sh_image::Image;
 use sh_map::Call;

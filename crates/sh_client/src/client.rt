@@ -11,9 +11,10 @@ ghost use Rattle.sh_client.specs.Giving.{makes, stored_entries};
 ghost use Rattle.sh_client.specs.Rests.{reply_of};
 ghost use Rattle.sh_client.specs.Sound.{IsPointCall};
 
-use crate::{Aim, Client, Phase, Tally, Words, Write};
+use crate::{Client, Phase, Tally, Words, Write};
 use sh_alloc::{Chunks, Spare};
 use sh_base::Config;
+use sh_decide::Aim;
 use sh_map::{Call, Log, Reply, Row, log_call};
 use sh_read::Reading;
 use std::alloc::AllocError;

@@ -15,11 +15,10 @@ ghost use Rattle.sh_client.specs.Machine.{again, answering, handed_over, rewrite
 ghost use Rattle.sh_client.specs.Sound.{IsBody, IsLoading, IsThen, Leaves, Stands};
 ghost use Rattle.sh_client.specs.Splitting.{chunk_taken, walked, walking};
 
-use crate::aims::call_key;
-use crate::leaves::answer;
 use crate::tally::up;
 use crate::{Client, Phase, Then, Write};
 use sh_alloc::{ChunkWant, Chunks};
+use sh_decide::{answer, call_key};
 use sh_image::Image;
 use sh_map::{Call, Reply};
 use sh_read::{Progress, Reading};

@@ -31,7 +31,7 @@ use Rattle.sh_scene.proofs.Spelled.{leaf_long, inner_long}
 use Rattle.sh_scene.proofs.Holds.{writer_held, writer_writes, go_act}
 use Rattle.sh_ends.proofs.StoreLemmas.{whole_begins, whole_goes, one_begins, one_goes}
 use Rattle.sh_ends.proofs.InnerEnds.{is_new}
-use Rattle.sh_client.specs.declared.state.Post.{Post}
+use Rattle.sh_decide.specs.declared.state.Post.{Post}
 use Rattle.sh_client.specs.declared.state.Then.{Then}
 use Rattle.sh_client.specs.declared.state.Write.{Write}
 use Rattle.sh_client.specs.declared.state.Write.TheVariants.{Nothing, Entry, Leaf as WholeLeaf, LeftLeaf, Inner as WholeInner, LeftInner}

@@ -26,9 +26,9 @@ use Rattle.sh_scene.specs.Acts.{ended}
 use Rattle.sh_scene.proofs.Puts.{put_here, put_else, put_case}
 use Rattle.sh_ends.specs.Images.{patched}
 use Rattle.sh_ends.proofs.LeafEnds.{bound_of, entry_end, rewritten_end, leaf_split_end}
-use Rattle.sh_client.specs.declared.state.Post.{Post}
+use Rattle.sh_decide.specs.declared.state.Post.{Post}
 use Rattle.sh_client.specs.declared.state.Tally.{Tally}
-use Rattle.sh_client.specs.Aims.{post_of}
+use Rattle.sh_decide.specs.Aims.{post_of}
 use Rattle.sh_client.specs.declared.state.Then.{Then}
 use Rattle.sh_client.specs.declared.state.Then.TheVariants.{Ends}
 use Rattle.sh_client.specs.declared.state.Write.{Write}

@@ -1,8 +1,7 @@
 -- The book of the actors' calls is lawful.
-use Rattle.std.proofs.Common.{◌≡◌, ◌≢◌, ◌⊎◌, ℕ, zero, suc, ◌+◌, ◌<◌, ◌≤◌, Bool, true, false, cond, List, [], ◌∷◌, ◌++◌, length, get_or, Option, Some, None, refl, sym, ap, ◌∙◌, subst, inl, inr, arith, append-nil, length-append, eq-eqb, eqb-true}
+use Rattle.std.proofs.Common.{◌≡◌, ◌≢◌, ◌⊎◌, ℕ, ◌+◌, ◌≤◌, Bool, true, false, cond, List, [], ◌∷◌, ◌++◌, length, get_or, Some, None, refl, sym, ap, ◌∙◌, subst, inl, inr, arith, length-append, eq-eqb, eqb-true}
 use Rattle.std.specs.Prelude.{◌==◌, map, slice_get, All, AllPairs, Any}
 use Rattle.std.specs.List.{AllByRecursion}
-use Rattle.std.proofs.lemmas.Bool.{cases_eq}
 use Rattle.std.proofs.lemmas.List.Elements.{All-cons, All-weaker}
 use Rattle.std.proofs.lemmas.List.Kept.{AllPairs-cons}
 use Rattle.std.proofs.lemmas.Option.{slice_get-get_or}
@@ -15,20 +14,20 @@ use Rattle.sh_map.specs.declared.log.Change.TheVariants as change
 use Rattle.sh_map.specs.declared.log.Entry.{Entry}
 use Rattle.sh_map.specs.declared.book.Done.{Done}
 use Rattle.sh_map.specs.Made.{entries_by}
-use Rattle.sh_map.specs.Book.{Answers, AnswersAt, IsClosed, IsLastOfSeat, IsLater, IsOwn, entry_of, made}
+use Rattle.sh_map.specs.Book.{Answers, AnswersAt, IsLastOfSeat, IsLater, IsOwn, entry_of, made}
 use Rattle.sh_map.specs.Laws.{places_of}
 use Rattle.sh_tree.specs.Lists.{is_in, AreDifferent}
 use Rattle.sh_tree.proofs.ListLemmas.{in_cases, all_join, outside_all}
 use Rattle.sh_rest.proofs.Levels.{different_join, in_joined}
 use Rattle.sh_scene.specs.Scene.{Scene}
 use Rattle.sh_client.specs.Rests.{is_resting}
-use Rattle.sh_core.specs.Actors.{Actor, AreAnswered, AreInOrder, made_by, updates}
+use Rattle.sh_core.specs.Actors.{Actor, AreAnswered, AreInOrder, updates}
 use Rattle.sh_core.specs.Fits.{HasEntry}
 use Rattle.sh_core.specs.Keeps.{pending, Keeps}
 use Rattle.sh_core.specs.Core.{Inv}
 use Rattle.sh_core.specs.Books.{calls_of, numbered, IsBookOf, IsOfCall, IsLawfulBook, BooksAreLawful}
 use Rattle.sh_core.proofs.Calls.{nothing}
-use Rattle.sh_core.proofs.Pending.{MayStand, pending_stands}
+use Rattle.sh_core.proofs.Pending.{pending_stands}
 use Rattle.sh_core.proofs.Points.{not_there, points, points_numbered, points_long, points_in, points_differ, places_differ, places_long, place_in, points_stand, all_named, any_own}
 
 -- ---- ended calls, whatever their numbers
@@ -216,11 +215,14 @@ module _ (p : ConfigParts) (words : List ℕ) (log : List Entry) (Has : ℕ → 
     | inr h ↦
         let a = h.0 in
         let k = inv.kept seat a h.1 in
-        let same = sym (book.own seat a h.1) in
-        (0, a.first, record {
-          order = in_order_renumbered 0 (calls_of seat dones) a.first (subst (λ (ds : List Done). AreInOrder 0 ds a.first) same (in_order_numbered 0 a.dones a.first k.ordered));
-          answers = all_renumbered inv.scene.log (calls_of seat dones) (subst (AllByRecursion (Answers inv.scene.log)) same (all_numbered inv.scene.log seat a.dones k.answered));
-        })
+        let same = sym (book.own seat a h.1) in (
+          0,
+          a.first,
+          record {
+            order = in_order_renumbered 0 (calls_of seat dones) a.first (subst (λ (ds : List Done). AreInOrder 0 ds a.first) same (in_order_numbered 0 a.dones a.first k.ordered));
+            answers = all_renumbered inv.scene.log (calls_of seat dones) (subst (AllByRecursion (Answers inv.scene.log)) same (all_numbered inv.scene.log seat a.dones k.answered));
+          },
+        )
   ]
 
   owned_at : (j : ℕ) (e : Entry) → slice_get inv.scene.log j ≡ Some e → Any (IsOwn j) dones ⊎ (IsOfCall Has j e × IsLastOfSeat inv.scene.log j)

@@ -5,7 +5,7 @@ use Rattle.sh_base.specs.Setting.{IsSetting}
 use Rattle.sh_map.specs.declared.log.Entry.{Entry as LogEntry}
 use Rattle.sh_scene.specs.Scene.{Pending, Seat, Right, Hold, Nobody, Held, Writes, Owns, Scene}
 use Rattle.sh_scene.proofs.Joins.{nothing_done}
-use Rattle.sh_client.specs.declared.state.Post.{Post}
+use Rattle.sh_decide.specs.declared.state.Post.{Post}
 use Rattle.sh_client.specs.declared.state.Phase.{Phase}
 use Rattle.sh_client.specs.declared.state.Phase.TheVariants.{Idle, Root, Read, Draw, Look, Grab, Hold as Holds, Seek, Fill, Waiting, Body, Unlock, Leave, Top, Raise, Swap, Ended}
 use Rattle.sh_client.specs.Machine.{Machine}

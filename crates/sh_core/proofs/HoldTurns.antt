@@ -15,12 +15,12 @@ use Rattle.sh_descend.specs.declared.Hop.TheVariants.{Here}
 use Rattle.sh_descend.specs.Descent.{hop_of}
 use Rattle.sh_scene.specs.Scene.{Scene}
 use Rattle.sh_known.specs.Hand.{IsImageOf}
-use Rattle.sh_client.specs.declared.state.Aim.{Aim}
-use Rattle.sh_client.specs.declared.state.Aim.TheVariants.{Own, Posts}
+use Rattle.sh_decide.specs.declared.state.Aim.{Aim}
+use Rattle.sh_decide.specs.declared.state.Aim.TheVariants.{Own, Posts}
 use Rattle.sh_client.specs.declared.state.Phase.TheVariants.{Hold as Holds}
 use Rattle.sh_client.specs.Machine.{Machine}
-use Rattle.sh_client.specs.Aims.{key_of, target}
-use Rattle.sh_client.specs.Deciding.{decided_here, decision_of}
+use Rattle.sh_decide.specs.Aims.{key_of, target}
+use Rattle.sh_decide.specs.Deciding.{decided_here, decision_of}
 use Rattle.sh_client.specs.Feeds.{did}
 use Rattle.sh_core.specs.Actors.{Actor}
 use Rattle.sh_core.proofs.Frame.{me, Before}

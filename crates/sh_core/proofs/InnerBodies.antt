@@ -23,7 +23,7 @@ use Rattle.sh_scene.proofs.Puts.{put_here, put_else, put_case}
 use Rattle.sh_scene.proofs.Spelled.{inner_long}
 use Rattle.sh_ends.proofs.LeafEnds.{bound_of}
 use Rattle.sh_ends.proofs.InnerEnds.{is_new, pair_end, inner_split_end}
-use Rattle.sh_client.specs.declared.state.Post.{Post}
+use Rattle.sh_decide.specs.declared.state.Post.{Post}
 use Rattle.sh_client.specs.declared.state.Then.{Then}
 use Rattle.sh_client.specs.declared.state.Then.TheVariants.{Ends}
 use Rattle.sh_client.specs.declared.state.Write.{Write}
@@ -34,7 +34,7 @@ use Rattle.sh_client.specs.declared.state.Phase.TheVariants.{Body}
 use Rattle.sh_client.specs.Machine.{Machine, rewrite_done}
 use Rattle.sh_client.specs.Giving.{released, counted, entries_of}
 use Rattle.sh_client.specs.Wants.{offset_of}
-use Rattle.sh_client.specs.Aims.{post_of}
+use Rattle.sh_decide.specs.Aims.{post_of}
 use Rattle.sh_core.specs.Actors.{Actor, becomes}
 use Rattle.sh_core.specs.Fits.{HasEntry, Follows, Owes}
 use Rattle.sh_core.specs.Keeps.{pending_then, Hands, Waits}

@@ -19,18 +19,18 @@ use Rattle.sh_scene.specs.Change.{Change}
 use Rattle.sh_scene.specs.Acts.{skipped}
 use Rattle.sh_scene.proofs.Joins.{nothing_done}
 use Rattle.sh_scene.proofs.Spelled.{inner_is}
-use Rattle.sh_client.specs.declared.state.Post.{Post}
+use Rattle.sh_decide.specs.declared.state.Post.{Post}
 use Rattle.sh_client.specs.declared.state.Tally.{Tally}
-use Rattle.sh_client.specs.declared.state.Aim.TheVariants.{Posts}
+use Rattle.sh_decide.specs.declared.state.Aim.TheVariants.{Posts}
 use Rattle.sh_client.specs.declared.state.Then.TheVariants.{Ends}
 use Rattle.sh_client.specs.declared.state.Write.TheVariants.{Nothing, Inner as WholeInner, LeftInner}
-use Rattle.sh_client.specs.declared.state.Decision.{Decision}
-use Rattle.sh_client.specs.declared.state.Decision.TheVariants as decision
+use Rattle.sh_decide.specs.declared.state.Decision.{Decision}
+use Rattle.sh_decide.specs.declared.state.Decision.TheVariants as decision
 use Rattle.sh_client.specs.declared.state.Phase.{Phase}
 use Rattle.sh_client.specs.declared.state.Phase.TheVariants.{Hold as Holds, Waiting, Seek, Fill}
 use Rattle.sh_client.specs.Machine.{Machine, up}
 use Rattle.sh_client.specs.Bodies.{pair_of}
-use Rattle.sh_client.specs.Deciding.{decided_by, decided_here, decision_of}
+use Rattle.sh_decide.specs.Deciding.{decided_by, decided_here, decision_of}
 use Rattle.sh_client.specs.Feeds.{did}
 use Rattle.sh_client.specs.Splitting.{splitting}
 use Rattle.sh_core.specs.Actors.{Actor}

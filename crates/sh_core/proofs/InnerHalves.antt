@@ -26,21 +26,21 @@ use Rattle.sh_scene.specs.Ground.{Ground}
 use Rattle.sh_scene.proofs.Spelled.{inner_is}
 use Rattle.sh_known.specs.Hand.{IsNamed}
 use Rattle.sh_known.proofs.HandLemmas.{here_is}
-use Rattle.sh_client.specs.declared.state.Post.{Post}
-use Rattle.sh_client.specs.declared.state.Aim.{Aim}
-use Rattle.sh_client.specs.declared.state.Aim.TheVariants.{Posts}
+use Rattle.sh_decide.specs.declared.state.Post.{Post}
+use Rattle.sh_decide.specs.declared.state.Aim.{Aim}
+use Rattle.sh_decide.specs.declared.state.Aim.TheVariants.{Posts}
 use Rattle.sh_client.specs.declared.state.Then.{Then}
 use Rattle.sh_client.specs.declared.state.Then.TheVariants.{Starts}
-use Rattle.sh_client.specs.declared.state.Decision.{Decision}
-use Rattle.sh_client.specs.declared.state.Decision.TheVariants as decision
+use Rattle.sh_decide.specs.declared.state.Decision.{Decision}
+use Rattle.sh_decide.specs.declared.state.Decision.TheVariants as decision
 use Rattle.sh_client.specs.declared.state.Write.TheVariants.{LeftInner}
 use Rattle.sh_client.specs.declared.state.Tally.{Tally}
 use Rattle.sh_client.specs.declared.state.Phase.{Phase}
 use Rattle.sh_client.specs.declared.state.Phase.TheVariants.{Fill}
 use Rattle.sh_client.specs.Machine.{Machine}
-use Rattle.sh_client.specs.Aims.{is_node, post_of}
+use Rattle.sh_decide.specs.Aims.{is_node, post_of}
 use Rattle.sh_client.specs.Bodies.{pair_of}
-use Rattle.sh_client.specs.Deciding.{decided_by, decided_here, decision_of, has_separator}
+use Rattle.sh_decide.specs.Deciding.{decided_by, decided_here, decision_of, has_separator}
 use Rattle.sh_core.specs.Fits.{IsPosting, IsToSplit, PlansPair, PlansInner, PlansLeftInner, Fits}
 use Rattle.sh_core.proofs.Decided.{anew}
 use Rattle.sh_core.proofs.Spares.{IsTaken}

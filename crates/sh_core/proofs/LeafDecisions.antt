@@ -19,18 +19,18 @@ use Rattle.sh_descend.specs.Descent.{hop_of}
 use Rattle.sh_scene.specs.Scene.{Scene}
 use Rattle.sh_scene.proofs.Spelled.{leaf_is}
 use Rattle.sh_known.proofs.HandLemmas.{here_is}
-use Rattle.sh_client.specs.declared.state.Aim.TheVariants.{Own}
+use Rattle.sh_decide.specs.declared.state.Aim.TheVariants.{Own}
 use Rattle.sh_client.specs.declared.state.Then.{Then}
 use Rattle.sh_client.specs.declared.state.Then.TheVariants.{Ends}
 use Rattle.sh_client.specs.declared.state.Write.{Write}
 use Rattle.sh_client.specs.declared.state.Write.TheVariants.{Nothing, Entry, Leaf as WholeLeaf, LeftLeaf}
-use Rattle.sh_client.specs.declared.state.Decision.{Decision}
-use Rattle.sh_client.specs.declared.state.Decision.TheVariants as decision
+use Rattle.sh_decide.specs.declared.state.Decision.{Decision}
+use Rattle.sh_decide.specs.declared.state.Decision.TheVariants as decision
 use Rattle.sh_client.specs.declared.state.Phase.TheVariants.{Hold as Holds, Waiting, Seek, Fill}
 use Rattle.sh_client.specs.Machine.{Machine}
-use Rattle.sh_client.specs.Aims.{call_key, left_key, left_value}
+use Rattle.sh_decide.specs.Aims.{call_key, left_key, left_value}
 use Rattle.sh_client.specs.Bodies.{entry_left}
-use Rattle.sh_client.specs.Deciding.{decided_by, decided_here, decision_of}
+use Rattle.sh_decide.specs.Deciding.{decided_by, decided_here, decision_of}
 use Rattle.sh_client.specs.Feeds.{did}
 use Rattle.sh_client.specs.Splitting.{splitting}
 use Rattle.sh_core.specs.Actors.{Actor}

@@ -29,18 +29,18 @@ use Rattle.sh_scene.specs.Nodes.{entries_of, low_in, IsStandingLeaf}
 use Rattle.sh_scene.specs.Ground.{Ground}
 use Rattle.sh_scene.proofs.Spelled.{leaf_is}
 use Rattle.sh_known.proofs.HandLemmas.{here_is}
-use Rattle.sh_client.specs.declared.state.Post.{Post}
+use Rattle.sh_decide.specs.declared.state.Post.{Post}
 use Rattle.sh_client.specs.declared.state.Tally.{Tally}
 use Rattle.sh_client.specs.declared.state.Write.TheVariants.{LeftLeaf}
 use Rattle.sh_client.specs.declared.state.Phase.{Phase}
 use Rattle.sh_client.specs.declared.state.Phase.TheVariants.{Fill}
 use Rattle.sh_client.specs.Machine.{Machine}
 use Rattle.sh_client.specs.declared.state.Then.{Then}
-use Rattle.sh_client.specs.declared.state.Aim.TheVariants.{Own, Posts}
+use Rattle.sh_decide.specs.declared.state.Aim.TheVariants.{Own, Posts}
 use Rattle.sh_client.specs.declared.state.Then.TheVariants.{Starts}
-use Rattle.sh_client.specs.declared.state.Decision.TheVariants as decision
-use Rattle.sh_client.specs.Aims.{call_key, left_key, left_value, post_of}
-use Rattle.sh_client.specs.Deciding.{decided_by, decision_of}
+use Rattle.sh_decide.specs.declared.state.Decision.TheVariants as decision
+use Rattle.sh_decide.specs.Aims.{call_key, left_key, left_value, post_of}
+use Rattle.sh_decide.specs.Deciding.{decided_by, decision_of}
 use Rattle.sh_core.specs.Fits.{HadNone, IsToSplit, PlansLeftLeaf, Fits}
 use Rattle.sh_core.proofs.Decided.{anew}
 use Rattle.sh_core.proofs.Spares.{IsTaken}

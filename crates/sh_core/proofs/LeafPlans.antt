@@ -35,13 +35,13 @@ use Rattle.sh_scene.specs.Scene.{Linked, Scene}
 use Rattle.sh_scene.specs.Nodes.{low_in, high_in, entries_of, IsStandingLeaf}
 use Rattle.sh_scene.specs.Ground.{Ground}
 use Rattle.sh_ends.specs.Images.{IsEntryOf}
-use Rattle.sh_client.specs.declared.state.Aim.TheVariants.{Own}
-use Rattle.sh_client.specs.declared.state.Decision.{Decision}
-use Rattle.sh_client.specs.declared.state.Decision.TheVariants as decision
-use Rattle.sh_client.specs.Aims.{call_key, left_key, left_value}
+use Rattle.sh_decide.specs.declared.state.Aim.TheVariants.{Own}
+use Rattle.sh_decide.specs.declared.state.Decision.{Decision}
+use Rattle.sh_decide.specs.declared.state.Decision.TheVariants as decision
+use Rattle.sh_decide.specs.Aims.{call_key, left_key, left_value}
 use Rattle.sh_client.specs.Bodies.{entry_left}
-use Rattle.sh_client.specs.Deciding.{change_at, decided_here, del_in, put_in, put_into, unless_worn, update_in}
-use Rattle.sh_client.specs.Leaves.{answer_of, are_keys_once, index_from, index_of, reply_with, version_at}
+use Rattle.sh_decide.specs.Deciding.{change_at, decided_here, del_in, put_in, put_into, unless_worn, update_in}
+use Rattle.sh_decide.specs.Leaves.{answer_of, are_keys_once, index_from, index_of, reply_with, version_at}
 use Rattle.sh_core.proofs.UnderLock.{is_lt, not_lt}
 use Rattle.sh_core.specs.Fits.{HadNone, IsDecided, PlansEntry, PlansLeaf}
 

@@ -13,6 +13,8 @@ pub mod Opening
 pub mod Pending
 pub mod Points
 pub mod Books
+pub mod Owners
+pub mod Moments
 pub mod Rights
 pub mod OwnStores
 pub mod Roots

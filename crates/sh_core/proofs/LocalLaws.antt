@@ -8,7 +8,7 @@ use Rattle.sh_alloc.specs.declared.state.ChunkWant.{ChunkWant}
 use Rattle.sh_alloc.specs.declared.state.ChunkWant.TheVariants as chunk
 use Rattle.sh_alloc.specs.Walks.{want_of as walk_wants}
 use Rattle.sh_read.specs.Reads.{wanted}
-use Rattle.sh_client.specs.declared.state.Aim.{Aim}
+use Rattle.sh_decide.specs.declared.state.Aim.{Aim}
 use Rattle.sh_client.specs.declared.state.Then.{Then}
 use Rattle.sh_client.specs.declared.state.Phase.{Phase}
 use Rattle.sh_client.specs.declared.state.Phase.TheVariants.{Idle, Root, Read, Draw, Look, Grab, Hold, Seek, Fill, Waiting, Body, Unlock, Leave, Top, Raise, Swap, Ended}

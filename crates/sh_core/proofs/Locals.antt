@@ -13,8 +13,8 @@ use Rattle.sh_lock.specs.declared.state.Release.TheVariants.{Hand, Free}
 use Rattle.sh_lock.specs.Locks.{release_of}
 use Rattle.sh_scene.specs.Scene.{Seat, Hold, Held, Scene}
 use Rattle.sh_scene.specs.Nodes.{Orderly}
-use Rattle.sh_client.specs.declared.state.Post.{Post}
-use Rattle.sh_client.specs.declared.state.Aim.{Aim}
+use Rattle.sh_decide.specs.declared.state.Post.{Post}
+use Rattle.sh_decide.specs.declared.state.Aim.{Aim}
 use Rattle.sh_client.specs.declared.state.Then.{Then}
 use Rattle.sh_client.specs.declared.state.Then.TheVariants.{Ends, Starts, Takes}
 use Rattle.sh_client.specs.declared.state.Write.{Write}

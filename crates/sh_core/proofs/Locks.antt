@@ -19,15 +19,15 @@ use Rattle.sh_scene.specs.Acts.{with_hold}
 use Rattle.sh_scene.proofs.Puts.{put_here, put_else, put_case}
 use Rattle.sh_scene.proofs.Holds.{take_act, free_act}
 use Rattle.sh_scene.proofs.Events.{free_lock}
-use Rattle.sh_client.specs.declared.state.Post.{Post}
-use Rattle.sh_client.specs.declared.state.Aim.{Aim}
-use Rattle.sh_client.specs.declared.state.Aim.TheVariants.{Own, Posts}
+use Rattle.sh_decide.specs.declared.state.Post.{Post}
+use Rattle.sh_decide.specs.declared.state.Aim.{Aim}
+use Rattle.sh_decide.specs.declared.state.Aim.TheVariants.{Own, Posts}
 use Rattle.sh_client.specs.declared.state.Then.{Then}
 use Rattle.sh_client.specs.declared.state.Tally.{Tally}
 use Rattle.sh_client.specs.declared.state.Phase.{Phase}
 use Rattle.sh_client.specs.declared.state.Phase.TheVariants.{Root, Read, Grab, Hold as Holds, Unlock, Leave}
 use Rattle.sh_client.specs.Machine.{Machine}
-use Rattle.sh_client.specs.Aims.{is_node, key_of, target}
+use Rattle.sh_decide.specs.Aims.{is_node, key_of, target}
 use Rattle.sh_client.specs.Giving.{makes}
 use Rattle.sh_core.specs.Actors.{Actor, becomes, stepped}
 use Rattle.sh_core.specs.Fits.{duty_of, Fits, Owes, Reaches}

@@ -33,16 +33,16 @@ use Rattle.sh_scene.specs.Scene.{Seat, Scene}
 use Rattle.sh_known.specs.Points.{HadAt}
 use Rattle.sh_known.specs.Hand.{IsNamed, IsImageOf}
 use Rattle.sh_known.proofs.HandLemmas.{right_named, down_named, down_inner, here_is}
-use Rattle.sh_client.specs.declared.state.Post.{Post}
+use Rattle.sh_decide.specs.declared.state.Post.{Post}
 use Rattle.sh_client.specs.declared.state.Tally.{Tally}
-use Rattle.sh_client.specs.declared.state.Aim.{Aim}
-use Rattle.sh_client.specs.declared.state.Aim.TheVariants.{Own, Posts}
-use Rattle.sh_client.specs.declared.state.Way.TheVariants as way
+use Rattle.sh_decide.specs.declared.state.Aim.{Aim}
+use Rattle.sh_decide.specs.declared.state.Aim.TheVariants.{Own, Posts}
+use Rattle.sh_decide.specs.declared.state.Way.TheVariants as way
 use Rattle.sh_client.specs.declared.state.Phase.TheVariants.{Root, Read, Draw, Top, Ended}
 use Rattle.sh_client.specs.Machine.{Machine, up, to, answering, sparing}
-use Rattle.sh_client.specs.Aims.{call_key, is_node, key_of, takes_lock, target}
-use Rattle.sh_client.specs.Leaves.{answer_of, reply_with}
-use Rattle.sh_client.specs.Ways.{is_below, way_of, way_by, way_here}
+use Rattle.sh_decide.specs.Aims.{call_key, is_node, key_of, takes_lock, target}
+use Rattle.sh_decide.specs.Leaves.{answer_of, reply_with}
+use Rattle.sh_decide.specs.Ways.{is_below, way_of, way_by, way_here}
 use Rattle.sh_client.specs.Feeds.{read_by, arrived, went}
 use Rattle.sh_client.specs.Splitting.{grown, growing, raised}
 use Rattle.sh_core.specs.Actors.{Actor, becomes, ending, point_of}

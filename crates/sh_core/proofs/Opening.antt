@@ -1,5 +1,5 @@
 -- The invariant of a laid pool, and with a new client.
-use Rattle.std.proofs.Common.{◌≡◌, ◌≢◌, ℕ, ◌+◌, ◌<◌, ◌≤◌, true, false, List, [], ◌∷◌, Option, None, refl, sym, ap, ◌∙◌, subst, arith}
+use Rattle.std.proofs.Common.{◌≡◌, ◌≢◌, ℕ, ◌≤◌, true, false, List, [], ◌∷◌, None, refl, sym, ◌∙◌, subst, arith}
 use Rattle.sh_base.specs.declared.config.ConfigParts.{ConfigParts}
 use Rattle.sh_base.specs.Setting.{all_seats, IsSetting}
 use Rattle.sh_map.specs.declared.log.Entry.{Entry as LogEntry}
@@ -9,9 +9,9 @@ use Rattle.sh_scene.proofs.Joins.{nothing_done}
 use Rattle.sh_own.specs.Laid.{none_drawn, laid_scene}
 use Rattle.sh_own.proofs.LaidLemmas.{laid_ground}
 use Rattle.sh_own.proofs.Late.{bounded_begin}
-use Rattle.sh_core.specs.Actors.{Actor, made_by}
+use Rattle.sh_core.specs.Actors.{made_by}
 use Rattle.sh_core.specs.Core.{SomeAdds, Inv}
-use Rattle.sh_core.specs.Opening.{IsFree, entered, LaidKeeps, EnterKeeps}
+use Rattle.sh_core.specs.Opening.{entered, LaidKeeps, EnterKeeps}
 use Rattle.sh_core.proofs.Frame.{moves_to}
 use Rattle.sh_core.proofs.Calls.{before}
 

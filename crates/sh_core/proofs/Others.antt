@@ -34,9 +34,9 @@ use Rattle.sh_ends.specs.Images.{IsEntryOf, IsPairOf}
 use Rattle.sh_known.specs.Knows.{fed_from, fed_words}
 use Rattle.sh_known.specs.Hand.{IsNamed}
 use Rattle.sh_known.proofs.Known.{known_on}
-use Rattle.sh_client.specs.declared.state.Post.{Post}
-use Rattle.sh_client.specs.declared.state.Aim.{Aim}
-use Rattle.sh_client.specs.declared.state.Aim.TheVariants.{Posts}
+use Rattle.sh_decide.specs.declared.state.Post.{Post}
+use Rattle.sh_decide.specs.declared.state.Aim.{Aim}
+use Rattle.sh_decide.specs.declared.state.Aim.TheVariants.{Posts}
 use Rattle.sh_client.specs.declared.state.Then.{Then}
 use Rattle.sh_client.specs.declared.state.Then.TheVariants.{Ends, Starts, Takes}
 use Rattle.sh_client.specs.declared.state.Write.{Write}
@@ -44,7 +44,7 @@ use Rattle.sh_client.specs.declared.state.Write.TheVariants.{Nothing, Entry, Lea
 use Rattle.sh_client.specs.declared.state.Phase.{Phase}
 use Rattle.sh_client.specs.declared.state.Phase.TheVariants.{Idle, Root, Read, Draw, Look, Grab, Hold as Holds, Seek, Fill, Waiting, Body, Unlock, Leave, Top, Raise, Swap, Ended}
 use Rattle.sh_client.specs.Machine.{Machine}
-use Rattle.sh_client.specs.Aims.{key_of, post_of, target}
+use Rattle.sh_decide.specs.Aims.{key_of, post_of, target}
 use Rattle.sh_core.specs.Actors.{Actor, AreAnswered, made_by}
 use Rattle.sh_core.specs.Fits.{HasEntry, IsPosting, Owes, HasRead, IsOnWay, AreLast, IsSeeking, IsFilled, PlansEntry, PlansLeaf, PlansLeftLeaf, PlansPair, PlansInner, PlansLeftInner, PlansHalf, HadNone, IsDecided, Follows, Plans, storing_hold, IsHolding, IsLeaving, IsBelow, IsThere, Fits}
 use Rattle.sh_core.specs.Keeps.{holding, Hands, Waits, Skips, Keeps}

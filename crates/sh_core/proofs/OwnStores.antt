@@ -15,7 +15,7 @@ use Rattle.sh_scene.specs.Acts.{filled}
 use Rattle.sh_scene.proofs.Puts.{put_here, put_else}
 use Rattle.sh_scene.proofs.Scenes.{fresh_linked}
 use Rattle.sh_own.proofs.Own.{fresh_act}
-use Rattle.sh_client.specs.declared.state.Post.{Post}
+use Rattle.sh_decide.specs.declared.state.Post.{Post}
 use Rattle.sh_client.specs.declared.state.Then.{Then}
 use Rattle.sh_client.specs.declared.state.Write.{Write}
 use Rattle.sh_client.specs.declared.state.Write.TheVariants.{Nothing, Entry, Leaf as WholeLeaf, LeftLeaf, Inner as WholeInner, LeftInner}

@@ -1,5 +1,5 @@
 -- The points of a seat's updates, and the places of its entries.
-use Rattle.std.proofs.Common.{◌≡◌, ◌≢◌, ◌⊎◌, ℕ, zero, suc, ◌+◌, ◌<◌, ◌≤◌, Bool, true, false, cond, List, [], ◌∷◌, ◌++◌, length, Option, Some, None, refl, sym, ap, ◌∙◌, subst, inl, inr, arith, length-append, eq-eqb}
+use Rattle.std.proofs.Common.{◌≡◌, ℕ, zero, suc, ◌+◌, ◌<◌, ◌≤◌, Bool, true, false, cond, List, [], ◌∷◌, ◌++◌, length, Some, refl, sym, ap, ◌∙◌, subst, inl, inr, arith, length-append, eq-eqb}
 use Rattle.std.specs.Prelude.{◌==◌, if◌then◌else◌, map, slice_get, Any}
 use Rattle.std.specs.List.{AllByRecursion}
 use Rattle.sh_map.specs.declared.call.Call.{Call}

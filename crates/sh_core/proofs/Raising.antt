@@ -11,7 +11,7 @@ use Rattle.sh_alloc.specs.declared.state.Walk.{Walk}
 use Rattle.sh_alloc.specs.Walks.{start_of}
 use Rattle.sh_read.specs.Reads.{Reads}
 use Rattle.sh_scene.specs.Scene.{Scene}
-use Rattle.sh_client.specs.declared.state.Post.{Post}
+use Rattle.sh_decide.specs.declared.state.Post.{Post}
 use Rattle.sh_client.specs.declared.state.Phase.{Phase}
 use Rattle.sh_client.specs.declared.state.Phase.TheVariants.{Raise}
 use Rattle.sh_client.specs.Machine.{Machine}

@@ -13,14 +13,14 @@ use Rattle.sh_scene.specs.Ground.{Ground}
 use Rattle.sh_scene.specs.Change.{ChangeFor}
 use Rattle.sh_scene.proofs.Puts.{put_here, put_else, put_case}
 use Rattle.sh_scene.proofs.Holds.{hand_act}
-use Rattle.sh_client.specs.declared.state.Aim.{Aim}
+use Rattle.sh_decide.specs.declared.state.Aim.{Aim}
 use Rattle.sh_client.specs.declared.state.Then.{Then}
 use Rattle.sh_client.specs.declared.state.Then.TheVariants.{Ends, Starts, Takes}
 use Rattle.sh_client.specs.declared.state.Tally.{Tally}
 use Rattle.sh_client.specs.declared.state.Phase.{Phase}
 use Rattle.sh_client.specs.declared.state.Phase.TheVariants.{Root, Draw, Look, Hold as Holds, Leave, Ended}
 use Rattle.sh_client.specs.Machine.{Machine, up, handed_over}
-use Rattle.sh_client.specs.Aims.{key_of, target}
+use Rattle.sh_decide.specs.Aims.{key_of, target}
 use Rattle.sh_client.specs.Giving.{followed}
 use Rattle.sh_core.specs.Actors.{Actor, becomes, ending, stepped, turned}
 use Rattle.sh_core.specs.Fits.{Fits}

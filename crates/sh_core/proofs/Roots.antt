@@ -23,8 +23,8 @@ use Rattle.sh_scene.specs.Acts.{grown}
 use Rattle.sh_scene.proofs.Puts.{put_else, put_case}
 use Rattle.sh_scene.proofs.Scenes.{linked_is}
 use Rattle.sh_scene.proofs.Roots.{root_act}
-use Rattle.sh_client.specs.declared.state.Post.{Post}
-use Rattle.sh_client.specs.declared.state.Aim.TheVariants.{Posts}
+use Rattle.sh_decide.specs.declared.state.Post.{Post}
+use Rattle.sh_decide.specs.declared.state.Aim.TheVariants.{Posts}
 use Rattle.sh_client.specs.declared.state.Phase.TheVariants.{Root, Swap, Ended}
 use Rattle.sh_client.specs.Machine.{Machine, sparing}
 use Rattle.sh_core.specs.Actors.{Actor, becomes, ending}

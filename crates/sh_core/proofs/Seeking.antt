@@ -27,10 +27,10 @@ use Rattle.sh_scene.specs.Scene.{Scene}
 use Rattle.sh_scene.specs.Ground.{Ground}
 use Rattle.sh_scene.specs.Change.{Change}
 use Rattle.sh_scene.specs.Acts.{drawn, skipped}
-use Rattle.sh_client.specs.declared.state.Post.{Post}
+use Rattle.sh_decide.specs.declared.state.Post.{Post}
 use Rattle.sh_client.specs.declared.state.Tally.{Tally}
-use Rattle.sh_client.specs.declared.state.Aim.{Aim}
-use Rattle.sh_client.specs.declared.state.Aim.TheVariants.{Own, Posts}
+use Rattle.sh_decide.specs.declared.state.Aim.{Aim}
+use Rattle.sh_decide.specs.declared.state.Aim.TheVariants.{Own, Posts}
 use Rattle.sh_client.specs.declared.state.Then.{Then}
 use Rattle.sh_client.specs.declared.state.Then.TheVariants.{Ends, Starts}
 use Rattle.sh_client.specs.declared.state.Write.TheVariants.{Nothing, LeftLeaf, LeftInner}
@@ -38,7 +38,7 @@ use Rattle.sh_client.specs.declared.state.Want.TheVariants as want
 use Rattle.sh_client.specs.declared.state.Phase.{Phase}
 use Rattle.sh_client.specs.declared.state.Phase.TheVariants.{Seek, Fill, Waiting}
 use Rattle.sh_client.specs.Machine.{Machine, up}
-use Rattle.sh_client.specs.Aims.{key_of, left_key, left_value, post_of, target}
+use Rattle.sh_decide.specs.Aims.{key_of, left_key, left_value, post_of, target}
 use Rattle.sh_client.specs.Bodies.{pair_of}
 use Rattle.sh_client.specs.Splitting.{chunk_taken, halved_by, sought_by}
 use Rattle.sh_client.specs.Wants.{count_of}

@@ -20,7 +20,7 @@ use Rattle.sh_scene.specs.Acts.{skipped}
 use Rattle.sh_scene.proofs.Puts.{put_case}
 use Rattle.sh_scene.proofs.Posts.{skip_act}
 use Rattle.sh_scene.proofs.Joins.{join_after}
-use Rattle.sh_client.specs.declared.state.Post.{Post}
+use Rattle.sh_decide.specs.declared.state.Post.{Post}
 use Rattle.sh_client.specs.declared.state.Tally.{Tally}
 use Rattle.sh_client.specs.declared.state.Then.TheVariants.{Ends}
 use Rattle.sh_client.specs.declared.state.Write.TheVariants.{Nothing}

@@ -18,16 +18,16 @@ use Rattle.sh_scene.specs.Nodes.{level_in}
 use Rattle.sh_scene.proofs.Spelled.{leaf_is, inner_is}
 use Rattle.sh_known.specs.Hand.{IsImageOf}
 use Rattle.sh_known.proofs.HandLemmas.{inner_image, right_named}
-use Rattle.sh_client.specs.declared.state.Post.{Post}
+use Rattle.sh_decide.specs.declared.state.Post.{Post}
 use Rattle.sh_client.specs.declared.state.Tally.{Tally}
-use Rattle.sh_client.specs.declared.state.Aim.{Aim}
-use Rattle.sh_client.specs.declared.state.Aim.TheVariants.{Own, Posts}
+use Rattle.sh_decide.specs.declared.state.Aim.{Aim}
+use Rattle.sh_decide.specs.declared.state.Aim.TheVariants.{Own, Posts}
 use Rattle.sh_client.specs.declared.state.Then.TheVariants.{Starts, Takes}
-use Rattle.sh_client.specs.declared.state.Decision.TheVariants as decision
+use Rattle.sh_decide.specs.declared.state.Decision.TheVariants as decision
 use Rattle.sh_client.specs.declared.state.Phase.TheVariants.{Hold as Holds}
 use Rattle.sh_client.specs.Machine.{Machine, up}
-use Rattle.sh_client.specs.Aims.{is_node, key_of, target}
-use Rattle.sh_client.specs.Deciding.{decided_by, decided_here}
+use Rattle.sh_decide.specs.Aims.{is_node, key_of, target}
+use Rattle.sh_decide.specs.Deciding.{decided_by, decided_here}
 use Rattle.sh_client.specs.Feeds.{did}
 use Rattle.sh_core.specs.Actors.{Actor}
 use Rattle.sh_core.specs.Fits.{Owes, duty_of}

@@ -14,7 +14,7 @@ use Rattle.sh_scene.specs.Scene.{Scene}
 use Rattle.sh_scene.specs.Ground.{Ground}
 use Rattle.sh_scene.specs.Change.{Change}
 use Rattle.sh_scene.specs.Acts.{drawn, skipped}
-use Rattle.sh_client.specs.declared.state.Post.{Post}
+use Rattle.sh_decide.specs.declared.state.Post.{Post}
 use Rattle.sh_client.specs.declared.state.Tally.{Tally}
 use Rattle.sh_client.specs.declared.state.Want.TheVariants as want
 use Rattle.sh_client.specs.declared.state.Phase.{Phase}

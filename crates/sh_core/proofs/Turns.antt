@@ -10,8 +10,7 @@ use Rattle.sh_base.specs.Memory.{apply, found_by}
 use Rattle.sh_map.specs.declared.log.Entry.{Entry as LogEntry}
 use Rattle.sh_scene.specs.Scene.{Scene}
 use Rattle.sh_client.specs.declared.state.Want.TheVariants as want
-use Rattle.sh_client.specs.declared.state.Aim.{Aim}
-use Rattle.sh_client.specs.declared.state.Aim.TheVariants.{Own, Posts}
+use Rattle.sh_decide.specs.declared.state.Aim.{Aim}
 use Rattle.sh_client.specs.declared.state.Phase.{Phase}
 use Rattle.sh_client.specs.declared.state.Phase.TheVariants.{Idle, Root, Read, Draw, Look, Grab, Hold, Seek, Fill, Waiting, Body, Unlock, Leave, Top, Raise, Swap, Ended}
 use Rattle.sh_client.specs.Machine.{Machine}
@@ -25,13 +24,10 @@ use Rattle.sh_core.proofs.OnWay.{read_claim}
 use Rattle.sh_core.proofs.OwnStores.{fill, raise}
 use Rattle.sh_core.proofs.Roots.{swap}
 use Rattle.sh_core.proofs.InnerBodies.{body}
-use Rattle.sh_core.proofs.UnderLock.{ws}
-use Rattle.sh_core.proofs.LeafDecisions.{own_here}
-use Rattle.sh_core.proofs.InnerDecisions.{post_here}
-use Rattle.sh_core.proofs.HoldTurns.{CoversLead, hold_claim}
+use Rattle.sh_core.proofs.HoldTurns.{hold_turn}
 use Rattle.sh_core.proofs.Walking.{event_is}
-use Rattle.sh_core.proofs.Topping.{top}
 use Rattle.sh_core.proofs.Seeking.{seek}
+use Rattle.sh_core.proofs.Topping.{top}
 use Rattle.sh_core.proofs.Calls.{before}
 
 module _ (p : ConfigParts) (ok : IsSetting p) (words : List ℕ) (Has Now : ℕ → Actor → Type 0) (Out : ℕ → ℕ → ℕ → Type 0) (i : ℕ) (s : Scene) (b : Before p words Has Out s) (a : Actor) (m : Machine) where
@@ -42,12 +38,8 @@ module _ (p : ConfigParts) (ok : IsSetting p) (words : List ℕ) (Has Now : ℕ 
   reads aim top e true q = subst (C (Read aim top)) (event_is (Load (node_word p m.reads.node + (node_size p - 1 - length m.reads.loaded))) e q) (λ h mv. read_claim p ok words Has Now Out i s b a m aim top h mv)
   reads aim top e false q = cc
 
-  covers_lead : (aim : Aim) (depth : ℕ) (h : Has i (me p i a m (Hold aim depth))) → CoversLead p ok words Has Now Out i s b a m aim depth h
-  covers_lead Own depth h = own_here p ok words Has Now Out i s b a m depth h (ws p ok words Has Now Out i s b a m Own depth h)
-  covers_lead (Posts post) depth h = post_here p ok words Has Now Out i s b a m post depth h (ws p ok words Has Now Out i s b a m (Posts post) depth h)
-
   holds : (aim : Aim) (d : ℕ) (e : Event) (t : Bool) → load_of (if t then Some (node_word p m.reads.node + (node_size p - 1 - length m.reads.loaded)) else None) ≡ want.Event e → C (Hold aim d) e
-  holds aim d e true q = subst (C (Hold aim d)) (event_is (Load (node_word p m.reads.node + (node_size p - 1 - length m.reads.loaded))) e q) (λ h mv. hold_claim p ok words Has Now Out i s b a m aim d (covers_lead aim d) h mv)
+  holds aim d e true q = subst (C (Hold aim d)) (event_is (Load (node_word p m.reads.node + (node_size p - 1 - length m.reads.loaded))) e q) (λ h mv. hold_turn p ok words Has Now Out i s b a m aim d h mv)
   holds aim d e false q = cc
 
   pub turns : (ph : Phase) (e : Event) → want_in (at p i m ph) ph ≡ want.Event e → C ph e
@@ -70,7 +62,7 @@ module _ (p : ConfigParts) (ok : IsSetting p) (words : List ℕ) (Has Now : ℕ 
   turns Ended e q = cc
 
 -- the law of the wanted turn
-pub turn_keeps : (p : ConfigParts) (ok : IsSetting p) → TurnKeeps p
+pub turn_keeps : (p : ConfigParts) → IsSetting p → TurnKeeps p
 turn_keeps p ok words log Has Now Out i a e inv h q mv =
     let s = inv.scene in
     let c = a.client in

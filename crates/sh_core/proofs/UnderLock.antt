@@ -18,14 +18,14 @@ use Rattle.sh_read.specs.Moments.{word}
 use Rattle.sh_read.specs.Reads.{Reads, accepted, answer_to, image_in, left_by, reads_with}
 use Rattle.sh_scene.specs.Scene.{Hold, Scene, writing_of}
 use Rattle.sh_client.specs.declared.state.Tally.{Tally}
-use Rattle.sh_client.specs.declared.state.Aim.{Aim}
+use Rattle.sh_decide.specs.declared.state.Aim.{Aim}
 use Rattle.sh_client.specs.declared.state.Then.{Then}
 use Rattle.sh_client.specs.declared.state.Then.TheVariants.{Starts}
 use Rattle.sh_client.specs.declared.state.Write.TheVariants.{Nothing}
 use Rattle.sh_client.specs.declared.state.Phase.TheVariants.{Hold as Holds, Waiting}
 use Rattle.sh_client.specs.Machine.{Machine, up}
-use Rattle.sh_client.specs.Aims.{target}
-use Rattle.sh_client.specs.Deciding.{decision_of}
+use Rattle.sh_decide.specs.Aims.{target}
+use Rattle.sh_decide.specs.Deciding.{decision_of}
 use Rattle.sh_client.specs.Feeds.{did, held_by, hold_by}
 use Rattle.sh_core.specs.Actors.{Actor, becomes}
 use Rattle.sh_core.specs.Fits.{AreLast, Follows}

@@ -142,7 +142,7 @@ module _ (p : ConfigParts) (ok : IsSetting p) (words : List ℕ) (Has Now : ℕ 
   -- the new invariant
   turned_to : (now : List ℕ) (f : ℕ → ℕ) (x : Actor) → Reached p i s now f x → ((v : ℕ) → s.counter v ≤ f v) → Bounds f → Moves Has i x Now → Inv p now (s.log ++ []) Now Out
   turned_to now f x r rise bounds mv = one_log p ok words Has Now Out i s b now r.scene r.log
-      (turn_to p Has Now i x mv ok words now s r.scene b.ground r.act.1 r.keeps b.kept b.held b.pends b.skips Out r.act.0 (λ v. omega (arith, r.counts v, rise v))
+      (turn_to p Has Now i x mv ok words now s r.scene b.ground r.act.1 r.keeps b.kept b.held b.pends b.skips b.makes Out r.act.0 (λ v. omega (arith, r.counts v, rise v))
       (λ v lt. subst (λ (c : ℕ). Bounded p.chunks (all_seats p) c (λ j. SomeAdds p Now v j)) (sym (r.counts v)) (bounds v lt)) b.given b.out)
 
   -- ---- the walk goes on, or ends; F is the actor with the walk

@@ -1,5 +1,5 @@
 -- The book of all calls that have ended.
-use Rattle.std.specs.Prelude.{◌≡◌, ◌⊎◌, ℕ, ◌<◌, ◌==◌, Bool, false, true, List, [], ◌∷◌, filter, map, slice_get, AllPairs, Any, Some}
+use Rattle.std.specs.Prelude.{◌≡◌, ◌⊎◌, ℕ, ◌<◌, ◌==◌, false, true, List, [], ◌∷◌, filter, map, slice_get, AllPairs, Any, Some}
 use Rattle.std.specs.List.{AllByRecursion}
 use Rattle.sh_base.specs.declared.config.ConfigParts.{ConfigParts}
 use Rattle.sh_map.specs.declared.log.Entry.{Entry as LogEntry}

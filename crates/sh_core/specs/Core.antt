@@ -12,7 +12,7 @@ use Rattle.sh_map.specs.Calls.{IsInRange}
 use Rattle.sh_scene.specs.Scene.{Pending, Skipped, Seat, Right, Nobody, Held, Owns, Scene}
 use Rattle.sh_scene.specs.Ground.{Ground}
 use Rattle.sh_own.specs.Counters.{Bounded}
-use Rattle.sh_client.specs.declared.state.Aim.{Aim}
+use Rattle.sh_decide.specs.declared.state.Aim.{Aim}
 use Rattle.sh_client.specs.declared.state.Then.{Then}
 use Rattle.sh_client.specs.declared.state.Want.{Want}
 use Rattle.sh_client.specs.declared.state.Want.TheVariants as want

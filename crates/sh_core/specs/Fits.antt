@@ -33,19 +33,19 @@ use Rattle.sh_scene.specs.Nodes.{entries_of}
 use Rattle.sh_ends.specs.Images.{IsEntryOf, IsPairOf}
 use Rattle.sh_known.specs.Knows.{IsFed}
 use Rattle.sh_known.specs.Hand.{IsNamed}
-use Rattle.sh_client.specs.declared.state.Post.{Post}
-use Rattle.sh_client.specs.declared.state.Aim.{Aim}
-use Rattle.sh_client.specs.declared.state.Aim.TheVariants.{Own, Posts}
+use Rattle.sh_decide.specs.declared.state.Post.{Post}
+use Rattle.sh_decide.specs.declared.state.Aim.{Aim}
+use Rattle.sh_decide.specs.declared.state.Aim.TheVariants.{Own, Posts}
 use Rattle.sh_client.specs.declared.state.Then.{Then}
 use Rattle.sh_client.specs.declared.state.Then.TheVariants.{Ends, Starts, Takes}
 use Rattle.sh_client.specs.declared.state.Write.{Write}
 use Rattle.sh_client.specs.declared.state.Write.TheVariants.{Nothing, Entry, Leaf as WholeLeaf, LeftLeaf, Inner as WholeInner, LeftInner}
-use Rattle.sh_client.specs.declared.state.Decision.TheVariants as decision
+use Rattle.sh_decide.specs.declared.state.Decision.TheVariants as decision
 use Rattle.sh_client.specs.declared.state.Phase.{Phase}
 use Rattle.sh_client.specs.declared.state.Phase.TheVariants.{Idle, Root, Read, Draw, Look, Grab, Hold as Holds, Seek, Fill, Waiting, Body, Unlock, Leave, Top, Raise, Swap, Ended}
 use Rattle.sh_client.specs.Machine.{Machine}
-use Rattle.sh_client.specs.Aims.{key_of, post_of, target}
-use Rattle.sh_client.specs.Deciding.{decision_of}
+use Rattle.sh_decide.specs.Aims.{key_of, post_of, target}
+use Rattle.sh_decide.specs.Deciding.{decision_of}
 
 -- ---- a post under way
 

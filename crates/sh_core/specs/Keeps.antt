@@ -10,9 +10,9 @@ use Rattle.sh_map.specs.Calls.{IsInRange}
 use Rattle.sh_map.specs.Made.{entries_by}
 use Rattle.sh_tree.specs.Lists.{is_in, AreDifferent}
 use Rattle.sh_scene.specs.Scene.{Pending, Skipped, Seat, Owns, Scene}
-use Rattle.sh_client.specs.declared.state.Post.{Post}
-use Rattle.sh_client.specs.declared.state.Aim.{Aim}
-use Rattle.sh_client.specs.declared.state.Aim.TheVariants.{Own, Posts}
+use Rattle.sh_decide.specs.declared.state.Post.{Post}
+use Rattle.sh_decide.specs.declared.state.Aim.{Aim}
+use Rattle.sh_decide.specs.declared.state.Aim.TheVariants.{Own, Posts}
 use Rattle.sh_client.specs.declared.state.Then.{Then}
 use Rattle.sh_client.specs.declared.state.Then.TheVariants.{Ends, Starts, Takes}
 use Rattle.sh_client.specs.declared.state.Write.{Write}

@@ -5,3 +5,4 @@ pub mod Core
 pub mod Senses
 pub mod Opening
 pub mod Books
+pub mod Moments

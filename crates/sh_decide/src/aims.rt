@@ -3,15 +3,15 @@ ghost use Rattle.std.specs.Prelude.{◌≡◌, ◌+◌, ◌==◌, IsTrue, MatchO
 ghost use Rattle.sh_base.specs.Parts.{parts_of};
 ghost use Rattle.sh_base.specs.Setting.{IsNode};
 ghost use Rattle.sh_map.specs.Calls.{IsInRange};
-ghost use Rattle.sh_client.specs.declared.state.Aim.TheVariants.{Own};
-ghost use Rattle.sh_client.specs.Aims.{call_key, is_node, key_of, left_key, left_value, takes_lock, target};
+ghost use Rattle.sh_decide.specs.declared.state.Aim.TheVariants.{Own};
+ghost use Rattle.sh_decide.specs.Aims.{call_key, is_node, key_of, left_key, left_value, takes_lock, target};
 
 use crate::Aim;
 use sh_base::{Config, Value};
 use sh_map::Call;
 
-// A call's key, and a range's low end.
-pub(crate) fn call_key(call: &Call) -> u64
+/// A call's key, and a range's low end.
+pub fn call_key(call: &Call) -> u64
     ensures { result ≡ call_key call.now }
 {
     match *call {
@@ -22,8 +22,9 @@ pub(crate) fn call_key(call: &Call) -> u64
     }
 }
 
-// The key that an update leaves in its entry.
-pub(crate) fn left_key(call: &Call) -> u64
+/// The key that an update leaves in its entry: a put its own, and a delete 0, as an empty entry has. Of a get or a range
+/// it is 0, too.
+pub fn left_key(call: &Call) -> u64
     ensures { result ≡ left_key call.now }
 {
     match *call {
@@ -42,8 +43,9 @@ fn zeros(cfg: &Config) -> Value
     Value::of(&zeros[..cfg.value_words() as usize])
 }
 
-// The value that it leaves there.
-pub(crate) fn left_value(cfg: &Config, call: &Call) -> Value
+/// The value that an update leaves in its entry, with as many words as the setting's values have: a put its own, and a
+/// delete words of 0. So of a get or a range. Condition: the call is in range.
+pub fn left_value(cfg: &Config, call: &Call) -> Value
     requires { IsInRange (parts_of cfg.now) call.now }
     ensures value { result ≡ left_value (parts_of cfg.now) call.now }
     ensures size { length result ≡ cfg.now.parts.value_words }
@@ -113,8 +115,8 @@ pub(crate) fn is_next(high: u64, low: u64) -> bool
     low < high && high - low == 1
 }
 
-// The node that a word names, where it names one.
-pub(crate) fn node_in(cfg: &Config, word: u64) -> Option<u32>
+/// The node that a word names, or none where it isn't the number of a node of the setting.
+pub fn node_in(cfg: &Config, word: u64) -> Option<u32>
     ensures { MatchOption result (is_node (parts_of cfg.now) word ≡ false) (λ node. (node ≡ word) × (is_node (parts_of cfg.now) word ≡ true) × IsNode (parts_of cfg.now) node) }
 {
     if word <= u64::from(cfg.nodes()) && is_node(cfg, word) {

@@ -8,11 +8,11 @@ use Rattle.sh_image.specs.declared.inner.Image.TheVariants.{Leaf as LeafImage, I
 use Rattle.sh_descend.specs.Descent.{hop_of, level_of}
 use Rattle.sh_descend.specs.declared.Hop.{Hop}
 use Rattle.sh_descend.specs.declared.Hop.TheVariants.{Here, Right as HopRight, Down, Restart}
-use Rattle.sh_client.specs.declared.state.Aim.{Aim}
-use Rattle.sh_client.specs.declared.state.Aim.TheVariants.{Own, Posts}
-use Rattle.sh_client.specs.declared.state.Way.{Way}
-use Rattle.sh_client.specs.declared.state.Way.TheVariants.{Root, Read, Right, Lock, LockRight, Grow, Found}
-use Rattle.sh_client.specs.Aims.{is_node, key_of, takes_lock, target}
+use Rattle.sh_decide.specs.declared.state.Aim.{Aim}
+use Rattle.sh_decide.specs.declared.state.Aim.TheVariants.{Own, Posts}
+use Rattle.sh_decide.specs.declared.state.Way.{Way}
+use Rattle.sh_decide.specs.declared.state.Way.TheVariants.{Root, Read, Right, Lock, LockRight, Grow, Found}
+use Rattle.sh_decide.specs.Aims.{is_node, key_of, takes_lock, target}
 
 -- the root that was READ is a level too low for the post: a new root goes over it
 abbrev pub is_below : Aim → Image → Bool

@@ -10,7 +10,7 @@ use Rattle.sh_image.specs.declared.leaf.LeafEntry.{LeafEntry}
 use Rattle.sh_edit.specs.Held.{held, key_at, no_entry, HasKeysOnce}
 use Rattle.sh_edit.specs.Placing.{HasNone, IsFirstWith}
 use Rattle.sh_edit.proofs.HeldLemmas.{held_at, held_none}
-use Rattle.sh_client.specs.Leaves.{answer_of, are_keys_once, has_key, index_from, index_of, reply_with}
+use Rattle.sh_decide.specs.Leaves.{answer_of, are_keys_once, has_key, index_from, index_of, reply_with}
 
 same_test : (k q : ℕ) → k ≡ q → (k == q) ≡ true
 same_test k q h = grind (arith, nat_tests)

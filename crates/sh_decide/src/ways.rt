@@ -4,11 +4,11 @@ ghost use Rattle.sh_base.specs.Parts.{parts_of};
 ghost use Rattle.sh_base.specs.Setting.{IsNode};
 ghost use Rattle.sh_descend.specs.Descent.{hop_of, level_of};
 ghost use Rattle.sh_image.specs.Node.{IsImage};
-ghost use Rattle.sh_client.specs.declared.state.Aim.TheVariants.{Own};
+ghost use Rattle.sh_decide.specs.declared.state.Aim.TheVariants.{Own};
 ghost use Rattle.sh_descend.specs.declared.Hop.TheVariants.{Right as HopRight, Down as HopDown};
-ghost use Rattle.sh_client.specs.Aims.{key_of, target};
-ghost use Rattle.sh_client.specs.Ways.{found_in, is_below, way_by, way_here, way_of};
-ghost use Rattle.sh_client.specs.Sound.{Leads};
+ghost use Rattle.sh_decide.specs.Aims.{key_of, target};
+ghost use Rattle.sh_decide.specs.Ways.{found_in, is_below, way_by, way_here, way_of};
+ghost use Rattle.sh_decide.specs.Allowed.{Leads};
 
 use crate::aims::{is_next, is_node, key_of, takes_lock, target};
 use crate::{Aim, Way};
@@ -17,8 +17,10 @@ use sh_descend::{Hop, next_hop};
 use sh_image::Image;
 use sh_map::Call;
 
-// Where the image of a node leads. `top` says that the root word named the node.
-pub(crate) fn way(cfg: &Config, call: &Call, aim: Aim, top: bool, node: u32, image: &Image) -> Way
+/// Where the image of a node that was READ without a lock leads a call that is after this. `top` says that the root word
+/// named the node. Where it leads to a node, that is a node of the setting: a number that names none leads to the root
+/// word again. Condition: `node` is a node of the setting, and the image keeps the rules of a node.
+pub fn way(cfg: &Config, call: &Call, aim: Aim, top: bool, node: u32, image: &Image) -> Way
     requires node { IsNode (parts_of cfg.now) node }
     requires image { IsImage (parts_of cfg.now) image.now }
     ensures exact { result ≡ way_of (parts_of cfg.now) call.now aim top node image.now }

@@ -12,13 +12,13 @@ use Rattle.sh_image.specs.declared.inner.Image.TheVariants.{Leaf as LeafImage, I
 use Rattle.sh_descend.specs.Descent.{hop_of}
 use Rattle.sh_descend.specs.declared.Hop.{Hop}
 use Rattle.sh_descend.specs.declared.Hop.TheVariants.{Here, Right as HopRight, Down, Restart as HopRestart}
-use Rattle.sh_client.specs.declared.state.Post.{Post}
-use Rattle.sh_client.specs.declared.state.Aim.{Aim}
-use Rattle.sh_client.specs.declared.state.Aim.TheVariants.{Own, Posts}
-use Rattle.sh_client.specs.declared.state.Decision.{Decision}
-use Rattle.sh_client.specs.declared.state.Decision.TheVariants.{Restart, Right, Absent, Entry, Rewrite, Worn, Split, Skip, Add}
-use Rattle.sh_client.specs.Aims.{is_node, key_of, target}
-use Rattle.sh_client.specs.Leaves.{are_keys_once, index_of, version_at}
+use Rattle.sh_decide.specs.declared.state.Post.{Post}
+use Rattle.sh_decide.specs.declared.state.Aim.{Aim}
+use Rattle.sh_decide.specs.declared.state.Aim.TheVariants.{Own, Posts}
+use Rattle.sh_decide.specs.declared.state.Decision.{Decision}
+use Rattle.sh_decide.specs.declared.state.Decision.TheVariants.{Restart, Right, Absent, Entry, Rewrite, Worn, Split, Skip, Add}
+use Rattle.sh_decide.specs.Aims.{is_node, key_of, target}
+use Rattle.sh_decide.specs.Leaves.{are_keys_once, index_of, version_at}
 
 -- an update that needs more than one entry is refused where the node's version is the last one
 abbrev pub unless_worn : ConfigParts → (version : ℕ) → Decision → Decision

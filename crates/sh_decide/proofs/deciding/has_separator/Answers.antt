@@ -1,6 +1,6 @@
 use Rattle.std.proofs.Common.{sym, ◌∙◌, arith}
-use Rattle.sh_client.proofs.PairLemmas.{separator_step, separator_stop, separator_end}
-use Rattle.sh_client.proofs.deciding.has_separator.Goals as goal
+use Rattle.sh_decide.proofs.PairLemmas.{separator_step, separator_stop, separator_end}
+use Rattle.sh_decide.proofs.deciding.has_separator.Goals as goal
 
 pub returns-then-pair-separator : goal.returns-then-pair-separator
 returns-then-pair-separator c = separator_stop c.args.separator c.pair-pair.result c.args.inner.now.pairs c.loop-index.index c.pair-pair.ensures c.if-pair-separator.true ∙ c.loop-index.invariant

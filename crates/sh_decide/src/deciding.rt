@@ -8,14 +8,14 @@ ghost use Rattle.sh_image.specs.Leaf.{IsLeaf};
 ghost use Rattle.sh_image.specs.declared.inner.Image.TheVariants.{Leaf as OfLeaf, Inner as OfInner};
 ghost use Rattle.sh_map.specs.Calls.{IsInRange};
 ghost use Rattle.sh_map.specs.declared.call.Call.{Call};
-ghost use Rattle.sh_client.specs.declared.state.Aim.{Aim};
-ghost use Rattle.sh_client.specs.declared.state.Aim.TheVariants.{Own, Posts};
-ghost use Rattle.sh_client.specs.Aims.{left_key};
-ghost use Rattle.sh_client.specs.Leaves.{index_of};
-ghost use Rattle.sh_client.specs.declared.state.Post.{Post};
+ghost use Rattle.sh_decide.specs.declared.state.Aim.{Aim};
+ghost use Rattle.sh_decide.specs.declared.state.Aim.TheVariants.{Own, Posts};
+ghost use Rattle.sh_decide.specs.Aims.{left_key};
+ghost use Rattle.sh_decide.specs.Leaves.{index_of};
+ghost use Rattle.sh_decide.specs.declared.state.Post.{Post};
 ghost use Rattle.sh_descend.specs.declared.Hop.TheVariants.{Right as HopRight};
-ghost use Rattle.sh_client.specs.Deciding.{change_at, decided_by, decided_here, decision_of, del_in, has_separator, post_in, put_in, update_in};
-ghost use Rattle.sh_client.specs.Sound.{Allows};
+ghost use Rattle.sh_decide.specs.Deciding.{change_at, decided_by, decided_here, decision_of, del_in, has_separator, post_in, put_in, update_in};
+ghost use Rattle.sh_decide.specs.Allowed.{Allows};
 
 use crate::aims::is_node;
 use crate::leaves::{are_once, index};
@@ -26,8 +26,11 @@ use sh_descend::Hop;
 use sh_image::{Image, InnerImage, LeafImage};
 use sh_map::Call;
 
-// What the image leads to.
-pub(crate) fn decision(cfg: &Config, call: &Call, aim: Aim, image: &Image) -> Decision
+/// What the image of a node that was READ under its lock leads to, of a call that is after this. The image allows it: an
+/// entry that is to be written is there with a version left, and so on. Senseless are a leaf with a key twice, a
+/// separator that is there already, a node of another kind, and a hop down or to no node: `Restart`. Condition: the call
+/// is in range, and the image keeps the rules of a node.
+pub fn decision(cfg: &Config, call: &Call, aim: Aim, image: &Image) -> Decision
     requires call { IsInRange (parts_of cfg.now) call.now }
     requires image { IsImage (parts_of cfg.now) image.now }
     ensures exact { result ≡ decision_of (parts_of cfg.now) call.now aim image.now }

@@ -2,15 +2,15 @@
 ghost use Rattle.std.specs.Prelude.{◌≡◌, ◌<◌, IsTrue, MatchOption, length};
 ghost use Rattle.sh_edit.specs.Held.{HasKeysOnce};
 ghost use Rattle.sh_edit.specs.Placing.{HasNone};
-ghost use Rattle.sh_client.specs.Leaves.{answer_of, are_keys_once, index_of};
+ghost use Rattle.sh_decide.specs.Leaves.{answer_of, are_keys_once, index_of};
 
 use sh_edit::{find, keys_differ};
 use sh_image::LeafImage;
 use sh_map::Reply;
 
-// The value of the first entry with the key, or that there is none.
+/// What a leaf answers to a key: the value of the first entry with the key, or that there is none.
 #[tactic(auto, using(crate::proofs::IndexLemmas::answer_found, crate::proofs::IndexLemmas::no_answer))]
-pub(crate) fn answer(leaf: &LeafImage, key: u64) -> Reply
+pub fn answer(leaf: &LeafImage, key: u64) -> Reply
     ensures { result ≡ answer_of leaf.now.entries key }
 {
     match find(leaf, key) {

@@ -4,7 +4,7 @@ use Rattle.std.specs.Prelude.{slice_get, ◌==◌, ◌||◌}
 use Rattle.std.proofs.lemmas.Bool.Decides.{nat_tests}
 use Rattle.std.proofs.lemmas.Option.{slice_get_within}
 use Rattle.sh_image.specs.declared.inner.Pair.{Pair}
-use Rattle.sh_client.specs.Deciding.{has_separator}
+use Rattle.sh_decide.specs.Deciding.{has_separator}
 
 module _ (separator : ℕ) (x : Pair) where
   skip : (ps : List Pair) (at : ℕ) → slice_get ps at ≡ Some x → x.separator ≢ separator → has_separator (drop at ps) separator ≡ has_separator (drop (suc at) ps) separator

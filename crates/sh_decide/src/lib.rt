@@ -1,0 +1,14 @@
+//! What a client decides by the image of a node, on its way to the node that it's after and under that node's lock.
+#![tactic(auto)]
+
+mod aims;
+mod deciding;
+mod leaves;
+mod state;
+mod ways;
+
+pub use aims::{call_key, left_key, left_value, node_in};
+pub use deciding::decision;
+pub use leaves::answer;
+pub use state::{Aim, Decision, Post, Way};
+pub use ways::way;

@@ -1,4 +1,5 @@
 pub mod Logs
+pub mod Causes
 pub mod Others
 pub mod Frame
 pub mod Locals

@@ -60,6 +60,7 @@ module _ (p : ConfigParts) (ok : IsSetting p) where
         seen = omega arith;
         first = omega arith;
         answered = tt;
+        causes = tt;
         ordered = omega arith;
         mine = made_none (made_by seat s.log) refl;
       } (λ server. refl) tt mv)

@@ -1,5 +1,6 @@
 pub mod Actors
 pub mod Fits
+pub mod Causes
 pub mod Keeps
 pub mod Core
 pub mod Senses

@@ -11,11 +11,11 @@ use Rattle.sh_base.specs.Memory.{found_by}
 use Rattle.sh_alloc.specs.Walks.{fed_by as walk_fed, want_of as walk_wants}
 use Rattle.sh_scene.specs.Scene.{Scene}
 use Rattle.sh_client.specs.declared.state.Want.TheVariants as want
-use Rattle.sh_client.specs.declared.state.Aim.{Aim}
+use Rattle.sh_decide.specs.declared.state.Aim.{Aim}
 use Rattle.sh_client.specs.declared.state.Phase.{Phase}
 use Rattle.sh_client.specs.declared.state.Phase.TheVariants.{Idle, Root, Read, Draw, Look, Grab, Hold, Seek, Fill, Waiting, Body, Unlock, Leave, Top, Raise, Swap, Ended}
 use Rattle.sh_client.specs.Machine.{Machine}
-use Rattle.sh_client.specs.Aims.{is_node}
+use Rattle.sh_decide.specs.Aims.{is_node}
 use Rattle.sh_client.specs.Wants.{load_of, want_in, want_of}
 use Rattle.sh_core.specs.Actors.{Actor}
 use Rattle.sh_core.specs.Senses.{is_senseless, is_senseless_in, NeverSenseless}

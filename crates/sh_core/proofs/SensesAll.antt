@@ -23,19 +23,19 @@ use Rattle.sh_read.specs.Reads.{Reads, accepted, answer_to, left_by, progress_of
 use Rattle.sh_descend.specs.declared.Hop.{Hop}
 use Rattle.sh_descend.specs.declared.Hop.TheVariants.{Here, Right, Down, Restart}
 use Rattle.sh_descend.specs.Descent.{hop_of, level_of}
-use Rattle.sh_client.specs.declared.state.Post.{Post}
-use Rattle.sh_client.specs.declared.state.Aim.{Aim}
-use Rattle.sh_client.specs.declared.state.Aim.TheVariants.{Own, Posts}
-use Rattle.sh_client.specs.declared.state.Way.TheVariants as way
-use Rattle.sh_client.specs.declared.state.Decision.{Decision}
-use Rattle.sh_client.specs.declared.state.Decision.TheVariants as decision
+use Rattle.sh_decide.specs.declared.state.Post.{Post}
+use Rattle.sh_decide.specs.declared.state.Aim.{Aim}
+use Rattle.sh_decide.specs.declared.state.Aim.TheVariants.{Own, Posts}
+use Rattle.sh_decide.specs.declared.state.Way.TheVariants as way
+use Rattle.sh_decide.specs.declared.state.Decision.{Decision}
+use Rattle.sh_decide.specs.declared.state.Decision.TheVariants as decision
 use Rattle.sh_client.specs.declared.state.Phase.{Phase}
 use Rattle.sh_client.specs.declared.state.Phase.TheVariants.{Idle, Root, Read, Draw, Look, Grab, Hold, Seek, Fill, Waiting, Body, Unlock, Leave, Top, Raise, Swap, Ended}
 use Rattle.sh_client.specs.Machine.{Machine, to}
-use Rattle.sh_client.specs.Aims.{is_node, key_of, takes_lock, target}
-use Rattle.sh_client.specs.Leaves.{are_keys_once, index_of, version_at}
-use Rattle.sh_client.specs.Ways.{is_below, way_by, way_here}
-use Rattle.sh_client.specs.Deciding.{change_at, decided_by, decided_here, has_separator, post_in, put_in, put_into, del_in, unless_worn, update_in}
+use Rattle.sh_decide.specs.Aims.{is_node, key_of, takes_lock, target}
+use Rattle.sh_decide.specs.Leaves.{are_keys_once, index_of, version_at}
+use Rattle.sh_decide.specs.Ways.{is_below, way_by, way_here}
+use Rattle.sh_decide.specs.Deciding.{change_at, decided_by, decided_here, has_separator, post_in, put_in, put_into, del_in, unless_worn, update_in}
 use Rattle.sh_client.specs.Splitting.{chunk_taken, growing, grown, halved_by, sought_by, splitting, walked}
 use Rattle.sh_client.specs.Feeds.{arrived, did, fed_in, held_by, hold_by, loaded, read_by, reading, went}
 use Rattle.sh_core.specs.Senses.{is_other_kind, is_wrong, is_wrong_by, is_wrong_here, lacks_answer, of_image, of_read, of_walk, strays, strays_by, is_at_root, gives_back, leaves_off, starts_again, is_senseless_in, IsMade, AreAllCases}

@@ -18,18 +18,18 @@ use Rattle.sh_read.specs.Reads.{accepted, progress_of, fed_by as read_fed}
 use Rattle.sh_descend.specs.Descent.{hop_of}
 use Rattle.sh_descend.specs.declared.Hop.{Hop}
 use Rattle.sh_descend.specs.declared.Hop.TheVariants.{Here, Right, Down, Restart}
-use Rattle.sh_client.specs.declared.state.Aim.{Aim}
-use Rattle.sh_client.specs.declared.state.Aim.TheVariants.{Own, Posts}
+use Rattle.sh_decide.specs.declared.state.Aim.{Aim}
+use Rattle.sh_decide.specs.declared.state.Aim.TheVariants.{Own, Posts}
 use Rattle.sh_client.specs.declared.state.Phase.{Phase}
 use Rattle.sh_client.specs.declared.state.Phase.TheVariants.{Root, Read, Hold, Seek, Waiting}
 use Rattle.sh_client.specs.declared.state.Then.TheVariants.{Starts}
 use Rattle.sh_client.specs.declared.state.Write.TheVariants.{Nothing}
 use Rattle.sh_client.specs.declared.state.Want.TheVariants as want
 use Rattle.sh_client.specs.Machine.{Machine}
-use Rattle.sh_client.specs.Aims.{is_node, key_of, takes_lock, target}
-use Rattle.sh_client.specs.Leaves.{are_keys_once}
-use Rattle.sh_client.specs.Deciding.{has_separator}
-use Rattle.sh_client.specs.Ways.{is_below}
+use Rattle.sh_decide.specs.Aims.{is_node, key_of, takes_lock, target}
+use Rattle.sh_decide.specs.Leaves.{are_keys_once}
+use Rattle.sh_decide.specs.Deciding.{has_separator}
+use Rattle.sh_decide.specs.Ways.{is_below}
 use Rattle.sh_client.specs.Wants.{want_of}
 use Rattle.sh_client.specs.Feeds.{fed_by}
 use Rattle.sh_core.specs.Actors.{Actor}

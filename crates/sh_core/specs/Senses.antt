@@ -1,5 +1,5 @@
--- The senseless cases: turns in which a client makes nothing of the word that it is fed but starts again. They are here by
--- the client's own terms; no client of a pool comes to one.
+-- The senseless cases: turns in which a client makes nothing of the word that it is fed, and starts again. They are said by
+-- the client alone; no client of a pool comes to one.
 use Rattle.std.specs.Prelude.{◌≡◌, ◌≢◌, ℕ, ◌&&◌, not, if◌then◌else◌, Bool, true, false, List, [], ◌∷◌, Option, Some, None}
 use Rattle.sh_base.specs.declared.config.ConfigParts.{ConfigParts}
 use Rattle.sh_base.specs.declared.event.Event.{Event}
@@ -137,7 +137,7 @@ starts_again (Hold aim depth) m = leaves_off m.phase m.reads.loaded
 starts_again (Seek aim depth) m = gives_back m.phase
 starts_again phase m = false
 
--- a get or a range takes no lock for its leaf, and no range is made
+-- only an update and a post take a lock, and ranges have no turns of their own yet
 abbrev pub IsMade : Call → Phase → Type 0
 IsMade call (Read aim top) = (low high : ℕ) → call ≢ Range low high
 IsMade call (Hold aim depth) = takes_lock call aim ≡ true

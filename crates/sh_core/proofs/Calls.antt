@@ -64,6 +64,7 @@ module _ (p : ConfigParts) (ok : IsSetting p) where
         seen = omega (arith, ap length inv.log_is, within);
         first = omega arith;
         answered = k.answered;
+        causes = k.causes;
         ordered = in_order_later 0 a.dones a.first n k.ordered (omega (arith, k.first, past));
         mine = k.mine ∙ ap (λ (es : List LogEntry). updates a.dones ++ es) no.2;
       } (λ server. refl) tt mv)
@@ -89,6 +90,7 @@ module _ (p : ConfigParts) (ok : IsSetting p) where
         seen = k.seen;
         first = k.first;
         answered = k.answered;
+        causes = k.causes;
         ordered = k.ordered;
         mine = k.mine ∙ ap (λ (es : List LogEntry). updates a.dones ++ es) no.2;
       } (λ server. refl) tt mv)

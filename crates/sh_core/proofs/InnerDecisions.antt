@@ -38,7 +38,7 @@ use Rattle.sh_core.specs.Fits.{IsPosting, Owes, PlansInner}
 use Rattle.sh_core.specs.Keeps.{Keeps}
 use Rattle.sh_core.proofs.Others.{owes_on}
 use Rattle.sh_core.proofs.Frame.{next, me, with, same_here, same_grows, Before, moves_to, one_log}
-use Rattle.sh_core.proofs.Decided.{quiet_by, quiet_with}
+use Rattle.sh_core.proofs.Locks.{quiet_by, quiet_with}
 use Rattle.sh_core.proofs.Skipping.{worn_more, skips_act, keeps_skipped}
 use Rattle.sh_core.proofs.Spares.{takes_lowest, none_spare}
 use Rattle.sh_core.proofs.Raising.{begins_walk}

@@ -42,7 +42,7 @@ use Rattle.sh_decide.specs.Aims.{is_node, post_of}
 use Rattle.sh_client.specs.Bodies.{pair_of}
 use Rattle.sh_decide.specs.Deciding.{decided_by, decided_here, decision_of, has_separator}
 use Rattle.sh_core.specs.Fits.{IsPosting, IsToSplit, PlansPair, PlansInner, PlansLeftInner, Fits}
-use Rattle.sh_core.proofs.Decided.{anew}
+use Rattle.sh_core.proofs.Frame.{anew}
 use Rattle.sh_core.proofs.Spares.{IsTaken}
 use Rattle.sh_core.proofs.UnderLock.{is_lt, not_lt}
 use Rattle.sh_core.proofs.Standing.{standing_inner}

@@ -36,14 +36,13 @@ use Rattle.sh_client.specs.Splitting.{splitting}
 use Rattle.sh_core.specs.Actors.{Actor}
 use Rattle.sh_core.specs.Fits.{Owes, Plans}
 use Rattle.sh_core.specs.Keeps.{pending_write, Keeps}
-use Rattle.sh_core.proofs.Frame.{me, Before}
-use Rattle.sh_core.proofs.Decided.{anew, quiet_by, quiet_with}
+use Rattle.sh_core.proofs.Frame.{me, Before, anew}
+use Rattle.sh_core.proofs.Locks.{quiet_by, quiet_with}
 use Rattle.sh_core.proofs.Spares.{takes_lowest, none_spare}
 use Rattle.sh_core.proofs.Raising.{begins_walk}
 use Rattle.sh_core.proofs.UnderLock.{Lands, real}
 use Rattle.sh_core.proofs.Standing.{M, restarts, standing_leaf}
-use Rattle.sh_core.proofs.LeafPlans.{answers, Decided, covers}
-use Rattle.sh_core.proofs.LeafHalves.{half_fits, half_posts, left_words, right_words}
+use Rattle.sh_core.proofs.LeafHalves.{answers, Decided, covers, half_fits, half_posts, left_words, right_words}
 
 module _ (p : ConfigParts) (ok : IsSetting p) (words : List ℕ) (Has Now : ℕ → Actor → Type 0) (Out : ℕ → ℕ → ℕ → Type 0) (i : ℕ) (s : Scene) (b : Before p words Has Out s) (a : Actor) (m : Machine) (depth : ℕ)
     (h : Has i (me p i a m (Holds Own depth))) (loaded : List ℕ) where
@@ -106,5 +105,5 @@ module _ (p : ConfigParts) (ok : IsSetting p) (words : List ℕ) (Has Now : ℕ 
       let here : P x = λ acc hop mv.
       let lt = here_is s 0 there.low (call_key m.call) 0 (LeafImage x) (standing_leaf p words s b.ground n there.low (s.node n) refl 0 x there.linked sits.body.spells) there.below hop in
       lands is acc (λ e. ap (decided_by p m.call Own (LeafImage x)) hop ∙ e) (decided_here p m.call Own (LeafImage x)) refl
-      (covers p ok words s b.ground i n there.low a.first a.point there.linked (omega (arith, K.first, K.seen)) m.call K.work.seated.in_range (omega (arith, there.below, sits.low_is)) lt.1) mv in
+      (covers p ok words s b.ground i n there.low there.linked a.first a.point (omega (arith, K.first, K.seen)) m.call K.work.seated.in_range (omega (arith, there.below, sits.low_is)) lt.1) mv in
       subst P one here acc hop mv

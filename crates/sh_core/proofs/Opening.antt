@@ -44,6 +44,7 @@ new_keeps p s seat lt hands waits skips made = record {
   seen = omega arith;
   first = omega arith;
   answered = tt;
+  causes = tt;
   ordered = omega arith;
   mine = made;
 }

@@ -47,14 +47,12 @@ use Rattle.sh_core.specs.Fits.{AreSpent, IsDecided, IsPosting, IsSeeking, Owes, 
 use Rattle.sh_core.specs.Keeps.{Keeps}
 use Rattle.sh_core.specs.Core.{WantsAdd}
 use Rattle.sh_core.proofs.Others.{named_on, owes_on}
-use Rattle.sh_core.proofs.Frame.{me, with, goes_on, work_with, same_grows, Before}
+use Rattle.sh_core.proofs.Frame.{me, with, goes_on, work_with, same_grows, Before, anew, work_anew}
 use Rattle.sh_core.proofs.Locks.{Claim}
-use Rattle.sh_core.proofs.Decided.{anew, work_anew}
 use Rattle.sh_core.proofs.Skipping.{spent_more, skips_act, keeps_skipped}
-use Rattle.sh_core.proofs.LeafPlans.{SplitsFor}
-use Rattle.sh_core.proofs.LeafHalves.{half_made, put_misses, to_split}
+use Rattle.sh_core.proofs.LeafHalves.{SplitsFor, half_made, put_misses, to_split}
 use Rattle.sh_core.proofs.InnerHalves.{half_planned, post_to_split}
-use Rattle.sh_core.proofs.Walking.{Counts, Reached, counted_on, counts_alone, drawn_on, event_is, rest_of, takes_chunk, with_counters, walks}
+use Rattle.sh_core.proofs.Walking.{Counts, Reached, counted_on, counted_rise, counts_alone, drawn_on, event_is, rest_of, takes_chunk, with_counters, walks}
 
 module _ (p : ConfigParts) (ok : IsSetting p) (words : List ℕ) (Has Now : ℕ → Actor → Type 0) (Out : ℕ → ℕ → ℕ → Type 0) (i : ℕ) (s : Scene) (b : Before p words Has Out s) (a : Actor) (m : Machine) (depth : ℕ) where
   abbrev n : ℕ
@@ -91,7 +89,7 @@ module _ (p : ConfigParts) (ok : IsSetting p) (words : List ℕ) (Has Now : ℕ 
               act = c.act;
               log = refl;
               counts = λ u. refl;
-              keeps = goes_on p s t i N (me p i a m (Seek aim depth)) (V aim v) K refl K.seen (omega arith)
+              keeps = goes_on p s t i N (me p i a m (Seek aim depth)) (V aim v) K refl c.rise K.seen (omega arith)
                   (work_with p s t i a.first a.point a.seen N m (Seek aim depth) K.work same K.seen m.tally m.reads v m.body m.right (Seek aim depth) refl
                   (z.0, there, z.2, record { standing = z.3.standing; image = z.3.image; accepted_is = z.3.accepted_is; split = z.3.split }, here) K.work.hands) refl;
             }
@@ -134,7 +132,7 @@ module _ (p : ConfigParts) (ok : IsSetting p) (words : List ℕ) (Has Now : ℕ 
           act = act;
           log = refl;
           counts = λ u. refl;
-          keeps = goes_on p s t i N (me p i a m (Seek Own depth)) (anew p i m rest m.tally reply.None m.reads v body right to) own refl own.seen (omega arith)
+          keeps = goes_on p s t i N (me p i a m (Seek Own depth)) (anew p i m rest m.tally reply.None m.reads v body right to) own refl (counted_rise s server) own.seen (omega arith)
               (work_anew p s t i a.first a.point a.seen N m (Seek Own depth) own.work (λ r. refl) rest m.tally reply.None m.reads v body right to refl
               (z.2, (z.0, half_made p ok now t act.1 i n z.1.low (act.0.linked n 0 z.1.low z.1.linked) m.call fresh splits.1), record { own = taken.own; under = omega (arith, taken.follows); words = λ o lt. absurd (omega (arith, lt)) }, omega (arith, node_size_is p), real Own h)
               (owes t reply.None) taken.spares own.work.hands) refl;
@@ -158,7 +156,7 @@ module _ (p : ConfigParts) (ok : IsSetting p) (words : List ℕ) (Has Now : ℕ 
           act = c.act;
           log = refl;
           counts = λ u. refl;
-          keeps = goes_on p s t i N (me p i a m (Seek Own depth)) (anew p i m m.spare m.tally reply.Full m.reads v m.body m.right to) own refl own.seen (omega arith)
+          keeps = goes_on p s t i N (me p i a m (Seek Own depth)) (anew p i m m.spare m.tally reply.Full m.reads v m.body m.right to) own refl c.rise own.seen (omega arith)
               (work_anew p s t i a.first a.point a.seen N m (Seek Own depth) own.work (λ r. refl) m.spare m.tally reply.Full m.reads v m.body m.right to refl (z.2, (z.0, end.0), real Own h) (owes t reply.Full) own.work.spares own.work.hands) end.1;
         }
 
@@ -192,7 +190,7 @@ module _ (p : ConfigParts) (ok : IsSetting p) (words : List ℕ) (Has Now : ℕ 
           act = act;
           log = refl;
           counts = λ u. refl;
-          keeps = goes_on p s t i N (me p i a m (Seek (Posts post) depth)) (anew p i m rest m.tally m.reply m.reads v body right to) P refl P.seen (omega arith)
+          keeps = goes_on p s t i N (me p i a m (Seek (Posts post) depth)) (anew p i m rest m.tally m.reply m.reads v body right to) P refl (counted_rise s server) P.seen (omega arith)
               (work_anew p s t i a.first a.point a.seen N m (Seek (Posts post) depth) P.work (λ r. refl) rest m.tally m.reply m.reads v body right to refl
               (z.2, subst (λ (d : Option Post). PlansHalf p t i (entries_by i m.call m.reply) body right n fresh LeftInner d after) (sym z.0) half, record { own = taken.own; under = omega (arith, taken.follows); words = λ o lt. absurd (omega (arith, lt)) }, omega (arith, node_size_is p), real (Posts post) h)
               owes taken.spares P.work.hands) refl;

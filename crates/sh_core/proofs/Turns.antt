@@ -1,5 +1,5 @@
 -- The turn of a wanted event keeps the invariant, by what the client is at.
-use Rattle.std.proofs.Common.{◌≡◌, ℕ, ◌+◌, ◌-◌, Bool, true, false, List, ◌++◌, length, Some, None, sym, subst}
+use Rattle.std.proofs.Common.{◌≡◌, ℕ, ◌+◌, ◌-◌, Bool, true, false, List, ◌++◌, length, Some, None, sym, subst, refl, arith}
 use Rattle.std.specs.Prelude.{if◌then◌else◌, nat_lt}
 use Rattle.sh_base.specs.declared.config.ConfigParts.{ConfigParts}
 use Rattle.sh_base.specs.declared.event.Event.{Event}
@@ -17,6 +17,7 @@ use Rattle.sh_client.specs.Machine.{Machine}
 use Rattle.sh_client.specs.Giving.{makes}
 use Rattle.sh_client.specs.Wants.{load_of, want_in, want_of}
 use Rattle.sh_core.specs.Actors.{Actor, stepped}
+use Rattle.sh_core.specs.Fits.{IsThere}
 use Rattle.sh_core.specs.Core.{Inv, Moves, TurnKeeps}
 use Rattle.sh_core.proofs.Frame.{me, at, Before}
 use Rattle.sh_core.proofs.Locks.{Claim, grab, unlock, root}
@@ -24,11 +25,28 @@ use Rattle.sh_core.proofs.OnWay.{read_claim}
 use Rattle.sh_core.proofs.OwnStores.{fill, raise}
 use Rattle.sh_core.proofs.Roots.{swap}
 use Rattle.sh_core.proofs.InnerBodies.{body}
-use Rattle.sh_core.proofs.HoldTurns.{hold_turn}
 use Rattle.sh_core.proofs.Walking.{event_is}
-use Rattle.sh_core.proofs.Topping.{top}
 use Rattle.sh_core.proofs.Seeking.{seek}
+use Rattle.sh_core.proofs.Topping.{top}
 use Rattle.sh_core.proofs.Calls.{before}
+use Rattle.sh_image.specs.declared.inner.Image.{Image}
+use Rattle.sh_image.specs.declared.inner.Image.TheVariants.{Leaf as LeafImage, Inner as InnerImage}
+use Rattle.sh_image.specs.Seen.{SeenBy}
+use Rattle.sh_read.specs.Causes.{seen_as}
+use Rattle.sh_read.specs.Judging.{seen_of}
+use Rattle.sh_read.specs.Reads.{accepted, image_in, reads_with}
+use Rattle.sh_read.proofs.CauseLemmas.{image_spelled}
+use Rattle.sh_descend.specs.declared.Hop.TheVariants.{Here}
+use Rattle.sh_descend.specs.Descent.{hop_of}
+use Rattle.sh_known.specs.Hand.{IsImageOf}
+use Rattle.sh_decide.specs.declared.state.Aim.TheVariants.{Own, Posts}
+use Rattle.sh_decide.specs.Aims.{key_of, target}
+use Rattle.sh_decide.specs.Deciding.{decided_here, decision_of}
+use Rattle.sh_client.specs.Feeds.{did}
+use Rattle.sh_core.proofs.UnderLock.{K, Lands, hold, whole, ws}
+use Rattle.sh_core.proofs.Standing.{M, by_hop, standing_inner, standing_leaf}
+use Rattle.sh_core.proofs.LeafDecisions.{own_here}
+use Rattle.sh_core.proofs.InnerDecisions.{post_here}
 
 module _ (p : ConfigParts) (ok : IsSetting p) (words : List ℕ) (Has Now : ℕ → Actor → Type 0) (Out : ℕ → ℕ → ℕ → Type 0) (i : ℕ) (s : Scene) (b : Before p words Has Out s) (a : Actor) (m : Machine) where
   abbrev C : Phase → Event → Type 0
@@ -38,9 +56,37 @@ module _ (p : ConfigParts) (ok : IsSetting p) (words : List ℕ) (Has Now : ℕ 
   reads aim top e true q = subst (C (Read aim top)) (event_is (Load (node_word p m.reads.node + (node_size p - 1 - length m.reads.loaded))) e q) (λ h mv. read_claim p ok words Has Now Out i s b a m aim top h mv)
   reads aim top e false q = cc
 
-  holds : (aim : Aim) (d : ℕ) (e : Event) (t : Bool) → load_of (if t then Some (node_word p m.reads.node + (node_size p - 1 - length m.reads.loaded)) else None) ≡ want.Event e → C (Hold aim d) e
-  holds aim d e true q = subst (C (Hold aim d)) (event_is (Load (node_word p m.reads.node + (node_size p - 1 - length m.reads.loaded))) e q) (λ h mv. hold_turn p ok words Has Now Out i s b a m aim d h mv)
-  holds aim d e false q = cc
+  -- READs under a lock
+  module _ (aim : Aim) (depth : ℕ) (h : Has i (me p i a m (Hold aim depth))) where
+    abbrev all : List ℕ
+    all = ws p ok words Has Now Out i s b a m aim depth h
+
+    abbrev there : IsThere s m.call aim m.reads.node
+    there = (K p ok words Has Now Out i s b a m aim depth h).work.fits.1
+
+    -- where a node that stands covers the key
+    abbrev CoversLead : Type 0
+    CoversLead = (image : Image) → all ≡ s.node m.reads.node → SeenBy p all (seen_as image) → accepted p (reads_with m.reads.node all) ≡ Some image → hop_of image (key_of m.call aim) (target aim) ≡ Here
+        → Lands p ok words Has Now Out i s b a m aim depth h (did (M p ok words Has Now Out i s b a m aim depth h all) aim depth image (decided_here p m.call aim image))
+
+    image_is : (image : Image) → all ≡ s.node m.reads.node → SeenBy p all (seen_as image) → IsImageOf s (target aim) there.low image
+    image_is (LeafImage x) is sp = standing_leaf p words s b.ground m.reads.node there.low all is (target aim) x there.linked sp
+    image_is (InnerImage x) is sp = standing_inner p words s b.ground m.reads.node there.low all is (target aim) x there.linked sp
+
+    decides : CoversLead → (image : Image) → length all ≡ node_size p → image_in (seen_of p all) ≡ Some image → accepted p (reads_with m.reads.node all) ≡ Some image
+        → Lands p ok words Has Now Out i s b a m aim depth h (did (M p ok words Has Now Out i s b a m aim depth h all) aim depth image (decision_of p m.call aim image))
+    decides here image long q acc mv =
+        let is = whole p ok words Has Now Out i s b a m aim depth h long in
+        let sp = image_spelled p ok.ranged.value_words.0 (reads_with m.reads.node all) image (omega (arith, long)) acc in
+        by_hop p ok words Has Now Out i s b a m aim depth h all image (hop_of image (key_of m.call aim) (target aim)) refl (image_is image is sp) (λ e. here image is sp acc e) mv
+
+  covers_lead : (aim : Aim) (depth : ℕ) (h : Has i (me p i a m (Hold aim depth))) → CoversLead aim depth h
+  covers_lead Own depth h = own_here p ok words Has Now Out i s b a m depth h (all Own depth h)
+  covers_lead (Posts post) depth h = post_here p ok words Has Now Out i s b a m post depth h (all (Posts post) depth h)
+
+  holds : (aim : Aim) (depth : ℕ) (e : Event) (t : Bool) → load_of (if t then Some (node_word p m.reads.node + (node_size p - 1 - length m.reads.loaded)) else None) ≡ want.Event e → C (Hold aim depth) e
+  holds aim depth e true q = subst (C (Hold aim depth)) (event_is (Load (node_word p m.reads.node + (node_size p - 1 - length m.reads.loaded))) e q) (λ h mv. hold p ok words Has Now Out i s b a m aim depth h (λ image long q acc. decides aim depth h (covers_lead aim depth h) image long q acc) mv)
+  holds aim depth e false q = cc
 
   pub turns : (ph : Phase) (e : Event) → want_in (at p i m ph) ph ≡ want.Event e → C ph e
   turns Idle e q = cc
@@ -62,7 +108,7 @@ module _ (p : ConfigParts) (ok : IsSetting p) (words : List ℕ) (Has Now : ℕ 
   turns Ended e q = cc
 
 -- the law of the wanted turn
-pub turn_keeps : (p : ConfigParts) (ok : IsSetting p) → TurnKeeps p
+pub turn_keeps : (p : ConfigParts) → IsSetting p → TurnKeeps p
 turn_keeps p ok words log Has Now Out i a e inv h q mv =
     let s = inv.scene in
     let c = a.client in

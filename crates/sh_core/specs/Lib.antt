@@ -8,3 +8,4 @@ pub mod Opening
 pub mod Books
 pub mod Moments
 pub mod Rest
+pub mod Listed

@@ -14,6 +14,7 @@ pub mod Points
 pub mod Books
 pub mod Owners
 pub mod Moments
+pub mod AtRest
 pub mod Rights
 pub mod OwnStores
 pub mod Roots

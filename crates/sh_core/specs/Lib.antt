@@ -5,3 +5,4 @@ pub mod Core
 pub mod Opening
 pub mod Books
 pub mod Moments
+pub mod Rest

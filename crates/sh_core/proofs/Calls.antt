@@ -9,11 +9,11 @@ use Rattle.sh_decide.specs.declared.state.Post.{Post}
 use Rattle.sh_client.specs.declared.state.Phase.{Phase}
 use Rattle.sh_client.specs.declared.state.Phase.TheVariants.{Idle, Root, Read, Draw, Look, Grab, Hold as Holds, Seek, Fill, Waiting, Body, Unlock, Leave, Top, Raise, Swap, Ended}
 use Rattle.sh_client.specs.Machine.{Machine}
-use Rattle.sh_client.specs.Rests.{rests}
+use Rattle.sh_client.specs.Rests.{is_resting, rests}
 use Rattle.sh_core.specs.Actors.{Actor, begun, rested, updates}
 use Rattle.sh_core.specs.Fits.{Fits}
 use Rattle.sh_core.specs.Keeps.{holding, Hands, Waits, pending}
-use Rattle.sh_core.specs.Core.{Inv, BeginKeeps, RestKeeps, SameKeeps, AtRest, SomeAdds}
+use Rattle.sh_core.specs.Core.{AllRest, Inv, BeginKeeps, RestKeeps, SameKeeps, SomeAdds}
 use Rattle.sh_core.proofs.Logs.{in_order_later}
 use Rattle.sh_core.proofs.Others.{bounded_less}
 use Rattle.sh_core.proofs.Frame.{Before, moves_to}
@@ -108,8 +108,8 @@ module _ (p : ConfigParts) (ok : IsSetting p) where
     out = inv.out;
   }
 
-  pub at_rest : AtRest p
-  at_rest words log Has Out inv rest none = record { free = λ l. free (inv.scene.hold l) l refl; posted = posted }
+  pub all_rest : (words : List ℕ) (log : List LogEntry) (Has : ℕ → Actor → Type 0) (Out : ℕ → ℕ → ℕ → Type 0) (inv : Inv p words log Has Out) → ((j : ℕ) (b : Actor) → Has j b → is_resting b.client ≡ true) → ((l c d : ℕ) → Out l c d → ⊥) → AllRest p inv.scene log
+  all_rest words log Has Out inv rest none = record { free = λ l. free (inv.scene.hold l) l refl; posted = posted }
     where
       resting : (j : ℕ) → (b : Actor) × Has j b → (Hands inv.scene j None) × (Waits inv.scene j None)
       resting j h =

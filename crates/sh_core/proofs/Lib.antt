@@ -15,6 +15,7 @@ pub mod Points
 pub mod Books
 pub mod Owners
 pub mod Moments
+pub mod AtRest
 pub mod Rights
 pub mod OwnStores
 pub mod Roots
@@ -39,3 +40,4 @@ pub mod SensesOnWay
 pub mod SensesHeld
 pub mod Senses
 pub mod SensesAll
+pub mod Lists

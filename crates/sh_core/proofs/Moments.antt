@@ -1,30 +1,27 @@
 -- The standing words at each moment, and the lock words.
-use Rattle.std.proofs.Common.{◌≡◌, ◌≢◌, ◌⊎◌, ℕ, zero, suc, ◌+◌, ◌<◌, ◌≤◌, true, List, length, get_or, set, Option, Some, None, refl, sym, ap, ◌∙◌, subst, inl, inr, arith, get_or-set_same}
-use Rattle.std.specs.List.{concat}
+use Rattle.std.proofs.Common.{◌≡◌, ◌≢◌, ℕ, zero, suc, ◌+◌, ◌<◌, ◌≤◌, List, length, get_or, set, Some, refl, sym, ap, ◌∙◌, subst, inl, inr, arith, get_or-set_same}
 use mathlib.Core.Logic.{dite}
 use native.Mathlib.Decide.{ℕ_discrete}
 use Rattle.std.proofs.lemmas.Bool.{cases_eq}
 use Rattle.std.proofs.lemmas.List.{length-set}
 use Rattle.sh_base.specs.declared.config.ConfigParts.{ConfigParts}
-use Rattle.sh_base.specs.Setting.{all_locks, node_size, nodes, pool_words, IsNode}
-use Rattle.sh_base.specs.Layout.{lock_of, lock_word, node_word}
+use Rattle.sh_base.specs.Setting.{node_size, nodes, pool_words, IsNode}
+use Rattle.sh_base.specs.Layout.{lock_of, node_word}
 use Rattle.sh_base.specs.Places.{Site, Own, Root, Counter, Lock, Node, address, IsSite}
 use Rattle.sh_base.proofs.LayoutLemmas.{node_word_high}
 use Rattle.sh_base.proofs.PlacesLemmas.{stores_keep_apart}
 use Rattle.sh_map.specs.declared.log.Entry.{Entry as LogEntry}
 use Rattle.sh_map.specs.Log.{map_of}
-use Rattle.sh_tree.specs.Tree.{map_in}
 use Rattle.sh_read.specs.Moments.{Writing, Idle, word}
-use Rattle.sh_scene.specs.Scene.{Linked, Owner, Seat, Right, Hold, Nobody, Held, Writes, Owns, owner_word, hold_word, Scene, writing, writing_of, shown, Shows}
-use Rattle.sh_scene.specs.Nodes.{Orderly, IsUnderWay, IsLinked}
-use Rattle.sh_scene.specs.Ground.{Ground, HasParent}
+use Rattle.sh_scene.specs.Scene.{Owner, Seat, Right, Hold, Nobody, Held, Writes, Owns, owner_word, hold_word, Scene, writing, writing_of, shown}
+use Rattle.sh_scene.specs.Nodes.{Orderly, IsLinked}
+use Rattle.sh_scene.specs.Ground.{Ground}
 use Rattle.sh_scene.proofs.Scenes.{is_linked, body_on, sits_on, writes_else}
-use Rattle.sh_rest.specs.Rest.{IsAtRest, HoldsTree}
+use Rattle.sh_rest.specs.Rest.{IsAtRest}
 use Rattle.sh_rest.proofs.Trees.{holds_tree}
 use Rattle.sh_core.specs.Actors.{Actor}
-use Rattle.sh_core.specs.Keeps.{holding}
 use Rattle.sh_core.specs.Core.{Inv}
-use Rattle.sh_core.specs.Moments.{written_node, IsWritten, IsStill, Holds, IsStanding, AreLocks, IsMoment, EachMoment}
+use Rattle.sh_core.specs.Moments.{IsWritten, IsStill, Holds, IsStanding, AreLocks, EachMoment}
 use Rattle.sh_core.proofs.Owners.{owns, holds, written_is, is_written, written_held}
 
 -- ---- words with other nodes

@@ -1,11 +1,11 @@
 -- Who holds a lock, by what clients are at, and as the scene has it.
-use Rattle.std.proofs.Common.{◌≡◌, ◌≢◌, ℕ, zero, suc, ◌<◌, List, Option, Some, None, refl, sym, ap, ◌∙◌, subst}
+use Rattle.std.proofs.Common.{◌≡◌, ◌≢◌, ℕ, zero, suc, Option, Some, None, refl, sym, ap, ◌∙◌, subst}
 use mathlib.Core.Logic.{dite}
 use native.Mathlib.Decide.{ℕ_discrete}
 use Rattle.sh_base.specs.declared.config.ConfigParts.{ConfigParts}
 use Rattle.sh_base.specs.Layout.{lock_of}
 use Rattle.sh_read.specs.Moments.{Writing}
-use Rattle.sh_scene.specs.Scene.{Seat, Hold, Nobody, Held, Writes, Owns, Scene}
+use Rattle.sh_scene.specs.Scene.{Seat, Hold, Held, Writes, Owns, Scene}
 use Rattle.sh_decide.specs.declared.state.Post.{Post}
 use Rattle.sh_client.specs.declared.state.Write.{Write}
 use Rattle.sh_client.specs.declared.state.Phase.{Phase}

@@ -119,6 +119,3 @@ SameKeeps p = (words : List ℕ) (log : List LogEntry) (Has Now : ℕ → Actor 
 pub record AllRest (p : ConfigParts) (s : Scene) (log : List LogEntry) : Type 0 where
   pub free : (lock : ℕ) → s.hold lock ≡ Nobody
   pub posted : (seat n : ℕ) → s.post n ≢ Pending seat
-
-abbrev pub AtRest : ConfigParts → Type 1
-AtRest p = (words : List ℕ) (log : List LogEntry) (Has : ℕ → Actor → Type 0) (Out : ℕ → ℕ → ℕ → Type 0) → (inv : Inv p words log Has Out) → ((seat : ℕ) (a : Actor) → Has seat a → is_resting a.client ≡ true) → ((lock compute depth : ℕ) → Out lock compute depth → ⊥) → AllRest p inv.scene log

@@ -6,3 +6,5 @@ pub mod Senses
 pub mod Opening
 pub mod Books
 pub mod Moments
+pub mod Rest
+pub mod Listed

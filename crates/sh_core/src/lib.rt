@@ -28,6 +28,9 @@ ghost use Rattle.sh_core.specs.Moments.{IsMoment};
 ghost use Rattle.sh_core.specs.Rest.{AreAtRest};
 ghost use Rattle.sh_core.specs.Listed.{HasAt, RightOut, OutAt, without, IsKept};
 
+mod senseless;
+
+pub use senseless::senseless_cases_never_come;
 use sh_base::Config;
 
 /// Clients take turns, in any order. A laid pool has the invariant, and everything that a seat can do keeps it: a new

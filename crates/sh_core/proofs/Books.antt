@@ -25,7 +25,7 @@ use Rattle.sh_core.specs.Actors.{Actor, AreAnswered, AreInOrder, updates}
 use Rattle.sh_core.specs.Fits.{HasEntry}
 use Rattle.sh_core.specs.Keeps.{pending, Keeps}
 use Rattle.sh_core.specs.Core.{Inv}
-use Rattle.sh_core.specs.Books.{calls_of, numbered, IsBookOf, IsOfCall, IsLawfulBook, BooksAreLawful}
+use Rattle.sh_core.specs.Books.{calls_of, numbered, IsBookOf, IsOfCall, IsLawfulBook, BooksAreLawful, HasAnswers, CallsAreAnswered}
 use Rattle.sh_core.proofs.Calls.{nothing}
 use Rattle.sh_core.proofs.Pending.{pending_stands}
 use Rattle.sh_core.proofs.Points.{not_there, points, points_numbered, points_long, points_in, points_differ, places_differ, places_long, place_in, points_stand, all_named, any_own}
@@ -254,3 +254,6 @@ module _ (p : ConfigParts) (words : List ℕ) (log : List Entry) (Has : ℕ → 
 
 pub books_are_lawful : (p : ConfigParts) → BooksAreLawful p
 books_are_lawful p words log Has Out dones inv book = subst (λ (es : List Entry). IsLawfulBook Has es dones) inv.log_is (lawful_book p words log Has Out dones inv book)
+
+pub calls_are_answered : (p : ConfigParts) → CallsAreAnswered p
+calls_are_answered p words log Has Out seat a inv h = let k = inv.kept seat a h in subst (λ (es : List Entry). HasAnswers es seat a) inv.log_is record { answered = k.answered; ordered = k.ordered; first = k.first; seen = k.seen }

@@ -1,10 +1,11 @@
 -- Who holds a lock, by what clients are at, and as the scene has it.
-use Rattle.std.proofs.Common.{◌≡◌, ◌≢◌, ℕ, zero, suc, Option, Some, None, refl, sym, ap, ◌∙◌, subst}
+use Rattle.std.proofs.Common.{◌≡◌, ◌≤◌, ◌≢◌, ℕ, zero, suc, Option, Some, None, refl, sym, ap, ◌∙◌, subst}
 use mathlib.Core.Logic.{dite}
 use native.Mathlib.Decide.{ℕ_discrete}
 use Rattle.sh_base.specs.declared.config.ConfigParts.{ConfigParts}
 use Rattle.sh_base.specs.Layout.{lock_of}
 use Rattle.sh_read.specs.Moments.{Writing}
+use Rattle.sh_scene.specs.Nodes.{Orderly}
 use Rattle.sh_scene.specs.Scene.{Seat, Hold, Held, Writes, Owns, Scene}
 use Rattle.sh_decide.specs.declared.state.Post.{Post}
 use Rattle.sh_client.specs.declared.state.Write.{Write}
@@ -12,9 +13,9 @@ use Rattle.sh_client.specs.declared.state.Phase.{Phase}
 use Rattle.sh_client.specs.declared.state.Phase.TheVariants.{Idle, Root, Read, Draw, Look, Grab, Hold as Holds, Seek, Fill, Waiting, Body, Unlock, Leave, Top, Raise, Swap, Ended}
 use Rattle.sh_client.specs.Machine.{Machine}
 use Rattle.sh_core.specs.Actors.{Actor}
-use Rattle.sh_core.specs.Fits.{Fits, storing_hold, write_of}
+use Rattle.sh_core.specs.Fits.{Carries, Fits, storing_hold, write_of}
 use Rattle.sh_core.specs.Keeps.{holding, Hands, Keeps}
-use Rattle.sh_core.specs.Moments.{writes_from, written_node}
+use Rattle.sh_core.specs.Moments.{handed_to, writes_from, written_node}
 
 -- the hold of a lock by a seat that writes this node, or none
 abbrev pub HeldBy : Scene → (seat lock : ℕ) → Option ℕ → Type 0
@@ -79,6 +80,41 @@ module _ (p : ConfigParts) (s : Scene) (i f q e : ℕ) (m : Machine) (duty : Opt
   written_held (Raise post root fresh done) k at = absurd (no_lock k at)
   written_held (Swap post root fresh) k at = absurd (no_lock k at)
   written_held Ended k at = absurd (no_lock k at)
+
+-- a lock is handed over within the bound
+module _ (p : ConfigParts) (s : Scene) (i f q e : ℕ) (m : Machine) (duty : Option Post) (orderly : (lock : ℕ) → Orderly p s lock (s.hold lock)) where
+  no_depth : (x : ℕ) → None ≡ Some x → ⊥
+  no_depth x h = cc
+
+  same_depth : (d x : ℕ) → Some d ≡ Some x → d ≡ x
+  same_depth d x h = cc
+
+  below : (l d x : ℕ) → s.hold l ≡ Held (Seat i) d → Some d ≡ Some x → x ≤ p.bound
+  below l d x h at = let le : d ≤ p.bound = subst (Orderly p s l) h (orderly l) in subst (λ (z : ℕ). z ≤ p.bound) (same_depth d x at) le
+
+  carried : (d x : ℕ) (carry : Option ℕ) → Carries p d carry → carry ≡ Some x → x ≤ p.bound
+  carried d x None h at = absurd (no_depth x at)
+  carried d x (Some now) h at = subst (λ (z : ℕ). z ≤ p.bound) (same_depth now x at) h.1
+
+  pub within_bound : (ph : Phase) (x : ℕ) → Fits p s i f q e m duty ph → handed_to ph ≡ Some x → x ≤ p.bound
+  within_bound (Holds aim d) x h at = below (lock_of p m.reads.node) d x h.2 at
+  within_bound (Seek aim d) x h at = below (lock_of p m.reads.node) d x h.2 at
+  within_bound (Fill n d fresh done write after) x h at = below (lock_of p n) d x h.0 at
+  within_bound (Waiting n d write after) x h at = below (lock_of p n) d x h.0 at
+  within_bound (Body n carry done write after) x h at = let k = h.0 in carried k.depth x carry k.carries at
+  within_bound (Leave n (Some d) after) x h at = let k = h.0 in carried k.depth x (Some d) k.carries at
+  within_bound (Leave n None after) x h at = absurd (no_depth x at)
+  within_bound Idle x h at = absurd (no_depth x at)
+  within_bound (Root aim) x h at = absurd (no_depth x at)
+  within_bound (Read aim top) x h at = absurd (no_depth x at)
+  within_bound (Draw aim n) x h at = absurd (no_depth x at)
+  within_bound (Look aim n) x h at = absurd (no_depth x at)
+  within_bound (Grab aim n) x h at = absurd (no_depth x at)
+  within_bound (Unlock n after) x h at = absurd (no_depth x at)
+  within_bound (Top post root) x h at = absurd (no_depth x at)
+  within_bound (Raise post root fresh done) x h at = absurd (no_depth x at)
+  within_bound (Swap post root fresh) x h at = absurd (no_depth x at)
+  within_bound Ended x h at = absurd (no_depth x at)
 
 -- a seat holds the lock of its client, and no other
 held_is : (s : Scene) (i : ℕ) (h : Option ℕ) → Hands s i h → (l : ℕ) → Owns (s.hold l) (Seat i) → h ≡ Some l

@@ -1,5 +1,5 @@
 -- What holds of the words in memory at each moment, told of the clients alone.
-use Rattle.std.specs.Prelude.{◌≡◌, ℕ, zero, suc, ◌<◌, ◌≤◌, true, List, length, slice_index, Option, Some, None}
+use Rattle.std.specs.Prelude.{◌≡◌, ◌⊎◌, ℕ, zero, suc, ◌<◌, ◌≤◌, true, List, length, slice_index, Option, Some, None}
 use Rattle.std.specs.List.{concat}
 use Rattle.sh_base.specs.declared.config.ConfigParts.{ConfigParts}
 use Rattle.sh_base.specs.Setting.{all_locks, pool_words}
@@ -55,6 +55,26 @@ IsStill Has Root = Unit {0}
 IsStill Has (Counter server) = Unit {0}
 IsStill Has (Lock lock) = Unit {0}
 
+-- how often the lock that a client holds was handed over, where that's known to it; while it hands it over, once more
+abbrev pub handed_to : Phase → Option ℕ
+handed_to (Hold aim depth) = Some depth
+handed_to (Seek aim depth) = Some depth
+handed_to (Fill n depth fresh done write after) = Some depth
+handed_to (Waiting n depth write after) = Some depth
+handed_to (Body n carry done write after) = carry
+handed_to (Leave n carry after) = carry
+handed_to Idle = None
+handed_to (RootPhase aim) = None
+handed_to (Read aim top) = None
+handed_to (Draw aim n) = None
+handed_to (Look aim n) = None
+handed_to (Grab aim n) = None
+handed_to (Unlock n after) = None
+handed_to (Top post root) = None
+handed_to (Raise post root fresh done) = None
+handed_to (Swap post root fresh) = None
+handed_to Ended = None
+
 -- who holds a lock: a seat by what its client is at, or a compute server by a right that is out
 abbrev pub Holds : ConfigParts → (Has : ℕ → Actor → Type 0) → (Out : (lock compute depth : ℕ) → Type 0) → (lock : ℕ) → Owner → Type 0
 Holds p Has Out lock (Seat seat) = (a : Actor) × Has seat a × (holding p a.client a.client.phase ≡ Some lock)
@@ -71,14 +91,15 @@ pub record IsStanding (p : ConfigParts) (words : List ℕ) (log : List LogEntry)
   pub map : map_in p standing levels ≡ map_of log
   pub within : (n : ℕ) → IsWritten Has n → is_in (concat levels) n ≡ true
 
--- A lock has one holder at most. Its word is the number of its holder's compute server plus 1, or 0 where nobody holds it.
--- A WRITE under way is that of its node's holder. A right was handed over no more than `bound` times.
+-- A lock has one holder, and its word is the number of the holder's compute server plus 1; or nobody holds it, and its word
+-- is 0. A WRITE under way is that of its node's holder. A lock is handed over no more than `bound` times.
 pub record AreLocks (p : ConfigParts) (words : List ℕ) (Has : ℕ → Actor → Type 0) (Out : (lock compute depth : ℕ) → Type 0) : Type 0 where
   pub one : (lock : ℕ) (o u : Owner) → Holds p Has Out lock o → Holds p Has Out lock u → o ≡ u
   pub held : (lock : ℕ) (o : Owner) → lock < all_locks p → Holds p Has Out lock o → slice_index words (lock_word p lock) ≡ owner_word p o
-  pub free : (lock : ℕ) → lock < all_locks p → ((o : Owner) → Holds p Has Out lock o → ⊥) → slice_index words (lock_word p lock) ≡ 0
+  pub free : (lock : ℕ) → lock < all_locks p → ((o : Owner) × Holds p Has Out lock o) ⊎ (slice_index words (lock_word p lock) ≡ 0)
   pub writers : (n : ℕ) → (w : IsWritten Has n) → Holds p Has Out (lock_of p n) (Seat w.seat)
-  pub depth : (lock compute depth : ℕ) → Out lock compute depth → depth ≤ p.bound
+  pub rights : (lock compute depth : ℕ) → Out lock compute depth → depth ≤ p.bound
+  pub seats : (seat depth : ℕ) (a : Actor) → Has seat a → handed_to a.client.phase ≡ Some depth → depth ≤ p.bound
 
 -- each moment
 pub record IsMoment (p : ConfigParts) (words : List ℕ) (log : List LogEntry) (Has : ℕ → Actor → Type 0) (Out : (lock compute depth : ℕ) → Type 0) : Type 0 where

@@ -23,7 +23,7 @@ ghost use Rattle.sh_core.specs.Actors.{Actor, begun, rested, stepped, turned};
 ghost use Rattle.sh_core.specs.Core.{HasSeen, IsLocal};
 ghost use Rattle.sh_core.specs.Opening.{entered};
 ghost use Rattle.sh_core.specs.Causes.{HaveCauses};
-ghost use Rattle.sh_core.specs.Books.{counter_in, IsBookOf, IsLawfulBook};
+ghost use Rattle.sh_core.specs.Books.{counter_in, HasAnswers, IsBookOf, IsLawfulBook};
 ghost use Rattle.sh_core.specs.Moments.{IsMoment};
 ghost use Rattle.sh_core.specs.Rest.{AreAtRest};
 ghost use Rattle.sh_core.specs.Listed.{HasAt, RightOut, OutAt, without, IsKept};
@@ -58,5 +58,6 @@ pub fn trees_and_books(cfg: &Config)
     ensures moment { (words : List ℕ) (log : List Entry) (actors : List Actor) (rights : List RightOut) → IsKept (parts_of cfg.now) words log actors rights → IsMoment (parts_of cfg.now) words log (HasAt actors) (OutAt rights) }
     ensures book { (words : List ℕ) (log : List Entry) (actors : List Actor) (rights : List RightOut) (dones : List Done) → IsKept (parts_of cfg.now) words log actors rights → IsBookOf (HasAt actors) dones → IsLawfulBook (HasAt actors) log dones }
     ensures refusals { (words : List ℕ) (log : List Entry) (actors : List Actor) (rights : List RightOut) (dones : List Done) → IsKept (parts_of cfg.now) words log actors rights → IsBookOf (HasAt actors) dones → HaveCauses (parts_of cfg.now) (counter_in (parts_of cfg.now) words) log dones }
+    ensures calls { (words : List ℕ) (log : List Entry) (actors : List Actor) (rights : List RightOut) (seat : ℕ) (a : Actor) → IsKept (parts_of cfg.now) words log actors rights → HasAt actors seat a → HasAnswers log seat a }
     ensures rest { (words : List ℕ) (log : List Entry) (actors : List Actor) → IsKept (parts_of cfg.now) words log actors [] → ((seat : ℕ) (a : Actor) → HasAt actors seat a → is_resting a.client ≡ true) → AreAtRest (parts_of cfg.now) words log (HasAt actors) }
 {}

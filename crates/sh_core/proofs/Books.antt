@@ -201,7 +201,7 @@ blank : Entry
 blank = entry_of 0 (change.Del 0) None
 
 module _ (p : ConfigParts) (words : List ℕ) (log : List Entry) (Has : ℕ → Actor → Type 0) (Out : ℕ → ℕ → ℕ → Type 0) (dones : List Done) (inv : Inv p words log Has Out) (book : IsBookOf Has dones) where
-  seat_of : (ds : List Done) → AllByRecursion (λ (d : Done). (a : Actor) × Has d.seat a) ds → (seat : ℕ) → (calls_of seat ds ≡ []) ⊎ ((a : Actor) × Has seat a)
+  pub seat_of : (ds : List Done) → AllByRecursion (λ (d : Done). (a : Actor) × Has d.seat a) ds → (seat : ℕ) → (calls_of seat ds ≡ []) ⊎ ((a : Actor) × Has seat a)
   seat_of [] h seat = inl refl
   seat_of (d ∷ ds) h seat = by (seat_of ds h.1 seat) (d.seat == seat) refl
     where

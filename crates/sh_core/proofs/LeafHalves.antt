@@ -336,7 +336,7 @@ module _ (p : ConfigParts) (ok : IsSetting p) (words : List ℕ) (s : Scene) (g 
 
   -- ---- its halves
 
-  pub half_made : (call : Call) (fresh : ℕ) → SplitsFor p (s.node n) call → PlansLeftLeaf p s i (entries_by i call reply.None) (left_words p (s.node n) call fresh) (right_words p (s.node n) call) n fresh (half_posts p (s.node n) call fresh)
+  half_made : (call : Call) (fresh : ℕ) → SplitsFor p (s.node n) call → PlansLeftLeaf p s i (entries_by i call reply.None) (left_words p (s.node n) call fresh) (right_words p (s.node n) call) n fresh (half_posts p (s.node n) call fresh)
   half_made (Get key) fresh h = absurd h
   half_made (Del key) fresh h = absurd h
   half_made (Range lo hi) fresh h = absurd h

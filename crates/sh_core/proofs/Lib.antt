@@ -13,6 +13,7 @@ pub mod Opening
 pub mod Pending
 pub mod Points
 pub mod Books
+pub mod Refusals
 pub mod Owners
 pub mod Moments
 pub mod AtRest
@@ -34,8 +35,8 @@ pub mod Topping
 pub mod Seeking
 pub mod Turns
 pub mod LocalLaws
-pub mod Lists
 pub mod SensesOnWay
 pub mod SensesHeld
 pub mod Senses
 pub mod SensesAll
+pub mod Lists

@@ -1,11 +1,10 @@
 -- The turns of a walk over the counters for a split, under the node's lock.
-use Rattle.std.proofs.Common.{◌≡◌, ℕ, ◌+◌, List, [], length, Option, Some, None, refl, sym, ap, ◌∙◌, subst, arith}
+use Rattle.std.proofs.Common.{◌≡◌, ℕ, List, [], length, Option, Some, None, refl, sym, ap, ◌∙◌, subst, arith}
 use Rattle.sh_base.specs.declared.config.ConfigParts.{ConfigParts}
 use Rattle.sh_base.specs.declared.event.Event.{Event}
 use Rattle.sh_base.specs.declared.event.Event.TheVariants.{Add}
 use Rattle.sh_base.specs.Setting.{IsNode, IsSetting}
 use Rattle.sh_base.specs.Layout.{counter_word, first_node}
-use Rattle.sh_base.proofs.LayoutLemmas.{node_size_is}
 use Rattle.sh_map.specs.declared.call.Call.{Call}
 use Rattle.sh_map.specs.declared.call.Call.TheVariants.{Get, Put, Del, Range}
 use Rattle.sh_map.specs.declared.call.Reply.{Reply}
@@ -13,10 +12,8 @@ use Rattle.sh_map.specs.declared.call.Reply.TheVariants as reply
 use Rattle.sh_map.specs.Made.{entries_by}
 use Rattle.sh_image.specs.declared.inner.Image.{Image}
 use Rattle.sh_image.specs.declared.inner.Image.TheVariants.{Leaf as LeafImage, Inner as InnerImage}
-use Rattle.sh_image.specs.Leaf.{Leaf, leaf_in, leaf_words}
-use Rattle.sh_image.specs.Inner.{Inner, inner_in, inner_words}
-use Rattle.sh_edit.specs.Splitting.{left_half, right_half, separator_of}
-use Rattle.sh_edit.specs.Pairing.{left_inner, right_inner, middle_of}
+use Rattle.sh_image.specs.Leaf.{Leaf, leaf_in}
+use Rattle.sh_image.specs.Inner.{Inner, inner_in}
 use Rattle.sh_alloc.specs.declared.state.Walk.{Walk}
 use Rattle.sh_alloc.specs.declared.state.ChunkWant.{ChunkWant}
 use Rattle.sh_alloc.specs.declared.state.ChunkWant.TheVariants as chunk
@@ -31,27 +28,25 @@ use Rattle.sh_decide.specs.declared.state.Post.{Post}
 use Rattle.sh_client.specs.declared.state.Tally.{Tally}
 use Rattle.sh_decide.specs.declared.state.Aim.{Aim}
 use Rattle.sh_decide.specs.declared.state.Aim.TheVariants.{Own, Posts}
-use Rattle.sh_client.specs.declared.state.Then.{Then}
-use Rattle.sh_client.specs.declared.state.Then.TheVariants.{Ends, Starts}
+use Rattle.sh_client.specs.declared.state.Then.TheVariants.{Ends}
 use Rattle.sh_client.specs.declared.state.Write.TheVariants.{Nothing, LeftLeaf, LeftInner}
 use Rattle.sh_client.specs.declared.state.Want.TheVariants as want
 use Rattle.sh_client.specs.declared.state.Phase.{Phase}
 use Rattle.sh_client.specs.declared.state.Phase.TheVariants.{Seek, Fill, Waiting}
 use Rattle.sh_client.specs.Machine.{Machine, up}
-use Rattle.sh_decide.specs.Aims.{key_of, left_key, left_value, post_of, target}
-use Rattle.sh_client.specs.Bodies.{pair_of}
+use Rattle.sh_decide.specs.Aims.{key_of, target}
 use Rattle.sh_client.specs.Splitting.{chunk_taken, halved_by, sought_by}
 use Rattle.sh_client.specs.Wants.{count_of}
 use Rattle.sh_core.specs.Actors.{Actor, becomes}
-use Rattle.sh_core.specs.Fits.{AreSpent, IsDecided, IsPosting, IsSeeking, Owes, PlansHalf}
+use Rattle.sh_core.specs.Fits.{AreSpent, IsDecided, IsPosting, IsSeeking, Owes}
 use Rattle.sh_core.specs.Keeps.{Keeps}
 use Rattle.sh_core.specs.Core.{WantsAdd}
 use Rattle.sh_core.proofs.Others.{named_on, owes_on}
 use Rattle.sh_core.proofs.Frame.{me, with, goes_on, work_with, same_grows, Before, anew, work_anew}
 use Rattle.sh_core.proofs.Locks.{Claim}
 use Rattle.sh_core.proofs.Skipping.{spent_more, skips_act, keeps_skipped}
-use Rattle.sh_core.proofs.LeafHalves.{SplitsFor, half_made, put_misses, to_split}
-use Rattle.sh_core.proofs.InnerHalves.{half_planned, post_to_split}
+use Rattle.sh_core.proofs.LeafHalves.{SplitsFor, half_fits, half_posts, left_words, right_words, put_misses, to_split}
+use Rattle.sh_core.proofs.InnerHalves.{inner_posts, left_pairs, pair_half_fits, post_to_split, right_pairs}
 use Rattle.sh_core.proofs.Walking.{Counts, Reached, counted_on, counted_rise, counts_alone, drawn_on, event_is, rest_of, takes_chunk, with_counters, walks}
 
 module _ (p : ConfigParts) (ok : IsSetting p) (words : List ℕ) (Has Now : ℕ → Actor → Type 0) (Out : ℕ → ℕ → ℕ → Type 0) (i : ℕ) (s : Scene) (b : Before p words Has Out s) (a : Actor) (m : Machine) (depth : ℕ) where
@@ -122,10 +117,9 @@ module _ (p : ConfigParts) (ok : IsSetting p) (words : List ℕ) (Has Now : ℕ 
         let z = own.work.fits in
         let fresh : ℕ = first_node p server (s.counter server) in
         let taken = takes_chunk p ok s i server in
-        let body : List ℕ = leaf_words (left_half x (left_key m.call) (left_value p m.call) fresh) in
-        let right : List ℕ = leaf_words (right_half x (left_key m.call) (left_value p m.call)) in
-        let after : Then = Starts (Posts (post_of (separator_of x.entries (left_key m.call) (left_value p m.call)) fresh 1)) in
-        let to : Phase = Fill n depth fresh 0 LeftLeaf after in
+        let body : List ℕ = left_words p (s.node n) m.call fresh in
+        let right : List ℕ = right_words p (s.node n) m.call in
+        let to : Phase = Fill n depth fresh 0 LeftLeaf (half_posts p (s.node n) m.call fresh) in
         let rest = rest_of p server (s.counter server) in
         halves Own h now server v (LeafImage x) (z.3.accepted_is ∙ ap Some splits.0) record {
           scene = t;
@@ -134,7 +128,7 @@ module _ (p : ConfigParts) (ok : IsSetting p) (words : List ℕ) (Has Now : ℕ 
           counts = λ u. refl;
           keeps = goes_on p s t i N (me p i a m (Seek Own depth)) (anew p i m rest m.tally reply.None m.reads v body right to) own refl (counted_rise s server) own.seen (omega arith)
               (work_anew p s t i a.first a.point a.seen N m (Seek Own depth) own.work (λ r. refl) rest m.tally reply.None m.reads v body right to refl
-              (z.2, (z.0, half_made p ok now t act.1 i n z.1.low (act.0.linked n 0 z.1.low z.1.linked) m.call fresh splits.1), record { own = taken.own; under = omega (arith, taken.follows); words = λ o lt. absurd (omega (arith, lt)) }, omega (arith, node_size_is p), real Own h)
+              (half_fits p ok now t act.1 i n z.1.low (act.0.linked n 0 z.1.low z.1.linked) m a.first a.point N depth fresh rest m.tally m.reads v own.work.duty z.0 z.2 taken splits.1)
               (owes t reply.None) taken.spares own.work.hands) refl;
         }
 
@@ -179,12 +173,11 @@ module _ (p : ConfigParts) (ok : IsSetting p) (words : List ℕ) (Has Now : ℕ 
         let owes = owes_on p s t i a.first a.point a.seen N gr m.call m.reply P.work.duty P.work.owes in
         let owed : IsPosting t i a.first a.point N m.call m.reply post = subst (Owes t i a.first a.point N m.call m.reply) z.0 owes in
         let is = post_to_split p ok words s b.ground i a.first a.point a.seen m.call m.reply post was n z.1 m.reads refl z.3 in
-        let body : List ℕ = inner_words p (left_inner p.leaf y (pair_of post) fresh) in
-        let right : List ℕ = inner_words p (right_inner p.leaf y (pair_of post)) in
-        let after : Then = Starts (Posts (post_of (middle_of p.leaf y.pairs (pair_of post)) fresh (y.level + 1))) in
-        let to : Phase = Fill n depth fresh 0 LeftInner after in
+        let body : List ℕ = left_pairs p (s.node n) post fresh in
+        let right : List ℕ = right_pairs p (s.node n) post in
+        let to : Phase = Fill n depth fresh 0 LeftInner (inner_posts p (s.node n) post fresh) in
         let rest = rest_of p server (s.counter server) in
-        let half = half_planned p ok now t act.1 i a.first a.point N m.call m.reply post owed n (named_on p s t i a.first a.point a.seen N gr post.level n post.separator z.1) fresh is.1 is.2 in
+        let there = named_on p s t i a.first a.point a.seen N gr post.level n post.separator z.1 in
         halves (Posts post) h now server v (InnerImage y) (z.3.accepted_is ∙ ap Some is.0) record {
           scene = t;
           act = act;
@@ -192,7 +185,7 @@ module _ (p : ConfigParts) (ok : IsSetting p) (words : List ℕ) (Has Now : ℕ 
           counts = λ u. refl;
           keeps = goes_on p s t i N (me p i a m (Seek (Posts post) depth)) (anew p i m rest m.tally m.reply m.reads v body right to) P refl (counted_rise s server) P.seen (omega arith)
               (work_anew p s t i a.first a.point a.seen N m (Seek (Posts post) depth) P.work (λ r. refl) rest m.tally m.reply m.reads v body right to refl
-              (z.2, subst (λ (d : Option Post). PlansHalf p t i (entries_by i m.call m.reply) body right n fresh LeftInner d after) (sym z.0) half, record { own = taken.own; under = omega (arith, taken.follows); words = λ o lt. absurd (omega (arith, lt)) }, omega (arith, node_size_is p), real (Posts post) h)
+              (pair_half_fits p ok now t act.1 i a.first a.point N m.call m.reply post owed n there m a.first a.point N depth fresh rest m.tally m.reads v P.work.duty z.0 z.2 taken is.1 is.2)
               owes taken.spares P.work.hands) refl;
         }
 

@@ -30,7 +30,7 @@ use Rattle.sh_decide.specs.declared.state.Post.{Post}
 use Rattle.sh_client.specs.declared.state.Tally.{Tally}
 use Rattle.sh_client.specs.declared.state.Want.TheVariants as want
 use Rattle.sh_client.specs.declared.state.Phase.{Phase}
-use Rattle.sh_client.specs.declared.state.Phase.TheVariants.{Idle, Root, Read, Draw, Look, Grab, Hold, Seek, Fill, Waiting, Body, Unlock, Leave, Top, Raise, Swap, Ended}
+use Rattle.sh_client.specs.declared.state.Phase.TheVariants.{Read, Hold, Seek, Top, Ended}
 use Rattle.sh_client.specs.Machine.{Machine}
 use Rattle.sh_client.specs.Wants.{want_in, load_of}
 use Rattle.sh_core.specs.Actors.{Actor, ending, done_of, least_point, point_of, IsAnswered, AreAnswered, made_by, updates}
@@ -196,23 +196,11 @@ load_no_add None at e = cc
 load_no_add (Some x) at e = cc
 
 pub no_add : (p : ConfigParts) (server : ℕ) (m : Machine) (ph : Phase) → IsCalm ph → want_in m ph ≡ want.Event (event.Add (counter_word p server)) → ⊥
-no_add p server m Idle c e = cc
-no_add p server m (Root aim) c e = cc
 no_add p server m (Read aim top) c e = load_no_add (wanted m.setting m.reads) (counter_word p server) e
-no_add p server m (Draw aim n) c e = cc
-no_add p server m (Look aim n) c e = cc
-no_add p server m (Grab aim n) c e = cc
 no_add p server m (Hold aim d) c e = load_no_add (wanted m.setting m.reads) (counter_word p server) e
 no_add p server m (Seek aim d) c e = absurd c
-no_add p server m (Fill n d r done write after) c e = cc
-no_add p server m (Waiting n d write after) c e = cc
-no_add p server m (Body n carry done write after) c e = cc
-no_add p server m (Unlock n after) c e = cc
-no_add p server m (Leave n carry after) c e = cc
 no_add p server m (Top post root) c e = absurd c
-no_add p server m (Raise post root r done) c e = cc
-no_add p server m (Swap post root r) c e = cc
-no_add p server m Ended c e = cc
+no_add p server m ph c e = cc
 
 -- ---- what the invariant says before a turn
 pub record Before (p : ConfigParts) (words : List ℕ) (Has : ℕ → Actor → Type 0) (Out : ℕ → ℕ → ℕ → Type 0) (s : Scene) : Type 0 where

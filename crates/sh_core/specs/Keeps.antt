@@ -30,12 +30,6 @@ lock_left p n None = None
 lock_left p n (Some depth) = Some (lock_of p n)
 
 abbrev pub holding : ConfigParts → Machine → Phase → Option ℕ
-holding p m Idle = None
-holding p m (Root aim) = None
-holding p m (Read aim top) = None
-holding p m (Draw aim n) = None
-holding p m (Look aim n) = None
-holding p m (Grab aim n) = None
 holding p m (Hold aim depth) = Some (lock_of p m.reads.node)
 holding p m (Seek aim depth) = Some (lock_of p m.reads.node)
 holding p m (Fill n depth fresh done write after) = Some (lock_of p n)
@@ -43,10 +37,7 @@ holding p m (Waiting n depth write after) = Some (lock_of p n)
 holding p m (Body n carry done write after) = Some (lock_of p n)
 holding p m (Unlock n after) = Some (lock_of p n)
 holding p m (Leave n carry after) = lock_left p n carry
-holding p m (Top post root) = None
-holding p m (Raise post root fresh done) = None
-holding p m (Swap post root fresh) = None
-holding p m Ended = None
+holding p m phase = None
 
 -- a seat holds no lock but that one
 abbrev pub Hands : Scene → (seat : ℕ) → Option ℕ → Type 0

@@ -33,3 +33,7 @@ pub mod Topping
 pub mod Seeking
 pub mod Turns
 pub mod LocalLaws
+pub mod SensesOnWay
+pub mod SensesHeld
+pub mod Senses
+pub mod SensesAll

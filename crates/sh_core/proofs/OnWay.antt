@@ -69,11 +69,12 @@ get_ends p log i a key (Some v) h = let l = least_is log a.first key (Some v) h.
 get_ends p log i a key None h = let l = least_is log a.first key None h.0 h.1 h.2 h.3 in record { answered = record { seat_is = refl; answers = record { within = l.within; row = l.here }; least = l }; from = l.from; past = omega (arith, l.within) }
 
 -- the key of a descent is a key
-pub key_past : (p : ConfigParts) (c : Call) → IsInRange p c → IsKey (key_of c Own)
-key_past p (call.Get key) h = h
-key_past p (call.Put key value) h = h.0
-key_past p (call.Del key) h = h
-key_past p (call.Range low high) h = h.0
+pub aim_key : (p : ConfigParts) (s : Scene) (i f q e : ℕ) (c : Call) (r : Reply) (aim : Aim) (duty : Option Post) → IsInRange p c → duty ≡ duty_of aim → Owes s i f q e c r duty → IsKey (key_of c aim)
+aim_key p s i f q e (call.Get key) r Own duty h is o = h
+aim_key p s i f q e (call.Put key value) r Own duty h is o = h.0
+aim_key p s i f q e (call.Del key) r Own duty h is o = h
+aim_key p s i f q e (call.Range low high) r Own duty h is o = h.0
+aim_key p s i f q e c r (Posts post) duty h is o = let w = subst (Owes s i f q e c r) is o in (w.some, w.past)
 
 module _ (p : ConfigParts) (ok : IsSetting p) (words : List ℕ) (Has Now : ℕ → Actor → Type 0) (Out : ℕ → ℕ → ℕ → Type 0) (i : ℕ) (s : Scene) (b : Before p words Has Out s) (a : Actor) (m : Machine) (aim : Aim) (top : Bool)
     (h : Has i (me p i a m (Read aim top))) where
@@ -86,12 +87,8 @@ module _ (p : ConfigParts) (ok : IsSetting p) (words : List ℕ) (Has Now : ℕ 
   abbrev key : ℕ
   key = key_of m.call aim
 
-  key_is : (aim : Aim) (duty : Option Post) → duty ≡ duty_of aim → Owes s i a.first a.point a.seen m.call m.reply duty → IsKey (key_of m.call aim)
-  key_is Own duty e o = key_past p m.call K.work.seated.in_range
-  key_is (Posts post) duty e o = let w = subst (Owes s i a.first a.point a.seen m.call m.reply) e o in (w.some, w.past)
-
   isk : IsKey key
-  isk = key_is aim K.work.duty K.work.fits.0 K.work.owes
+  isk = aim_key p s i a.first a.point a.seen m.call m.reply aim K.work.duty K.work.seated.in_range K.work.fits.0 K.work.owes
 
   -- to the root word again
   restarts : (tally : Tally) (reads : Reads) → tally.skipped_spent + tally.skipped_worn ≡ m.tally.skipped_spent + m.tally.skipped_worn → Here' (with p i m tally reads m.walk m.body m.right (Root aim))

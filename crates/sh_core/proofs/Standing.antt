@@ -32,7 +32,7 @@ use Rattle.sh_client.specs.Feeds.{did}
 use Rattle.sh_core.specs.Actors.{Actor}
 use Rattle.sh_core.specs.Fits.{Owes, duty_of}
 use Rattle.sh_core.proofs.Frame.{me, with, Before}
-use Rattle.sh_core.proofs.OnWay.{key_past}
+use Rattle.sh_core.proofs.OnWay.{aim_key}
 use Rattle.sh_core.proofs.UnderLock.{Lands, gives}
 
 module _ (p : ConfigParts) (words : List ℕ) (s : Scene) (g : Ground p words s) (n low : ℕ) (ws : List ℕ) (is : ws ≡ s.node n) where
@@ -74,10 +74,6 @@ module _ (p : ConfigParts) (ok : IsSetting p) (words : List ℕ) (Has Now : ℕ 
   abbrev Goes : Machine → Type 0
   Goes n = Lands p ok words Has Now Out i s b a m aim depth h n
 
-  key_is : (aim : Aim) (duty : Option Post) → duty ≡ duty_of aim → Owes s i a.first a.point a.seen m.call m.reply duty → IsKey (key_of m.call aim)
-  key_is Own duty e o = key_past p m.call (b.kept i (me p i a m (Holds aim depth)) h).work.seated.in_range
-  key_is (Posts post) duty e o = let w = subst (Owes s i a.first a.point a.seen m.call m.reply) e o in (w.some, w.past)
-
   -- the lock is given back, and the descent starts again
   pub restarts : (image : Image) → Goes (did M aim depth image decision.Restart)
   restarts image mv = let k = b.kept i (me p i a m (Holds aim depth)) h in gives p ok words Has Now Out i s b a m aim depth h m.tally loaded (Starts aim) refl k.work.fits.0 refl mv
@@ -87,7 +83,7 @@ module _ (p : ConfigParts) (ok : IsSetting p) (words : List ℕ) (Has Now : ℕ 
   rights image r img e mv =
       let k = b.kept i (me p i a m (Holds aim depth)) h in
       let f = k.work.fits in
-      let key = key_is aim k.work.duty f.0 k.work.owes in
+      let key = aim_key p s i a.first a.point a.seen m.call m.reply aim k.work.duty k.work.seated.in_range f.0 k.work.owes in
       gives p ok words Has Now Out i s b a m aim depth h hopped loaded (Takes aim r) refl (f.0, right_named s (target aim) f.1.low (key_of m.call aim) (target aim) image img f.1.below r key.1 e) refl mv
 
   -- so what is left is the decision where the node covers the key

@@ -2,6 +2,7 @@ pub mod Actors
 pub mod Fits
 pub mod Keeps
 pub mod Core
+pub mod Senses
 pub mod Opening
 pub mod Books
 pub mod Moments

@@ -21,7 +21,7 @@ pub(crate) fn same(a: &Option<Value>, b: &Option<Value>) -> bool
     }
 }
 
-// Whether an entry may come next: its old value is what the map has, and a delete has one.
+// Whether an entry may come next: its old value is what its key had before, and a delete has one.
 fn is_next(before: &Option<Value>, entry: &Entry) -> bool
     ensures { IsTrue result ↔ ((entry.now.old ≡ before.now) × HasOld entry.now.change entry.now.old) }
 {

@@ -48,8 +48,8 @@ fn is_asked(part: Part, call: &Call) -> bool
     }
 }
 
-// The finished calls of whose part something is asked, by rising points. What they are judged by comes out the same in any order; in this one a log is
-// gone over once.
+// The finished calls of whose part something is asked, by rising points. What they are judged by comes out the same in
+// any order; in this one a log is gone over once.
 fn by_points(alloc: Global, part: Part, dones: &[Done]) -> Result<Vec<Due>, AllocError>
     ensures within { IfOk result (λ due. All (λ x. x.place < length dones.now) due.items) }
     ensures each { IfOk result (λ due. (i : ℕ) (d : Done) → slice_get dones.now i ≡ Some d

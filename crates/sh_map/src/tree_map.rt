@@ -47,7 +47,7 @@ impl TreeMap {
         self.tree.get(&key).copied()
     }
 
-    /// Makes a change. After want of memory the map is as it was.
+    /// Makes a change, and answers what its key had before. After want of memory the map is as it was.
     pub(crate) fn apply(&mut self, change: Change) -> Result<Option<Value>, AllocError>
         ensures before { IfOk result (λ before. before ≡ get self.old (key_of change)) }
         ensures ok { OnOk result (self.new ≡ changed self.old change) }

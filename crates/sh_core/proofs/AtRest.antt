@@ -1,6 +1,6 @@
 -- Where all clients rest.
-use Rattle.std.proofs.Common.{◌≡◌, ◌≢◌, ◌⊎◌, ℕ, zero, suc, ◌+◌, ◌<◌, ◌≤◌, Bool, true, false, List, [], ◌∷◌, ◌++◌, length, refl, sym, ap, ◌∙◌, subst, inl, inr, arith, length-append}
-use Rattle.std.specs.Prelude.{◌-◌, ◌^◌, ◌↔◌, drop}
+use Rattle.std.proofs.Common.{◌≡◌, ◌≢◌, ℕ, zero, suc, ◌<◌, true, false, List, [], ◌∷◌, ◌++◌, length, refl, sym, ap, ◌∙◌, inl, inr, arith, length-append}
+use Rattle.std.specs.Prelude.{drop}
 use Rattle.std.proofs.lemmas.Bool.{cases_eq}
 use Rattle.sh_base.specs.declared.config.ConfigParts.{ConfigParts}
 use Rattle.sh_base.specs.Setting.{all_seats, IsSetting}
@@ -9,7 +9,7 @@ use Rattle.sh_map.specs.Log.{map_of}
 use Rattle.sh_tree.specs.Lists.{is_in, outside, AreDifferent}
 use Rattle.sh_tree.specs.Tree.{IsChain, IsTree, AreLevels, top_of, unposted_in}
 use Rattle.sh_tree.proofs.ListLemmas.{in_front, outside_none}
-use Rattle.sh_scene.specs.Scene.{Post, Posted, Pending, Skipped, Scene}
+use Rattle.sh_scene.specs.Scene.{Post, Posted, Pending, Skipped}
 use Rattle.sh_rest.proofs.Levels.{different_join, in_behind, in_joined}
 use Rattle.sh_rest.proofs.Trees.{holds_tree}
 use Rattle.sh_rest.proofs.Counts.{skipped_are, all_free, free_words}

@@ -43,6 +43,7 @@ use Rattle.sh_core.specs.Keeps.{holding, pending, pending_then, Hands, Waits, Sk
 use Rattle.sh_core.specs.Core.{Inv, Moves}
 use Rattle.sh_core.proofs.Logs.{made_by-append, made_by_here, answered_longer}
 use Rattle.sh_core.proofs.Frame.{me, at, with, skips_on, IsCalm, Before, moves_to}
+use Rattle.sh_core.proofs.Causes.{causes_on}
 use Rattle.sh_core.proofs.Roots.{pending_skipped, posted_skipped, decided_entry}
 
 -- the lock is given back next
@@ -110,6 +111,7 @@ module _ (p : ConfigParts) (ok : IsSetting p) (words : List ℕ) (Has Now : ℕ 
         seen = omega (arith, more);
         first = omega (arith, k.first, k.seen);
         answered = subst (λ (es : List LogEntry). AreAnswered es i a.dones) (sym log) (answered_longer i a.dones s.log (entry ∷ []) k.answered);
+        causes = causes_on p s.counter t.counter (λ server lt. omega (arith, count server)) s.log (entry ∷ []) t.log log i a.dones k.answered k.causes;
         ordered = k.ordered;
         mine = ap (made_by i) log ∙ made_by-append i s.log (entry ∷ []) ∙ ap (λ (es : List LogEntry). made_by i s.log ++ es) (made_by_here i entry by) ∙ ap (λ (es : List LogEntry). es ++ entry ∷ []) (k.mine ∙ ap (λ (es : List LogEntry). updates a.dones ++ es) was ∙ append-nil (updates a.dones)) ∙ ap (λ (es : List LogEntry). updates a.dones ++ es) (sym is);
       } count calm mv)

@@ -25,7 +25,7 @@ use Rattle.sh_core.specs.Actors.{Actor, AreAnswered, AreInOrder, updates}
 use Rattle.sh_core.specs.Fits.{HasEntry}
 use Rattle.sh_core.specs.Keeps.{pending, Keeps}
 use Rattle.sh_core.specs.Core.{Inv}
-use Rattle.sh_core.specs.Books.{calls_of, numbered, IsBookOf, IsOfCall, IsLawfulBook, BooksAreLawful}
+use Rattle.sh_core.specs.Books.{calls_of, numbered, IsBookOf, IsOfCall, IsLawfulBook, BooksAreLawful, HasAnswers, CallsAreAnswered}
 use Rattle.sh_core.proofs.Calls.{nothing}
 use Rattle.sh_core.proofs.Pending.{pending_stands}
 use Rattle.sh_core.proofs.Points.{not_there, points, points_numbered, points_long, points_in, points_differ, places_differ, places_long, place_in, points_stand, all_named, any_own}
@@ -43,17 +43,7 @@ in_order_renumbered low (d ∷ ds) high h = (h.0, h.1, in_order_renumbered (d.po
 module _ (log : List Entry) where
   row_numbered : (n : ℕ) (d : Done) (c : Call) (r : Reply) → AnswersAt log d c r → AnswersAt log (numbered n d) c r
   row_numbered n d (call.Get key) (reply.Some value) h = h
-  row_numbered n d (call.Get key) reply.None h = h
-  row_numbered n d (call.Put key value) (reply.Some old) h = h
-  row_numbered n d (call.Put key value) reply.None h = h
-  row_numbered n d (call.Del key) (reply.Some old) h = h
-  row_numbered n d (call.Del key) reply.None h = h
-  row_numbered n d (call.Range low high) (reply.Rows upto) h = h
-  row_numbered n d (call.Put key value) reply.Full h = h
-  row_numbered n d (call.Put key value) reply.NoSplitYet h = h
-  row_numbered n d (call.Put key value) (reply.Worn version) h = h
-  row_numbered n d (call.Del key) (reply.Worn version) h = h
-  row_numbered n d c r h = absurd h
+  row_numbered n d c r h = h
 
   answers_numbered : (n : ℕ) (d : Done) → Answers log d → Answers log (numbered n d)
   answers_numbered n d h = record { within = h.within; row = row_numbered n d d.call d.reply h.row }
@@ -201,7 +191,7 @@ blank : Entry
 blank = entry_of 0 (change.Del 0) None
 
 module _ (p : ConfigParts) (words : List ℕ) (log : List Entry) (Has : ℕ → Actor → Type 0) (Out : ℕ → ℕ → ℕ → Type 0) (dones : List Done) (inv : Inv p words log Has Out) (book : IsBookOf Has dones) where
-  seat_of : (ds : List Done) → AllByRecursion (λ (d : Done). (a : Actor) × Has d.seat a) ds → (seat : ℕ) → (calls_of seat ds ≡ []) ⊎ ((a : Actor) × Has seat a)
+  pub seat_of : (ds : List Done) → AllByRecursion (λ (d : Done). (a : Actor) × Has d.seat a) ds → (seat : ℕ) → (calls_of seat ds ≡ []) ⊎ ((a : Actor) × Has seat a)
   seat_of [] h seat = inl refl
   seat_of (d ∷ ds) h seat = by (seat_of ds h.1 seat) (d.seat == seat) refl
     where
@@ -254,3 +244,6 @@ module _ (p : ConfigParts) (words : List ℕ) (log : List Entry) (Has : ℕ → 
 
 pub books_are_lawful : (p : ConfigParts) → BooksAreLawful p
 books_are_lawful p words log Has Out dones inv book = subst (λ (es : List Entry). IsLawfulBook Has es dones) inv.log_is (lawful_book p words log Has Out dones inv book)
+
+pub calls_are_answered : (p : ConfigParts) → CallsAreAnswered p
+calls_are_answered p words log Has Out seat a inv h = let k = inv.kept seat a h in subst (λ (es : List Entry). HasAnswers es seat a) inv.log_is record { answered = k.answered; ordered = k.ordered; first = k.first; seen = k.seen }

@@ -35,9 +35,11 @@ use Rattle.sh_client.specs.Machine.{Machine}
 use Rattle.sh_client.specs.Wants.{want_in, load_of}
 use Rattle.sh_core.specs.Actors.{Actor, ending, done_of, least_point, point_of, IsAnswered, AreAnswered, made_by, updates}
 use Rattle.sh_core.specs.Fits.{AreSpares, HadNone, IsDecided, Owes, Fits}
+use Rattle.sh_core.specs.Causes.{HasCause}
 use Rattle.sh_core.specs.Keeps.{holding, Hands, Waits, pending, Skips, IsAtWork, Keeps}
 use Rattle.sh_core.specs.Core.{WantsAdd, SomeAdds, Inv, Moves}
 use Rattle.sh_core.proofs.Logs.{grows as log_grows, updates-snoc, in_order_snoc, answered_snoc, least_is}
+use Rattle.sh_core.proofs.Causes.{causes_on, causes_snoc}
 use Rattle.sh_core.proofs.Others.{Grows, owes_on, adds_before, bounded_less, turn_to}
 
 -- the actor's call goes on, and its seat has seen so much of the log
@@ -52,26 +54,28 @@ abbrev pub me : ConfigParts → ℕ → Actor → Machine → Phase → Actor
 me p i a m ph = record { client = at p i m ph; number = a.number; seen = a.seen; first = a.first; point = a.point; dones = a.dones }
 
 -- it goes on, and has made no entry now
-pub goes_on : (p : ConfigParts) (s t : Scene) (i n : ℕ) (a : Actor) (m : Machine) → Keeps p s i a → t.log ≡ s.log → a.seen ≤ n → n ≤ length s.log → IsAtWork p t i a.first a.point n m → pending i m m.phase ≡ pending i a.client a.client.phase → Keeps p t i (next a n m)
-goes_on p s t i n a m k l more within w same = record {
+pub goes_on : (p : ConfigParts) (s t : Scene) (i n : ℕ) (a : Actor) (m : Machine) → Keeps p s i a → t.log ≡ s.log → ((server : ℕ) → s.counter server ≤ t.counter server) → a.seen ≤ n → n ≤ length s.log → IsAtWork p t i a.first a.point n m → pending i m m.phase ≡ pending i a.client a.client.phase → Keeps p t i (next a n m)
+goes_on p s t i n a m k l rise more within w same = record {
   work = w;
   seen = omega (arith, ap length l, within);
   first = omega (arith, k.first, more);
   answered = subst (λ (es : List LogEntry). AreAnswered es i a.dones) (sym l) k.answered;
+  causes = causes_on p s.counter t.counter (λ server lt. rise server) s.log [] t.log (l ∙ sym (append-nil s.log)) i a.dones k.answered k.causes;
   ordered = k.ordered;
   mine = ap (made_by i) l ∙ k.mine ∙ ap (λ (es : List LogEntry). updates a.dones ++ es) (sym same);
 }
 
 -- its call has ended
-pub ends_now : (p : ConfigParts) (s t : Scene) (i : ℕ) (a : Actor) (m : Machine) (sn : List LogEntry) → Keeps p s i a → t.log ≡ s.log → length sn ≤ length s.log → a.seen ≤ length sn → IsAtWork p t i (length sn) a.point (length sn) m
-    → IsAnswered s.log i (done_of i a sn m) → let d : Done = done_of i a sn m in a.first ≤ d.point → d.point + made m.call m.reply ≤ length sn → pending i a.client a.client.phase ≡ entries_by i m.call m.reply → pending i m m.phase ≡ [] → Keeps p t i (ending i a sn m)
-ends_now p s t i a m sn k l within more w ans from past was none =
+pub ends_now : (p : ConfigParts) (s t : Scene) (i : ℕ) (a : Actor) (m : Machine) (sn : List LogEntry) → Keeps p s i a → t.log ≡ s.log → ((server : ℕ) → s.counter server ≤ t.counter server) → length sn ≤ length s.log → a.seen ≤ length sn → IsAtWork p t i (length sn) a.point (length sn) m
+    → IsAnswered s.log i (done_of i a sn m) → let d : Done = done_of i a sn m in HasCause p s.counter s.log d.first d.point d.call d.reply → a.first ≤ d.point → d.point + made m.call m.reply ≤ length sn → pending i a.client a.client.phase ≡ entries_by i m.call m.reply → pending i m m.phase ≡ [] → Keeps p t i (ending i a sn m)
+ends_now p s t i a m sn k l rise within more w ans cause from past was none =
     let d : Done = done_of i a sn m in
     record {
       work = w;
       seen = omega (arith, ap length l, within);
       first = omega arith;
       answered = subst (λ (es : List LogEntry). AreAnswered es i (a.dones ++ d ∷ [])) (sym l) (answered_snoc s.log i a.dones d k.answered ans);
+      causes = causes_on p s.counter t.counter (λ server lt. rise server) s.log [] t.log (l ∙ sym (append-nil s.log)) i (a.dones ++ d ∷ []) (answered_snoc s.log i a.dones d k.answered ans) (causes_snoc p s.counter s.log a.dones d k.causes cause);
       ordered = in_order_snoc 0 a.dones d (length sn) k.ordered from past;
       mine = ap (made_by i) l ∙ k.mine ∙ ap (λ (es : List LogEntry). updates a.dones ++ es) was ∙ sym (updates-snoc a.dones d) ∙ sym (append-nil (updates (a.dones ++ d ∷ []))) ∙ ap (λ (es : List LogEntry). updates (a.dones ++ d ∷ []) ++ es) (sym none);
     }

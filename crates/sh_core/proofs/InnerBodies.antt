@@ -88,7 +88,7 @@ module _ (p : ConfigParts) (ok : IsSetting p) (words : List ℕ) (Has Now : ℕ 
       let w = subst (Owes s i a.first a.point a.seen m.call m.reply) z.plan.duty_is k.work.owes in
       one_log p ok words Has Now Out i s b now t log
       (moves_to p ok words Has Now Out i s b now t (next a N q) ch
-      (goes_on p s t i N (me p i a m (Body n carry done WholeInner Ends)) q k log k.seen (omega arith) record {
+      (goes_on p s t i N (me p i a m (Body n carry done WholeInner Ends)) q k log (λ server. omega arith) k.seen (omega arith) record {
         seated = k.work.seated;
         duty = None;
         fits = rel_fits p t i a.first a.point N q None n carry Ends record { real = u.real; depth = u.depth; held = put_here s.hold (lock_of p n) (Held (Seat i) u.depth); carries = u.carries }
@@ -146,7 +146,7 @@ module _ (p : ConfigParts) (ok : IsSetting p) (words : List ℕ) (Has Now : ℕ 
       let not_skipped : put s.post y.child Posted r ≡ Skipped i → ⊥ = put_case (λ v. v ≡ Skipped i → ⊥) s.post y.child Posted r (λ c v. posted_skipped i v) (λ c v. posted_skipped i (sym is_posted ∙ v)) in
       one_log p ok words Has Now Out i s b now t log
       (moves_to p ok words Has Now Out i s b now t (next a N q) ch
-      (goes_on p s t i N (me p i a m (Body n carry done LeftInner after)) q k log k.seen (omega arith) record {
+      (goes_on p s t i N (me p i a m (Body n carry done LeftInner after)) q k log (λ server. omega arith) k.seen (omega arith) record {
         seated = k.work.seated;
         duty = Some post;
         fits = rel_fits p t i a.first a.point N q (Some post) n carry after record { real = u.real; depth = u.depth; held = put_here s.hold (lock_of p n) (Held (Seat i) u.depth); carries = u.carries }

@@ -1,4 +1,5 @@
 pub mod Logs
+pub mod Causes
 pub mod Others
 pub mod Frame
 pub mod Locals
@@ -12,6 +13,7 @@ pub mod Opening
 pub mod Pending
 pub mod Points
 pub mod Books
+pub mod Refusals
 pub mod Owners
 pub mod Moments
 pub mod AtRest
@@ -37,3 +39,4 @@ pub mod SensesOnWay
 pub mod SensesHeld
 pub mod Senses
 pub mod SensesAll
+pub mod Lists

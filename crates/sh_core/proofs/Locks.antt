@@ -69,7 +69,7 @@ module _ (p : ConfigParts) (ok : IsSetting p) (words : List ℕ) (Has Now : ℕ 
       let n : Machine = with p i m tally reads m.walk m.body m.right to in
       one_log p ok words Has Now Out i s b now t same.log
       (moves_to p ok words Has Now Out i s b now t (next a N n) ch
-      (goes_on p s t i N (me p i a m ph) n k same.log k.seen (omega arith) (work_with p s t i a.first a.point a.seen N m ph k.work same k.seen tally reads m.walk m.body m.right to sum fits hands) pend) count calm mv)
+      (goes_on p s t i N (me p i a m ph) n k same.log same.counts k.seen (omega arith) (work_with p s t i a.first a.point a.seen N m ph k.work same k.seen tally reads m.walk m.body m.right to sum fits hands) pend) count calm mv)
 
   -- The scene stays, and no counter is to be counted on now: the log and the posts are those of before, so the reply may be
   -- a new one where there is no duty.
@@ -80,7 +80,7 @@ module _ (p : ConfigParts) (ok : IsSetting p) (words : List ℕ) (Has Now : ℕ 
       let x : Machine = anew p i m spare tally reply reads walk body right to in
       one_log p ok words Has Now Out i s b words s refl
       (moves_by p ok words Has Now Out i s b words s (next a N x) (nothing_done p (λ o. o ≢ Seat i) s, b.ground)
-      (goes_on p s s i N (me p i a m ph) x k refl k.seen (omega arith) (work_anew p s s i a.first a.point a.seen N m ph k.work (λ r. refl) spare tally reply reads walk body right to sum fits owes spares hands) pend) (λ server. refl) calm mv)
+      (goes_on p s s i N (me p i a m ph) x k refl (λ server. omega arith) k.seen (omega arith) (work_anew p s s i a.first a.point a.seen N m ph k.work (λ r. refl) spare tally reply reads walk body right to sum fits owes spares hands) pend) (λ server. refl) calm mv)
 
   -- the same, in a phase that counts on no counter
   pub quiet_with : (ph to : Phase) (spare : NodeRange) (tally : Tally) (reply : Reply) (reads : Reads) (walk : Walk) (body right : List ℕ) (k : Keeps p s i (me p i a m ph)) → let x : Machine = anew p i m spare tally reply reads walk body right to in

@@ -1,31 +1,28 @@
 -- The standing words at each moment, and the lock words.
-use Rattle.std.proofs.Common.{◌≡◌, ◌≢◌, ◌⊎◌, ℕ, zero, suc, ◌+◌, ◌<◌, ◌≤◌, true, List, length, get_or, set, Option, Some, None, refl, sym, ap, ◌∙◌, subst, inl, inr, arith, get_or-set_same}
-use Rattle.std.specs.List.{concat}
+use Rattle.std.proofs.Common.{◌≡◌, ◌≢◌, ◌⊎◌, ℕ, zero, suc, ◌+◌, ◌<◌, ◌≤◌, List, length, get_or, set, Some, refl, sym, ap, ◌∙◌, subst, inl, inr, arith, get_or-set_same}
 use mathlib.Core.Logic.{dite}
 use native.Mathlib.Decide.{ℕ_discrete}
 use Rattle.std.proofs.lemmas.Bool.{cases_eq}
 use Rattle.std.proofs.lemmas.List.{length-set}
 use Rattle.sh_base.specs.declared.config.ConfigParts.{ConfigParts}
-use Rattle.sh_base.specs.Setting.{all_locks, node_size, nodes, pool_words, IsNode}
-use Rattle.sh_base.specs.Layout.{lock_of, lock_word, node_word}
+use Rattle.sh_base.specs.Setting.{node_size, nodes, pool_words, IsNode}
+use Rattle.sh_base.specs.Layout.{lock_of, node_word}
 use Rattle.sh_base.specs.Places.{Site, Own, Root, Counter, Lock, Node, address, IsSite}
 use Rattle.sh_base.proofs.LayoutLemmas.{node_word_high}
 use Rattle.sh_base.proofs.PlacesLemmas.{stores_keep_apart}
 use Rattle.sh_map.specs.declared.log.Entry.{Entry as LogEntry}
 use Rattle.sh_map.specs.Log.{map_of}
-use Rattle.sh_tree.specs.Tree.{map_in}
 use Rattle.sh_read.specs.Moments.{Writing, Idle, word}
-use Rattle.sh_scene.specs.Scene.{Linked, Owner, Seat, Right, Hold, Nobody, Held, Writes, Owns, owner_word, hold_word, Scene, writing, writing_of, shown, Shows}
-use Rattle.sh_scene.specs.Nodes.{Orderly, IsUnderWay, IsLinked}
-use Rattle.sh_scene.specs.Ground.{Ground, HasParent}
+use Rattle.sh_scene.specs.Scene.{Owner, Seat, Right, Hold, Nobody, Held, Writes, Owns, owner_word, hold_word, Scene, writing, writing_of, shown}
+use Rattle.sh_scene.specs.Nodes.{Orderly, IsLinked}
+use Rattle.sh_scene.specs.Ground.{Ground}
 use Rattle.sh_scene.proofs.Scenes.{is_linked, body_on, sits_on, writes_else}
-use Rattle.sh_rest.specs.Rest.{IsAtRest, HoldsTree}
+use Rattle.sh_rest.specs.Rest.{IsAtRest}
 use Rattle.sh_rest.proofs.Trees.{holds_tree}
 use Rattle.sh_core.specs.Actors.{Actor}
-use Rattle.sh_core.specs.Keeps.{holding}
 use Rattle.sh_core.specs.Core.{Inv}
-use Rattle.sh_core.specs.Moments.{written_node, IsWritten, IsStill, Holds, IsStanding, AreLocks, IsMoment, EachMoment}
-use Rattle.sh_core.proofs.Owners.{owns, holds, written_is, is_written, written_held}
+use Rattle.sh_core.specs.Moments.{IsWritten, IsStill, Holds, IsStanding, AreLocks, EachMoment}
+use Rattle.sh_core.proofs.Owners.{owns, holds, written_is, is_written, within_bound, written_held}
 
 -- ---- words with other nodes
 module _ (p : ConfigParts) where
@@ -205,19 +202,23 @@ module _ (p : ConfigParts) (words : List ℕ) (log : List LogEntry) (Has : ℕ �
   word_of (Held x d) o a = ap (owner_word p) a
   word_of (Writes i d n w) o a = ap (owner_word p) a
 
-  nobody : (l : ℕ) → ((o : Owner) → Holds p Has Out l o → ⊥) → (h : Hold) → S.hold l ≡ h → hold_word p h ≡ 0
-  nobody l none Nobody e = refl
-  nobody l none (Held (Seat i) d) e = let o : Owns (S.hold l) (Seat i) = subst (λ (x : Hold). Owns x (Seat i)) (sym e) refl in let h = inv.held i l o in absurd (none (Seat i) (h.0, h.1, holds p S i h.0 (inv.kept i h.0 h.1) l o))
-  nobody l none (Held (Right c) d) e = absurd (none (Right c) (d, inv.given l c d e))
-  nobody l none (Writes i d n w) e = let o : Owns (S.hold l) (Seat i) = subst (λ (x : Hold). Owns x (Seat i)) (sym e) refl in let h = inv.held i l o in absurd (none (Seat i) (h.0, h.1, holds p S i h.0 (inv.kept i h.0 h.1) l o))
+  by_seat : (l i : ℕ) → Owns (S.hold l) (Seat i) → (o : Owner) × Holds p Has Out l o
+  by_seat l i o = let h = inv.held i l o in (Seat i, (h.0, h.1, holds p S i h.0 (inv.kept i h.0 h.1) l o))
+
+  some_holder : (l : ℕ) (h : Hold) → S.hold l ≡ h → ((o : Owner) × Holds p Has Out l o) ⊎ (hold_word p h ≡ 0)
+  some_holder l Nobody e = inr refl
+  some_holder l (Held (Seat i) d) e = inl (by_seat l i (subst (λ (x : Hold). Owns x (Seat i)) (sym e) refl))
+  some_holder l (Held (Right c) d) e = inl (Right c, (d, inv.given l c d e))
+  some_holder l (Writes i d n w) e = inl (by_seat l i (subst (λ (x : Hold). Owns x (Seat i)) (sym e) refl))
 
   locks : AreLocks p words Has Out
   locks = record {
     one = λ l o u a b. one_owner (S.hold l) o u (owner l o a) (owner l u b);
     held = λ l o lt h. inv.ground.shows.each (Lock l) lt ∙ word_of (S.hold l) o (owner l o h);
-    free = λ l lt none. inv.ground.shows.each (Lock l) lt ∙ nobody l none (S.hold l) refl;
+    free = λ l lt. elim (some_holder l (S.hold l) refl) [ inl h ↦ inl h | inr e ↦ inr (inv.ground.shows.each (Lock l) lt ∙ e) ];
     writers = λ n w. let k = inv.kept w.seat w.actor w.has in (w.actor, w.has, written_held p S w.seat w.actor.first w.actor.point w.actor.seen w.actor.client k.work.duty w.actor.client.phase n w.node);
-    depth = λ l c d o. subst (Orderly p S l) (inv.out l c d o) (inv.ground.orderly l);
+    rights = λ l c d o. subst (Orderly p S l) (inv.out l c d o) (inv.ground.orderly l);
+    seats = λ i d a h at. let k = inv.kept i a h in within_bound p S i a.first a.point a.seen a.client k.work.duty inv.ground.orderly a.client.phase d k.work.fits at;
   }
 
 pub each_moment : (p : ConfigParts) → EachMoment p

@@ -47,6 +47,7 @@ use Rattle.sh_client.specs.Feeds.{read_by, arrived, went}
 use Rattle.sh_client.specs.Splitting.{grown, growing, raised}
 use Rattle.sh_core.specs.Actors.{Actor, becomes, ending, point_of}
 use Rattle.sh_core.specs.Fits.{Owes, IsOnWay, IsThere, HasRead, Reaches, IsBelow, duty_of}
+use Rattle.sh_core.specs.Causes.{HasCause}
 use Rattle.sh_core.specs.Keeps.{pending_aim, Keeps}
 use Rattle.sh_core.specs.Core.{Inv, Moves}
 use Rattle.sh_core.proofs.Logs.{least_is}
@@ -164,8 +165,8 @@ module _ (p : ConfigParts) (ok : IsSetting p) (words : List ℕ) (Has Now : ℕ 
         let duty : K.work.duty ≡ None = K.work.fits.0 ∙ ap duty_of own in
         one_log p ok words Has Now Out i s b words s refl
         (stays p ok words Has Now Out i s b (ending i (me p i a m (Read aim top)) s.log (to (answering M (reply_with had)) Ended))
-        (ends_now p s s i (me p i a m (Read aim top)) (to (answering M (reply_with had)) Ended) s.log K refl (omega arith) K.seen
-        (work_ended p s s i a.first a.point a.seen (length s.log) m (Read aim top) K.work (same_here s) K.seen m.tally (reply_with had) reads m.walk m.body m.right refl duty K.work.hands) end.answered end.from end.past
+        (ends_now p s s i (me p i a m (Read aim top)) (to (answering M (reply_with had)) Ended) s.log K refl (λ server. omega arith) (omega arith) K.seen
+        (work_ended p s s i a.first a.point a.seen (length s.log) m (Read aim top) K.work (same_here s) K.seen m.tally (reply_with had) reads m.walk m.body m.right refl duty K.work.hands) end.answered (subst (λ (c : Call). HasCause p s.counter s.log a.first (point_of s.log a.first a.point c (reply_with had)) c (reply_with had)) (sym e) tt) end.from end.past
         (ap (λ (z : Aim). pending_aim i m.call m.reply z) own ∙ sym (none_made k (reply_with had) e)) refl) tt mv)
 
     goes_here : (c : Call) (to : Aim) (image : Image) → m.call ≡ c → aim ≡ to → IsImageOf s level named.low image → Holds image → hop_of image key (target aim) ≡ Here → Here' (went M aim image (way_here c to reads.node image))
@@ -190,7 +191,7 @@ module _ (p : ConfigParts) (ok : IsSetting p) (words : List ℕ) (Has Now : ℕ 
         let n : Machine = raised (sparing M (without_lowest m.spare)) post reads.node fresh in
         one_log p ok words Has Now Out i s b words s refl
         (stays p ok words Has Now Out i s b (next a (length s.log) n)
-        (goes_on p s s i (length s.log) (me p i a m (Read aim top)) n K refl K.seen (omega arith)
+        (goes_on p s s i (length s.log) (me p i a m (Read aim top)) n K refl (λ server. omega arith) K.seen (omega arith)
         (work_raised p s s i a.first a.point a.seen (length s.log) m (Read aim top) K.work (same_grows s s i a.seen (length s.log) (same_here s) K.seen) (λ k. refl) reads m.walk m.body (without_lowest m.spare) post reads.node fresh (takes_lowest s i m.spare K.work.spares fresh e) duty below K.work.hands)
         (sym (ap (λ (z : Aim). pending_aim i m.call m.reply z) own))) tt mv)
     grows_to post None own up e mv =
@@ -199,7 +200,7 @@ module _ (p : ConfigParts) (ok : IsSetting p) (words : List ℕ) (Has Now : ℕ 
         let n : Machine = with p i m m.tally reads (walk_start p i) m.body m.right (Top post reads.node) in
         one_log p ok words Has Now Out i s b words s refl
         (moves_by p ok words Has Now Out i s b words s (next a (length s.log) n) (nothing_done p (λ o. o ≢ Seat i) s, b.ground)
-        (goes_on p s s i (length s.log) (me p i a m (Read aim top)) n K refl K.seen (omega arith)
+        (goes_on p s s i (length s.log) (me p i a m (Read aim top)) n K refl (λ server. omega arith) K.seen (omega arith)
         (work_with p s s i a.first a.point a.seen (length s.log) m (Read aim top) K.work (same_here s) K.seen m.tally reads (walk_start p i) m.body m.right (Top post reads.node) refl (duty, below, begins_walk p ok s i m.spare (none_spare s i m.spare K.work.spares e)) K.work.hands)
         (sym (ap (λ (z : Aim). pending_aim i m.call m.reply z) own))) (λ server. refl) (λ server q. cc) mv)
 

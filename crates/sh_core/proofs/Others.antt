@@ -49,6 +49,7 @@ use Rattle.sh_core.specs.Actors.{Actor, AreAnswered, made_by}
 use Rattle.sh_core.specs.Fits.{HasEntry, IsPosting, Owes, HasRead, IsOnWay, AreLast, IsSeeking, IsFilled, PlansEntry, PlansLeaf, PlansLeftLeaf, PlansPair, PlansInner, PlansLeftInner, PlansHalf, HadNone, IsDecided, Follows, Plans, storing_hold, IsHolding, IsLeaving, IsBelow, IsThere, Fits}
 use Rattle.sh_core.specs.Keeps.{holding, Hands, Waits, Skips, Keeps}
 use Rattle.sh_core.specs.Core.{WantsAdd, SomeAdds, Inv, Moves}
+use Rattle.sh_core.proofs.Causes.{causes_on}
 use Rattle.sh_core.proofs.Logs.{made_by-append, made_by_none, answered_longer}
 
 -- ---- what the log's growth and the links' leave
@@ -299,6 +300,7 @@ module _ (p : ConfigParts) (ok : IsSetting p) (Other : Owner → Type 0) (words 
         seen = omega (arith, ap length ch.longer, length-append s.log ch.more, k.seen);
         first = k.first;
         answered = subst (λ (es : List LogEntry). AreAnswered es j b.dones) (sym ch.longer) (answered_longer j b.dones s.log ch.more k.answered);
+        causes = causes_on p s.counter t.counter (λ server lt. rise server) s.log ch.more t.log ch.longer j b.dones k.answered k.causes;
         ordered = k.ordered;
         mine = ap (made_by j) ch.longer ∙ made_by-append j s.log ch.more ∙ ap (λ (es : List LogEntry). made_by j s.log ++ es) (made_by_none j ch.more (ch.entries j ne)) ∙ append-nil (made_by j s.log) ∙ k.mine;
       }

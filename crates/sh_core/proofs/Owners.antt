@@ -1,20 +1,21 @@
 -- Who holds a lock, by what clients are at, and as the scene has it.
-use Rattle.std.proofs.Common.{◌≡◌, ◌≢◌, ℕ, zero, suc, ◌<◌, List, Option, Some, None, refl, sym, ap, ◌∙◌, subst}
+use Rattle.std.proofs.Common.{◌≡◌, ◌≤◌, ◌≢◌, ℕ, zero, suc, Option, Some, None, refl, sym, ap, ◌∙◌, subst}
 use mathlib.Core.Logic.{dite}
 use native.Mathlib.Decide.{ℕ_discrete}
 use Rattle.sh_base.specs.declared.config.ConfigParts.{ConfigParts}
 use Rattle.sh_base.specs.Layout.{lock_of}
 use Rattle.sh_read.specs.Moments.{Writing}
-use Rattle.sh_scene.specs.Scene.{Seat, Hold, Nobody, Held, Writes, Owns, Scene}
+use Rattle.sh_scene.specs.Nodes.{Orderly}
+use Rattle.sh_scene.specs.Scene.{Seat, Hold, Held, Writes, Owns, Scene}
 use Rattle.sh_decide.specs.declared.state.Post.{Post}
 use Rattle.sh_client.specs.declared.state.Write.{Write}
 use Rattle.sh_client.specs.declared.state.Phase.{Phase}
-use Rattle.sh_client.specs.declared.state.Phase.TheVariants.{Idle, Root, Read, Draw, Look, Grab, Hold as Holds, Seek, Fill, Waiting, Body, Unlock, Leave, Top, Raise, Swap, Ended}
+use Rattle.sh_client.specs.declared.state.Phase.TheVariants.{Hold as Holds, Seek, Fill, Waiting, Body, Unlock, Leave}
 use Rattle.sh_client.specs.Machine.{Machine}
 use Rattle.sh_core.specs.Actors.{Actor}
-use Rattle.sh_core.specs.Fits.{Fits, storing_hold, write_of}
+use Rattle.sh_core.specs.Fits.{Carries, Fits, storing_hold, write_of}
 use Rattle.sh_core.specs.Keeps.{holding, Hands, Keeps}
-use Rattle.sh_core.specs.Moments.{writes_from, written_node}
+use Rattle.sh_core.specs.Moments.{handed_to, writes_from, written_node}
 
 -- the hold of a lock by a seat that writes this node, or none
 abbrev pub HeldBy : Scene → (seat lock : ℕ) → Option ℕ → Type 0
@@ -44,17 +45,7 @@ module _ (p : ConfigParts) (s : Scene) (i f q e : ℕ) (m : Machine) (duty : Opt
   held_by (Body n carry done write after) h l at = let k = h.0 in storing k.depth (lock_of p n) l n done write k.held at
   held_by (Unlock n after) h l at = let k = h.0 in plain k.depth (lock_of p n) l k.held at
   held_by (Leave n (Some d) after) h l at = let k = h.0 in plain k.depth (lock_of p n) l k.held at
-  held_by (Leave n None after) h l at = absurd (no_lock l at)
-  held_by Idle h l at = absurd (no_lock l at)
-  held_by (Root aim) h l at = absurd (no_lock l at)
-  held_by (Read aim top) h l at = absurd (no_lock l at)
-  held_by (Draw aim n) h l at = absurd (no_lock l at)
-  held_by (Look aim n) h l at = absurd (no_lock l at)
-  held_by (Grab aim n) h l at = absurd (no_lock l at)
-  held_by (Top post root) h l at = absurd (no_lock l at)
-  held_by (Raise post root fresh done) h l at = absurd (no_lock l at)
-  held_by (Swap post root fresh) h l at = absurd (no_lock l at)
-  held_by Ended h l at = absurd (no_lock l at)
+  held_by ph h l at = absurd (no_lock l at)
 
   -- a client that writes a node holds its lock
   writes_held : (n k done : ℕ) → writes_from n done ≡ Some k → Some (lock_of p n) ≡ Some (lock_of p k)
@@ -63,22 +54,31 @@ module _ (p : ConfigParts) (s : Scene) (i f q e : ℕ) (m : Machine) (duty : Opt
 
   pub written_held : (ph : Phase) (k : ℕ) → written_node ph ≡ Some k → holding p m ph ≡ Some (lock_of p k)
   written_held (Body n carry done write after) k at = writes_held n k done at
-  written_held Idle k at = absurd (no_lock k at)
-  written_held (Root aim) k at = absurd (no_lock k at)
-  written_held (Read aim top) k at = absurd (no_lock k at)
-  written_held (Draw aim n) k at = absurd (no_lock k at)
-  written_held (Look aim n) k at = absurd (no_lock k at)
-  written_held (Grab aim n) k at = absurd (no_lock k at)
-  written_held (Holds aim d) k at = absurd (no_lock k at)
-  written_held (Seek aim d) k at = absurd (no_lock k at)
-  written_held (Fill n d fresh done write after) k at = absurd (no_lock k at)
-  written_held (Waiting n d write after) k at = absurd (no_lock k at)
-  written_held (Unlock n after) k at = absurd (no_lock k at)
-  written_held (Leave n carry after) k at = absurd (no_lock k at)
-  written_held (Top post root) k at = absurd (no_lock k at)
-  written_held (Raise post root fresh done) k at = absurd (no_lock k at)
-  written_held (Swap post root fresh) k at = absurd (no_lock k at)
-  written_held Ended k at = absurd (no_lock k at)
+  written_held ph k at = absurd (no_lock k at)
+
+-- a lock is handed over within the bound
+module _ (p : ConfigParts) (s : Scene) (i f q e : ℕ) (m : Machine) (duty : Option Post) (orderly : (lock : ℕ) → Orderly p s lock (s.hold lock)) where
+  no_depth : (x : ℕ) → None ≡ Some x → ⊥
+  no_depth x h = cc
+
+  same_depth : (d x : ℕ) → Some d ≡ Some x → d ≡ x
+  same_depth d x h = cc
+
+  below : (l d x : ℕ) → s.hold l ≡ Held (Seat i) d → Some d ≡ Some x → x ≤ p.bound
+  below l d x h at = let le : d ≤ p.bound = subst (Orderly p s l) h (orderly l) in subst (λ (z : ℕ). z ≤ p.bound) (same_depth d x at) le
+
+  carried : (d x : ℕ) (carry : Option ℕ) → Carries p d carry → carry ≡ Some x → x ≤ p.bound
+  carried d x None h at = absurd (no_depth x at)
+  carried d x (Some now) h at = subst (λ (z : ℕ). z ≤ p.bound) (same_depth now x at) h.1
+
+  pub within_bound : (ph : Phase) (x : ℕ) → Fits p s i f q e m duty ph → handed_to ph ≡ Some x → x ≤ p.bound
+  within_bound (Holds aim d) x h at = below (lock_of p m.reads.node) d x h.2 at
+  within_bound (Seek aim d) x h at = below (lock_of p m.reads.node) d x h.2 at
+  within_bound (Fill n d fresh done write after) x h at = below (lock_of p n) d x h.0 at
+  within_bound (Waiting n d write after) x h at = below (lock_of p n) d x h.0 at
+  within_bound (Body n carry done write after) x h at = let k = h.0 in carried k.depth x carry k.carries at
+  within_bound (Leave n (Some d) after) x h at = let k = h.0 in carried k.depth x (Some d) k.carries at
+  within_bound ph x h at = absurd (no_depth x at)
 
 -- a seat holds the lock of its client, and no other
 held_is : (s : Scene) (i : ℕ) (h : Option ℕ) → Hands s i h → (l : ℕ) → Owns (s.hold l) (Seat i) → h ≡ Some l

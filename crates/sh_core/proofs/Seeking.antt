@@ -47,7 +47,7 @@ use Rattle.sh_core.proofs.Locks.{Claim}
 use Rattle.sh_core.proofs.Skipping.{spent_more, skips_act, keeps_skipped}
 use Rattle.sh_core.proofs.LeafHalves.{SplitsFor, half_fits, half_posts, left_words, right_words, put_misses, to_split}
 use Rattle.sh_core.proofs.InnerHalves.{inner_posts, left_pairs, pair_half_fits, post_to_split, right_pairs}
-use Rattle.sh_core.proofs.Walking.{Counts, Reached, counted_on, counts_alone, drawn_on, event_is, rest_of, takes_chunk, with_counters, walks}
+use Rattle.sh_core.proofs.Walking.{Counts, Reached, counted_on, counted_rise, counts_alone, drawn_on, event_is, rest_of, takes_chunk, with_counters, walks}
 
 module _ (p : ConfigParts) (ok : IsSetting p) (words : List ℕ) (Has Now : ℕ → Actor → Type 0) (Out : ℕ → ℕ → ℕ → Type 0) (i : ℕ) (s : Scene) (b : Before p words Has Out s) (a : Actor) (m : Machine) (depth : ℕ) where
   abbrev n : ℕ
@@ -84,7 +84,7 @@ module _ (p : ConfigParts) (ok : IsSetting p) (words : List ℕ) (Has Now : ℕ 
               act = c.act;
               log = refl;
               counts = λ u. refl;
-              keeps = goes_on p s t i N (me p i a m (Seek aim depth)) (V aim v) K refl K.seen (omega arith)
+              keeps = goes_on p s t i N (me p i a m (Seek aim depth)) (V aim v) K refl c.rise K.seen (omega arith)
                   (work_with p s t i a.first a.point a.seen N m (Seek aim depth) K.work same K.seen m.tally m.reads v m.body m.right (Seek aim depth) refl
                   (z.0, there, z.2, record { standing = z.3.standing; image = z.3.image; accepted_is = z.3.accepted_is; split = z.3.split }, here) K.work.hands) refl;
             }
@@ -126,7 +126,7 @@ module _ (p : ConfigParts) (ok : IsSetting p) (words : List ℕ) (Has Now : ℕ 
           act = act;
           log = refl;
           counts = λ u. refl;
-          keeps = goes_on p s t i N (me p i a m (Seek Own depth)) (anew p i m rest m.tally reply.None m.reads v body right to) own refl own.seen (omega arith)
+          keeps = goes_on p s t i N (me p i a m (Seek Own depth)) (anew p i m rest m.tally reply.None m.reads v body right to) own refl (counted_rise s server) own.seen (omega arith)
               (work_anew p s t i a.first a.point a.seen N m (Seek Own depth) own.work (λ r. refl) rest m.tally reply.None m.reads v body right to refl
               (half_fits p ok now t act.1 i n z.1.low (act.0.linked n 0 z.1.low z.1.linked) m a.first a.point N depth fresh rest m.tally m.reads v own.work.duty z.0 z.2 taken splits.1)
               (owes t reply.None) taken.spares own.work.hands) refl;
@@ -150,7 +150,7 @@ module _ (p : ConfigParts) (ok : IsSetting p) (words : List ℕ) (Has Now : ℕ 
           act = c.act;
           log = refl;
           counts = λ u. refl;
-          keeps = goes_on p s t i N (me p i a m (Seek Own depth)) (anew p i m m.spare m.tally reply.Full m.reads v m.body m.right to) own refl own.seen (omega arith)
+          keeps = goes_on p s t i N (me p i a m (Seek Own depth)) (anew p i m m.spare m.tally reply.Full m.reads v m.body m.right to) own refl c.rise own.seen (omega arith)
               (work_anew p s t i a.first a.point a.seen N m (Seek Own depth) own.work (λ r. refl) m.spare m.tally reply.Full m.reads v m.body m.right to refl (z.2, (z.0, end.0), real Own h) (owes t reply.Full) own.work.spares own.work.hands) end.1;
         }
 
@@ -183,7 +183,7 @@ module _ (p : ConfigParts) (ok : IsSetting p) (words : List ℕ) (Has Now : ℕ 
           act = act;
           log = refl;
           counts = λ u. refl;
-          keeps = goes_on p s t i N (me p i a m (Seek (Posts post) depth)) (anew p i m rest m.tally m.reply m.reads v body right to) P refl P.seen (omega arith)
+          keeps = goes_on p s t i N (me p i a m (Seek (Posts post) depth)) (anew p i m rest m.tally m.reply m.reads v body right to) P refl (counted_rise s server) P.seen (omega arith)
               (work_anew p s t i a.first a.point a.seen N m (Seek (Posts post) depth) P.work (λ r. refl) rest m.tally m.reply m.reads v body right to refl
               (pair_half_fits p ok now t act.1 i a.first a.point N m.call m.reply post owed n there m a.first a.point N depth fresh rest m.tally m.reads v P.work.duty z.0 z.2 taken is.1 is.2)
               owes taken.spares P.work.hands) refl;

@@ -11,11 +11,11 @@ use Rattle.sh_base.specs.Memory.{found_by}
 use Rattle.sh_alloc.specs.Walks.{fed_by as walk_fed, want_of as walk_wants}
 use Rattle.sh_scene.specs.Scene.{Scene}
 use Rattle.sh_client.specs.declared.state.Want.TheVariants as want
-use Rattle.sh_client.specs.declared.state.Aim.{Aim}
+use Rattle.sh_decide.specs.declared.state.Aim.{Aim}
 use Rattle.sh_client.specs.declared.state.Phase.{Phase}
-use Rattle.sh_client.specs.declared.state.Phase.TheVariants.{Idle, Root, Read, Draw, Look, Grab, Hold, Seek, Fill, Waiting, Body, Unlock, Leave, Top, Raise, Swap, Ended}
+use Rattle.sh_client.specs.declared.state.Phase.TheVariants.{Root, Read, Hold, Seek}
 use Rattle.sh_client.specs.Machine.{Machine}
-use Rattle.sh_client.specs.Aims.{is_node}
+use Rattle.sh_decide.specs.Aims.{is_node}
 use Rattle.sh_client.specs.Wants.{load_of, want_in, want_of}
 use Rattle.sh_core.specs.Actors.{Actor}
 use Rattle.sh_core.specs.Senses.{is_senseless, is_senseless_in, NeverSenseless}
@@ -62,19 +62,7 @@ module _ (p : ConfigParts) (ok : IsSetting p) (words : List ℕ) (Has : ℕ → 
   sound (Read aim top) e q h = loads (Read aim top) e (nat_lt (length m.reads.loaded) (node_size p)) q (on_way aim top) h
   sound (Hold aim depth) e q h = loads (Hold aim depth) e (nat_lt (length m.reads.loaded) (node_size p)) q (under_lock aim depth) h
   sound (Seek aim depth) e q h = seeks aim depth e h
-  sound Idle e q h = refl
-  sound (Draw aim n) e q h = refl
-  sound (Look aim n) e q h = refl
-  sound (Grab aim n) e q h = refl
-  sound (Fill n d r done write after) e q h = refl
-  sound (Waiting n d write after) e q h = refl
-  sound (Body n carry done write after) e q h = refl
-  sound (Unlock n after) e q h = refl
-  sound (Leave n carry after) e q h = refl
-  sound (Top post node) e q h = refl
-  sound (Raise post node r done) e q h = refl
-  sound (Swap post node r) e q h = refl
-  sound Ended e q h = refl
+  sound ph e q h = refl
 
 pub never_senseless : (p : ConfigParts) → IsSetting p → NeverSenseless p
 never_senseless p ok words log Has Out i a e inv h q =

@@ -23,19 +23,19 @@ use Rattle.sh_read.specs.Reads.{Reads, accepted, answer_to, left_by, progress_of
 use Rattle.sh_descend.specs.declared.Hop.{Hop}
 use Rattle.sh_descend.specs.declared.Hop.TheVariants.{Here, Right, Down, Restart}
 use Rattle.sh_descend.specs.Descent.{hop_of, level_of}
-use Rattle.sh_client.specs.declared.state.Post.{Post}
-use Rattle.sh_client.specs.declared.state.Aim.{Aim}
-use Rattle.sh_client.specs.declared.state.Aim.TheVariants.{Own, Posts}
-use Rattle.sh_client.specs.declared.state.Way.TheVariants as way
-use Rattle.sh_client.specs.declared.state.Decision.{Decision}
-use Rattle.sh_client.specs.declared.state.Decision.TheVariants as decision
+use Rattle.sh_decide.specs.declared.state.Post.{Post}
+use Rattle.sh_decide.specs.declared.state.Aim.{Aim}
+use Rattle.sh_decide.specs.declared.state.Aim.TheVariants.{Own, Posts}
+use Rattle.sh_decide.specs.declared.state.Way.TheVariants as way
+use Rattle.sh_decide.specs.declared.state.Decision.{Decision}
+use Rattle.sh_decide.specs.declared.state.Decision.TheVariants as decision
 use Rattle.sh_client.specs.declared.state.Phase.{Phase}
-use Rattle.sh_client.specs.declared.state.Phase.TheVariants.{Idle, Root, Read, Draw, Look, Grab, Hold, Seek, Fill, Waiting, Body, Unlock, Leave, Top, Raise, Swap, Ended}
+use Rattle.sh_client.specs.declared.state.Phase.TheVariants.{Root, Read, Hold, Seek}
 use Rattle.sh_client.specs.Machine.{Machine, to}
-use Rattle.sh_client.specs.Aims.{is_node, key_of, takes_lock, target}
-use Rattle.sh_client.specs.Leaves.{are_keys_once, index_of, version_at}
-use Rattle.sh_client.specs.Ways.{is_below, way_by, way_here}
-use Rattle.sh_client.specs.Deciding.{change_at, decided_by, decided_here, has_separator, post_in, put_in, put_into, del_in, unless_worn, update_in}
+use Rattle.sh_decide.specs.Aims.{is_node, key_of, takes_lock, target}
+use Rattle.sh_decide.specs.Leaves.{are_keys_once, index_of, version_at}
+use Rattle.sh_decide.specs.Ways.{is_below, way_by, way_here}
+use Rattle.sh_decide.specs.Deciding.{change_at, decided_by, decided_here, has_separator, post_in, put_in, put_into, del_in, unless_worn, update_in}
 use Rattle.sh_client.specs.Splitting.{chunk_taken, growing, grown, halved_by, sought_by, splitting, walked}
 use Rattle.sh_client.specs.Feeds.{arrived, did, fed_in, held_by, hold_by, loaded, read_by, reading, went}
 use Rattle.sh_core.specs.Senses.{is_other_kind, is_wrong, is_wrong_by, is_wrong_here, lacks_answer, of_image, of_read, of_walk, strays, strays_by, is_at_root, gives_back, leaves_off, starts_again, is_senseless_in, IsMade, AreAllCases}
@@ -55,13 +55,9 @@ module _ (m : Machine) where
   covers : (c : Call) (aim : Aim) (image : Image) → ((low high : ℕ) → c ≢ call.Range low high) → lacks_answer c aim image ≡ is_at_root (went m aim image (way_here c aim m.reads.node image)).phase
   covers c (Posts post) (LeafImage a) h = refl
   covers c (Posts post) (InnerImage a) h = refl
-  covers (call.Get key) Own (LeafImage a) h = refl
-  covers (call.Get key) Own (InnerImage a) h = refl
-  covers (call.Put key value) Own (LeafImage a) h = refl
-  covers (call.Put key value) Own (InnerImage a) h = refl
-  covers (call.Del key) Own (LeafImage a) h = refl
-  covers (call.Del key) Own (InnerImage a) h = refl
   covers (call.Range low high) Own image h = absurd (h low high refl)
+  covers c Own (LeafImage a) h = refl
+  covers c Own (InnerImage a) h = refl
 
   leads : (p : ConfigParts) (c : Call) (aim : Aim) (image : Image) (hop : Hop) → ((low high : ℕ) → c ≢ call.Range low high) → strays_by p c aim image hop ≡ is_at_root (went m aim image (way_by p c aim m.reads.node image hop)).phase
   leads p c aim image Here h = covers c aim image h
@@ -173,15 +169,8 @@ module _ (m : Machine) where
   halves aim depth image None e = refl
 
   does : (aim : Aim) (depth : ℕ) (image : Image) (d : Decision) → (d ≡ decision.Split → is_other_kind aim image ≡ false) → is_restart d ≡ is_off (did m aim depth image d)
-  does aim depth image decision.Restart h = refl
-  does aim depth image (decision.Right n) h = refl
-  does aim depth image decision.Absent h = refl
-  does aim depth image (decision.Entry i) h = refl
-  does aim depth image (decision.Rewrite i) h = refl
-  does aim depth image (decision.Worn version) h = refl
   does aim depth image decision.Split h = halves aim depth image (lowest m.spare) (h refl)
-  does aim depth image decision.Skip h = refl
-  does aim depth image decision.Add h = refl
+  does aim depth image d h = refl
 
   holds : (aim : Aim) (depth : ℕ) (o : Option Image) → takes_lock m.call aim ≡ true → of_image (λ (x : Image). is_wrong m.setting m.call aim x) o ≡ is_off (held_by m aim depth o)
   holds aim depth None h = refl
@@ -233,19 +222,7 @@ module _ (m : Machine) (word : ℕ) where
   in_phase (Read aim top) h = reads (loaded m word) aim top (progress_of m.setting m.reads word) h
   in_phase (Hold aim depth) h = feeds aim depth (nat_lt (length (word ∷ m.reads.loaded)) (node_size m.setting)) h
   in_phase (Seek aim depth) h = seeks (walked m word) aim depth (walk_wants m.setting (walk_fed m.setting m.walk word))
-  in_phase Idle h = refl
-  in_phase (Draw aim n) h = refl
-  in_phase (Look aim n) h = refl
-  in_phase (Grab aim n) h = refl
-  in_phase (Fill n d fresh done write after) h = refl
-  in_phase (Waiting n d write after) h = refl
-  in_phase (Body n carry done write after) h = refl
-  in_phase (Unlock n after) h = refl
-  in_phase (Leave n carry after) h = refl
-  in_phase (Top post root) h = refl
-  in_phase (Raise post root fresh done) h = refl
-  in_phase (Swap post root fresh) h = refl
-  in_phase Ended h = refl
+  in_phase ph h = refl
 
 pub are_all_cases : AreAllCases
 are_all_cases m word h = in_phase m word m.phase h

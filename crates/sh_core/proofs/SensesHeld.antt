@@ -6,7 +6,7 @@ use Rattle.sh_base.specs.declared.config.ConfigParts.{ConfigParts}
 use Rattle.sh_base.specs.Setting.{node_size, IsSetting}
 use Rattle.sh_map.specs.declared.call.Call.{Call}
 use Rattle.sh_map.specs.declared.call.Reply.{Reply}
-use Rattle.sh_map.specs.Calls.{IsInRange, IsKey}
+use Rattle.sh_map.specs.Calls.{IsKey}
 use Rattle.sh_image.specs.declared.inner.Pair.{Pair}
 use Rattle.sh_image.specs.declared.inner.Image.{Image}
 use Rattle.sh_image.specs.declared.inner.Image.TheVariants.{Leaf as LeafImage, Inner as InnerImage}
@@ -30,15 +30,15 @@ use Rattle.sh_scene.specs.Ground.{Ground}
 use Rattle.sh_ends.proofs.InnerEnds.{is_new}
 use Rattle.sh_known.specs.Hand.{IsImageOf}
 use Rattle.sh_known.proofs.HandLemmas.{inner_image, right_named, down_named, down_inner, never_restart}
-use Rattle.sh_client.specs.declared.state.Post.{Post}
-use Rattle.sh_client.specs.declared.state.Aim.{Aim}
-use Rattle.sh_client.specs.declared.state.Aim.TheVariants.{Own, Posts}
-use Rattle.sh_client.specs.declared.state.Decision.TheVariants as decision
+use Rattle.sh_decide.specs.declared.state.Post.{Post}
+use Rattle.sh_decide.specs.declared.state.Aim.{Aim}
+use Rattle.sh_decide.specs.declared.state.Aim.TheVariants.{Own, Posts}
+use Rattle.sh_decide.specs.declared.state.Decision.TheVariants as decision
 use Rattle.sh_client.specs.declared.state.Phase.TheVariants.{Hold as Holds}
 use Rattle.sh_client.specs.Machine.{Machine}
-use Rattle.sh_client.specs.Aims.{is_node, key_of, target}
-use Rattle.sh_client.specs.Deciding.{decided_by, decided_here, has_separator}
-use Rattle.sh_client.proofs.IndexLemmas.{once_is}
+use Rattle.sh_decide.specs.Aims.{key_of, target}
+use Rattle.sh_decide.specs.Deciding.{decided_by, decided_here, has_separator}
+use Rattle.sh_decide.proofs.IndexLemmas.{once_is}
 use Rattle.sh_core.specs.Actors.{Actor}
 use Rattle.sh_core.specs.Fits.{IsToSplit, IsThere, Owes, duty_of}
 use Rattle.sh_core.specs.Keeps.{Keeps}

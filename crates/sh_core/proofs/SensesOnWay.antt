@@ -24,10 +24,10 @@ use Rattle.sh_scene.specs.Ground.{Ground}
 use Rattle.sh_known.specs.Hand.{IsNamed, IsImageOf}
 use Rattle.sh_known.proofs.Fed.{fed_node}
 use Rattle.sh_known.proofs.HandLemmas.{right_named, down_named, down_inner, here_is, never_restart}
-use Rattle.sh_client.specs.declared.state.Aim.{Aim}
-use Rattle.sh_client.specs.declared.state.Aim.TheVariants.{Own, Posts}
-use Rattle.sh_client.specs.Aims.{is_node, key_of, target}
-use Rattle.sh_client.specs.Ways.{is_below}
+use Rattle.sh_decide.specs.declared.state.Aim.{Aim}
+use Rattle.sh_decide.specs.declared.state.Aim.TheVariants.{Own, Posts}
+use Rattle.sh_decide.specs.Aims.{is_node, key_of, target}
+use Rattle.sh_decide.specs.Ways.{is_below}
 use Rattle.sh_core.specs.Fits.{IsOnWay, HasRead, Reaches}
 use Rattle.sh_core.specs.Senses.{lacks_answer, strays, strays_by, of_image, of_read}
 use Rattle.sh_core.proofs.UnderLock.{not_lt}

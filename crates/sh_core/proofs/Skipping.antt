@@ -30,6 +30,7 @@ use Rattle.sh_client.specs.Machine.{Machine, up}
 use Rattle.sh_core.specs.Actors.{Actor, ending}
 use Rattle.sh_core.specs.Fits.{IsDecided, Owes, Fits}
 use Rattle.sh_core.specs.Keeps.{holding, pending, Hands, Waits, Skips, IsAtWork, Keeps}
+use Rattle.sh_core.proofs.Causes.{decided_cause}
 use Rattle.sh_core.proofs.Others.{owes_on}
 use Rattle.sh_core.proofs.Frame.{next, me, at, with, goes_on, ends_now, decided_ends, SameNodes, same_grows, skips_on}
 use Rattle.sh_core.proofs.Roots.{pending_skipped, posted_skipped, decided_entry}
@@ -134,12 +135,13 @@ module _ (p : ConfigParts) (ok : IsSetting p) (now : List ℕ) (s u : Scene) (i 
       → pending i (at p i m ph) ph ≡ entries_by i m.call m.reply → Keeps p t i (next a N (with p i m tally reads walk body right (Waiting node depth Nothing Ends)))
   keeps_skipped tally reads walk body right node depth sum held real hands was =
       let to : Phase = Waiting node depth Nothing Ends in
-      goes_on p s t i N (me p i a m ph) (with p i m tally reads walk body right to) k same.log k.seen (omega arith) (work_skipped a.first tally reads walk body right to sum (held, (refl, skips_decided), real) hands) (sym was)
+      goes_on p s t i N (me p i a m ph) (with p i m tally reads walk body right to) k same.log same.counts k.seen (omega arith) (work_skipped a.first tally reads walk body right to sum (held, (refl, skips_decided), real) hands) (sym was)
 
   -- or it has no lock, and ends now
   pub keeps_ended : (tally : Tally) (reads : Reads) (walk : Walk) (body right : List ℕ) → tally.skipped_spent + tally.skipped_worn ≡ count + 1 → Hands u i None → pending i (at p i m ph) ph ≡ entries_by i m.call m.reply
       → Keeps p t i (ending i (me p i a m ph) s.log (with p i m tally reads walk body right Ended))
   keeps_ended tally reads walk body right sum hands was =
       let w = subst (Owes s i a.first a.point a.seen m.call m.reply) duty k.work.owes in
-      let end = decided_ends p s s.log [] i a m (sym (append-nil s.log)) k.seen k.first m.call m.reply (decided_entry p s i a.first a.point a.seen m.call m.reply w.entry) in
-      ends_now p s t i (me p i a m ph) (with p i m tally reads walk body right Ended) s.log k same.log (omega arith) k.seen (work_skipped N tally reads walk body right Ended sum refl hands) end.answered end.from end.past was refl
+      let decided = decided_entry p s i a.first a.point a.seen m.call m.reply w.entry in
+      let end = decided_ends p s s.log [] i a m (sym (append-nil s.log)) k.seen k.first m.call m.reply decided in
+      ends_now p s t i (me p i a m ph) (with p i m tally reads walk body right Ended) s.log k same.log same.counts (omega arith) k.seen (work_skipped N tally reads walk body right Ended sum refl hands) end.answered (decided_cause p s s.log i a k.seen m.call m.reply decided) end.from end.past was refl

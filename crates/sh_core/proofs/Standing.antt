@@ -1,9 +1,8 @@
 -- The image of a node that stands, and the decisions on it that its hop leads to.
-use Rattle.std.proofs.Common.{◌≡◌, ℕ, zero, suc, Bool, true, false, List, Option, refl, sym, ap, ◌∙◌, subst, arith}
+use Rattle.std.proofs.Common.{◌≡◌, ℕ, zero, suc, Bool, true, false, List, refl, sym, ap, ◌∙◌, subst, arith}
 use Rattle.std.specs.Prelude.{if◌then◌else◌}
 use Rattle.sh_base.specs.declared.config.ConfigParts.{ConfigParts}
 use Rattle.sh_base.specs.Setting.{IsSetting}
-use Rattle.sh_map.specs.Calls.{IsKey}
 use Rattle.sh_image.specs.declared.inner.Image.{Image}
 use Rattle.sh_image.specs.declared.inner.Image.TheVariants.{Leaf as LeafImage, Inner as InnerImage}
 use Rattle.sh_image.specs.Leaf.{Leaf, leaf_in, Spells}
@@ -18,10 +17,8 @@ use Rattle.sh_scene.specs.Nodes.{level_in}
 use Rattle.sh_scene.proofs.Spelled.{leaf_is, inner_is}
 use Rattle.sh_known.specs.Hand.{IsImageOf}
 use Rattle.sh_known.proofs.HandLemmas.{inner_image, right_named}
-use Rattle.sh_decide.specs.declared.state.Post.{Post}
 use Rattle.sh_client.specs.declared.state.Tally.{Tally}
 use Rattle.sh_decide.specs.declared.state.Aim.{Aim}
-use Rattle.sh_decide.specs.declared.state.Aim.TheVariants.{Own, Posts}
 use Rattle.sh_client.specs.declared.state.Then.TheVariants.{Starts, Takes}
 use Rattle.sh_decide.specs.declared.state.Decision.TheVariants as decision
 use Rattle.sh_client.specs.declared.state.Phase.TheVariants.{Hold as Holds}
@@ -30,7 +27,6 @@ use Rattle.sh_decide.specs.Aims.{is_node, key_of, target}
 use Rattle.sh_decide.specs.Deciding.{decided_by, decided_here}
 use Rattle.sh_client.specs.Feeds.{did}
 use Rattle.sh_core.specs.Actors.{Actor}
-use Rattle.sh_core.specs.Fits.{Owes, duty_of}
 use Rattle.sh_core.proofs.Frame.{me, with, Before}
 use Rattle.sh_core.proofs.OnWay.{aim_key}
 use Rattle.sh_core.proofs.UnderLock.{Lands, gives}

@@ -31,7 +31,7 @@ use Rattle.sh_core.proofs.Frame.{me, at, with, goes_on, work_with, same_grows, B
 use Rattle.sh_core.proofs.Locks.{Claim}
 use Rattle.sh_core.proofs.Raising.{work_raised}
 use Rattle.sh_core.proofs.Skipping.{spent_more, skips_act, keeps_ended}
-use Rattle.sh_core.proofs.Walking.{Counts, Reached, counted_on, counts_alone, drawn_on, event_is, rest_of, takes_chunk, with_counters, walks}
+use Rattle.sh_core.proofs.Walking.{Counts, Reached, counted_on, counted_rise, counts_alone, drawn_on, event_is, rest_of, takes_chunk, with_counters, walks}
 
 module _ (p : ConfigParts) (ok : IsSetting p) (words : List ℕ) (Has Now : ℕ → Actor → Type 0) (Out : ℕ → ℕ → ℕ → Type 0) (i : ℕ) (s : Scene) (b : Before p words Has Out s) (a : Actor) (m : Machine) (post : Post) (root : ℕ)
     (h : Has i (me p i a m (Top post root))) where
@@ -58,7 +58,7 @@ module _ (p : ConfigParts) (ok : IsSetting p) (words : List ℕ) (Has Now : ℕ 
           let t : Scene = with_counters s f in
           let same = counts_alone p i s now f c in
           let below = below_on p s t i 0 0 0 0 (same_grows s t i 0 0 same (omega arith)) post root K.work.fits.1 in
-          record { scene = t; act = c.act; log = refl; counts = λ u. refl; keeps = goes_on p s t i N (me p i a m ph) (V v) K refl K.seen (omega arith) (work_with p s t i a.first a.point a.seen N m ph K.work same K.seen m.tally m.reads v m.body m.right ph refl (K.work.fits.0, below, here) K.work.hands) refl }
+          record { scene = t; act = c.act; log = refl; counts = λ u. refl; keeps = goes_on p s t i N (me p i a m ph) (V v) K refl c.rise K.seen (omega arith) (work_with p s t i a.first a.point a.seen N m ph K.work same K.seen m.tally m.reads v m.body m.right ph refl (K.work.fits.0, below, here) K.work.hands) refl }
       by (chunk.Got server c) k = absurd k
       by chunk.AllSpent k = absurd k
 
@@ -72,7 +72,7 @@ module _ (p : ConfigParts) (ok : IsSetting p) (words : List ℕ) (Has Now : ℕ 
         act = act;
         log = refl;
         counts = λ u. refl;
-        keeps = goes_on p s t i N (me p i a m ph) (F v (chunk.Got server (s.counter server))).client K refl K.seen (omega arith)
+        keeps = goes_on p s t i N (me p i a m ph) (F v (chunk.Got server (s.counter server))).client K refl (counted_rise s server) K.seen (omega arith)
             (work_raised p s t i a.first a.point a.seen N m ph K.work gr (λ k. refl) m.reads v m.body (rest_of p server (s.counter server)) post root fresh (takes_chunk p ok s i server) K.work.fits.0 (below_on p s t i a.first a.point a.seen N gr post root K.work.fits.1) K.work.hands) refl;
       }
 

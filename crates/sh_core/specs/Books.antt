@@ -1,13 +1,15 @@
 -- The book of all calls that have ended.
-use Rattle.std.specs.Prelude.{◌≡◌, ◌⊎◌, ℕ, ◌<◌, ◌==◌, false, true, List, [], ◌∷◌, filter, map, slice_get, AllPairs, Any, Some}
+use Rattle.std.specs.Prelude.{◌≡◌, ◌⊎◌, ℕ, ◌<◌, ◌≤◌, ◌==◌, false, true, List, [], ◌∷◌, filter, length, map, slice_get, slice_index, AllPairs, Any, Some}
 use Rattle.std.specs.List.{AllByRecursion}
 use Rattle.sh_base.specs.declared.config.ConfigParts.{ConfigParts}
+use Rattle.sh_base.specs.Layout.{counter_word}
 use Rattle.sh_map.specs.declared.log.Entry.{Entry as LogEntry}
 use Rattle.sh_map.specs.declared.book.Done.{Done}
 use Rattle.sh_map.specs.Made.{entries_by}
 use Rattle.sh_map.specs.Book.{IsClosed, IsLawful, IsOwn}
 use Rattle.sh_client.specs.Rests.{is_resting}
-use Rattle.sh_core.specs.Actors.{Actor}
+use Rattle.sh_core.specs.Actors.{Actor, AreAnswered, AreInOrder}
+use Rattle.sh_core.specs.Causes.{HaveCauses}
 use Rattle.sh_core.specs.Core.{Inv}
 
 -- an ended call with another number
@@ -43,3 +45,22 @@ pub record IsLawfulBook (Has : ℕ → Actor → Type 0) (log : List LogEntry) (
 -- The book of the actors' calls is lawful at each moment.
 abbrev pub BooksAreLawful : ConfigParts → Type 1
 BooksAreLawful p = (words : List ℕ) (log : List LogEntry) (Has : ℕ → Actor → Type 0) (Out : ℕ → ℕ → ℕ → Type 0) (dones : List Done) → Inv p words log Has Out → IsBookOf Has dones → IsLawfulBook Has log dones
+
+-- the server's counter in memory
+abbrev pub counter_in : ConfigParts → (words : List ℕ) → (server : ℕ) → ℕ
+counter_in p words server = slice_index words (counter_word p server)
+
+-- Each refusal has its cause, at each moment: the counters of a put that was full are spent for good.
+abbrev pub RefusalsHaveCauses : ConfigParts → Type 1
+RefusalsHaveCauses p = (words : List ℕ) (log : List LogEntry) (Has : ℕ → Actor → Type 0) (Out : ℕ → ℕ → ℕ → Type 0) (dones : List Done) → Inv p words log Has Out → IsBookOf Has dones → HaveCauses p (counter_in p words) log dones
+
+-- What a seat's calls were answered: at a point of the log, which is the least one of a get and of a delete that found
+-- nothing, and none before what the seat had seen when the call began.
+pub record HasAnswers (log : List LogEntry) (seat : ℕ) (a : Actor) : Type 0 where
+  pub answered : AreAnswered log seat a.dones
+  pub ordered : AreInOrder 0 a.dones a.first
+  pub first : a.first ≤ a.seen
+  pub seen : a.seen ≤ length log
+
+abbrev pub CallsAreAnswered : ConfigParts → Type 1
+CallsAreAnswered p = (words : List ℕ) (log : List LogEntry) (Has : ℕ → Actor → Type 0) (Out : ℕ → ℕ → ℕ → Type 0) (seat : ℕ) (a : Actor) → Inv p words log Has Out → Has seat a → HasAnswers log seat a

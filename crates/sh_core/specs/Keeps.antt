@@ -22,6 +22,7 @@ use Rattle.sh_client.specs.declared.state.Phase.TheVariants.{Idle, Root, Read, D
 use Rattle.sh_client.specs.Machine.{Machine}
 use Rattle.sh_core.specs.Actors.{Actor, AreAnswered, AreInOrder, made_by, updates}
 use Rattle.sh_core.specs.Fits.{AreSpares, Fits, Owes}
+use Rattle.sh_core.specs.Causes.{HaveCauses}
 
 -- the lock that a client holds
 abbrev pub lock_left : ConfigParts → (n : ℕ) → Option ℕ → Option ℕ
@@ -126,5 +127,6 @@ pub record Keeps (p : ConfigParts) (s : Scene) (seat : ℕ) (a : Actor) : Type 0
   pub seen : a.seen ≤ length s.log
   pub first : a.first ≤ a.seen
   pub answered : AreAnswered s.log seat a.dones
+  pub causes : HaveCauses p s.counter s.log a.dones
   pub ordered : AreInOrder 0 a.dones a.first
   pub mine : made_by seat s.log ≡ updates a.dones ++ pending seat a.client a.client.phase

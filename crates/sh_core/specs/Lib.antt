@@ -1,5 +1,6 @@
 pub mod Actors
 pub mod Fits
+pub mod Causes
 pub mod Keeps
 pub mod Core
 pub mod Senses
@@ -7,3 +8,4 @@ pub mod Opening
 pub mod Books
 pub mod Moments
 pub mod Rest
+pub mod Listed

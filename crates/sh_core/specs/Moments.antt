@@ -1,5 +1,5 @@
 -- What holds of the words in memory at each moment, told of the clients alone.
-use Rattle.std.specs.Prelude.{◌≡◌, ℕ, zero, suc, ◌<◌, ◌≤◌, true, List, length, slice_index, Option, Some, None}
+use Rattle.std.specs.Prelude.{◌≡◌, ◌⊎◌, ℕ, zero, suc, ◌<◌, ◌≤◌, true, List, length, slice_index, Option, Some, None}
 use Rattle.std.specs.List.{concat}
 use Rattle.sh_base.specs.declared.config.ConfigParts.{ConfigParts}
 use Rattle.sh_base.specs.Setting.{all_locks, pool_words}
@@ -11,7 +11,7 @@ use Rattle.sh_tree.specs.Lists.{is_in}
 use Rattle.sh_tree.specs.Tree.{IsTree, map_in}
 use Rattle.sh_scene.specs.Scene.{Owner, Seat, Right, owner_word}
 use Rattle.sh_client.specs.declared.state.Phase.{Phase}
-use Rattle.sh_client.specs.declared.state.Phase.TheVariants.{Idle, Root as RootPhase, Read, Draw, Look, Grab, Hold, Seek, Fill, Waiting, Body, Unlock, Leave, Top, Raise, Swap, Ended}
+use Rattle.sh_client.specs.declared.state.Phase.TheVariants.{Hold, Seek, Fill, Waiting, Body, Leave}
 use Rattle.sh_core.specs.Actors.{Actor}
 use Rattle.sh_core.specs.Keeps.{holding}
 use Rattle.sh_core.specs.Core.{Inv}
@@ -23,22 +23,7 @@ writes_from n (suc done) = Some n
 
 abbrev pub written_node : Phase → Option ℕ
 written_node (Body n carry done write after) = writes_from n done
-written_node Idle = None
-written_node (RootPhase aim) = None
-written_node (Read aim top) = None
-written_node (Draw aim n) = None
-written_node (Look aim n) = None
-written_node (Grab aim n) = None
-written_node (Hold aim depth) = None
-written_node (Seek aim depth) = None
-written_node (Fill n depth fresh done write after) = None
-written_node (Waiting n depth write after) = None
-written_node (Unlock n after) = None
-written_node (Leave n carry after) = None
-written_node (Top post root) = None
-written_node (Raise post root fresh done) = None
-written_node (Swap post root fresh) = None
-written_node Ended = None
+written_node phase = None
 
 -- a seat's client has a WRITE of the node under way
 pub record IsWritten (Has : ℕ → Actor → Type 0) (n : ℕ) : Type 0 where
@@ -54,6 +39,16 @@ IsStill Has Own = Unit {0}
 IsStill Has Root = Unit {0}
 IsStill Has (Counter server) = Unit {0}
 IsStill Has (Lock lock) = Unit {0}
+
+-- how often the lock that a client holds was handed over, where that's known to it; while it hands it over, once more
+abbrev pub handed_to : Phase → Option ℕ
+handed_to (Hold aim depth) = Some depth
+handed_to (Seek aim depth) = Some depth
+handed_to (Fill n depth fresh done write after) = Some depth
+handed_to (Waiting n depth write after) = Some depth
+handed_to (Body n carry done write after) = carry
+handed_to (Leave n carry after) = carry
+handed_to phase = None
 
 -- who holds a lock: a seat by what its client is at, or a compute server by a right that is out
 abbrev pub Holds : ConfigParts → (Has : ℕ → Actor → Type 0) → (Out : (lock compute depth : ℕ) → Type 0) → (lock : ℕ) → Owner → Type 0
@@ -71,14 +66,15 @@ pub record IsStanding (p : ConfigParts) (words : List ℕ) (log : List LogEntry)
   pub map : map_in p standing levels ≡ map_of log
   pub within : (n : ℕ) → IsWritten Has n → is_in (concat levels) n ≡ true
 
--- A lock has one holder at most. Its word is the number of its holder's compute server plus 1, or 0 where nobody holds it.
--- A WRITE under way is that of its node's holder. A right was handed over no more than `bound` times.
+-- A lock has one holder, and its word is the number of the holder's compute server plus 1; or nobody holds it, and its word
+-- is 0. A WRITE under way is that of its node's holder. A lock is handed over no more than `bound` times.
 pub record AreLocks (p : ConfigParts) (words : List ℕ) (Has : ℕ → Actor → Type 0) (Out : (lock compute depth : ℕ) → Type 0) : Type 0 where
   pub one : (lock : ℕ) (o u : Owner) → Holds p Has Out lock o → Holds p Has Out lock u → o ≡ u
   pub held : (lock : ℕ) (o : Owner) → lock < all_locks p → Holds p Has Out lock o → slice_index words (lock_word p lock) ≡ owner_word p o
-  pub free : (lock : ℕ) → lock < all_locks p → ((o : Owner) → Holds p Has Out lock o → ⊥) → slice_index words (lock_word p lock) ≡ 0
+  pub free : (lock : ℕ) → lock < all_locks p → ((o : Owner) × Holds p Has Out lock o) ⊎ (slice_index words (lock_word p lock) ≡ 0)
   pub writers : (n : ℕ) → (w : IsWritten Has n) → Holds p Has Out (lock_of p n) (Seat w.seat)
-  pub depth : (lock compute depth : ℕ) → Out lock compute depth → depth ≤ p.bound
+  pub rights : (lock compute depth : ℕ) → Out lock compute depth → depth ≤ p.bound
+  pub seats : (seat depth : ℕ) (a : Actor) → Has seat a → handed_to a.client.phase ≡ Some depth → depth ≤ p.bound
 
 -- each moment
 pub record IsMoment (p : ConfigParts) (words : List ℕ) (log : List LogEntry) (Has : ℕ → Actor → Type 0) (Out : (lock compute depth : ℕ) → Type 0) : Type 0 where

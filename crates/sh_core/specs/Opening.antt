@@ -1,5 +1,5 @@
--- How the invariant begins: in a laid pool that has no client, and with a new client at a seat that has none.
-use Rattle.std.specs.Prelude.{ℕ, ◌<◌, List, []}
+-- How the invariant begins: in a laid pool, and with a new client at a seat that has none.
+use Rattle.std.specs.Prelude.{◌≡◌, ℕ, ◌<◌, List, []}
 use Rattle.sh_base.specs.declared.config.ConfigParts.{ConfigParts}
 use Rattle.sh_base.specs.Setting.{all_seats}
 use Rattle.sh_map.specs.declared.log.Entry.{Entry as LogEntry}
@@ -16,9 +16,9 @@ IsFree Has seat = (a : Actor) → Has seat a → ⊥
 abbrev pub entered : ConfigParts → (seat : ℕ) → Actor
 entered p seat = record { client = fresh_machine p seat; number = 0; seen = 0; first = 0; point = 0; dones = [] }
 
--- a laid pool, with an empty log, no actor and no right
+-- a laid pool, with an empty log, new clients alone and no right
 abbrev pub LaidKeeps : ConfigParts → Type 1
-LaidKeeps p = (words : List ℕ) (Has : ℕ → Actor → Type 0) (Out : ℕ → ℕ → ℕ → Type 0) → AreLaid p words → ((seat : ℕ) → IsFree Has seat) → ((lock compute depth : ℕ) → Out lock compute depth → ⊥) → Inv p words [] Has Out
+LaidKeeps p = (words : List ℕ) (Has : ℕ → Actor → Type 0) (Out : ℕ → ℕ → ℕ → Type 0) → AreLaid p words → ((seat : ℕ) (a : Actor) → Has seat a → (seat < all_seats p) × (a ≡ entered p seat)) → ((lock compute depth : ℕ) → Out lock compute depth → ⊥) → Inv p words [] Has Out
 
 -- a seat of the setting that is free has a new client from now on
 abbrev pub EnterKeeps : ConfigParts → Type 1

@@ -1,5 +1,5 @@
--- The senseless cases: turns in which a client makes nothing of the word that it is fed but starts again. They are here by
--- the client's own terms; no client of a pool comes to one.
+-- The senseless cases: turns in which a client makes nothing of the word that it is fed, and starts again. They are said by
+-- the client alone; no client of a pool comes to one.
 use Rattle.std.specs.Prelude.{◌≡◌, ◌≢◌, ℕ, ◌&&◌, not, if◌then◌else◌, Bool, true, false, List, [], ◌∷◌, Option, Some, None}
 use Rattle.sh_base.specs.declared.config.ConfigParts.{ConfigParts}
 use Rattle.sh_base.specs.declared.event.Event.{Event}
@@ -18,18 +18,18 @@ use Rattle.sh_read.specs.Reads.{accepted, progress_of, fed_by as read_fed}
 use Rattle.sh_descend.specs.Descent.{hop_of}
 use Rattle.sh_descend.specs.declared.Hop.{Hop}
 use Rattle.sh_descend.specs.declared.Hop.TheVariants.{Here, Right, Down, Restart}
-use Rattle.sh_client.specs.declared.state.Aim.{Aim}
-use Rattle.sh_client.specs.declared.state.Aim.TheVariants.{Own, Posts}
+use Rattle.sh_decide.specs.declared.state.Aim.{Aim}
+use Rattle.sh_decide.specs.declared.state.Aim.TheVariants.{Own, Posts}
 use Rattle.sh_client.specs.declared.state.Phase.{Phase}
 use Rattle.sh_client.specs.declared.state.Phase.TheVariants.{Root, Read, Hold, Seek, Waiting}
 use Rattle.sh_client.specs.declared.state.Then.TheVariants.{Starts}
 use Rattle.sh_client.specs.declared.state.Write.TheVariants.{Nothing}
 use Rattle.sh_client.specs.declared.state.Want.TheVariants as want
 use Rattle.sh_client.specs.Machine.{Machine}
-use Rattle.sh_client.specs.Aims.{is_node, key_of, takes_lock, target}
-use Rattle.sh_client.specs.Leaves.{are_keys_once}
-use Rattle.sh_client.specs.Deciding.{has_separator}
-use Rattle.sh_client.specs.Ways.{is_below}
+use Rattle.sh_decide.specs.Aims.{is_node, key_of, takes_lock, target}
+use Rattle.sh_decide.specs.Leaves.{are_keys_once}
+use Rattle.sh_decide.specs.Deciding.{has_separator}
+use Rattle.sh_decide.specs.Ways.{is_below}
 use Rattle.sh_client.specs.Wants.{want_of}
 use Rattle.sh_client.specs.Feeds.{fed_by}
 use Rattle.sh_core.specs.Actors.{Actor}
@@ -137,7 +137,7 @@ starts_again (Hold aim depth) m = leaves_off m.phase m.reads.loaded
 starts_again (Seek aim depth) m = gives_back m.phase
 starts_again phase m = false
 
--- a get or a range takes no lock for its leaf, and no range is made
+-- only an update and a post take a lock, and ranges have no turns of their own yet
 abbrev pub IsMade : Call → Phase → Type 0
 IsMade call (Read aim top) = (low high : ℕ) → call ≢ Range low high
 IsMade call (Hold aim depth) = takes_lock call aim ≡ true

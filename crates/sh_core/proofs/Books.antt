@@ -43,17 +43,7 @@ in_order_renumbered low (d ∷ ds) high h = (h.0, h.1, in_order_renumbered (d.po
 module _ (log : List Entry) where
   row_numbered : (n : ℕ) (d : Done) (c : Call) (r : Reply) → AnswersAt log d c r → AnswersAt log (numbered n d) c r
   row_numbered n d (call.Get key) (reply.Some value) h = h
-  row_numbered n d (call.Get key) reply.None h = h
-  row_numbered n d (call.Put key value) (reply.Some old) h = h
-  row_numbered n d (call.Put key value) reply.None h = h
-  row_numbered n d (call.Del key) (reply.Some old) h = h
-  row_numbered n d (call.Del key) reply.None h = h
-  row_numbered n d (call.Range low high) (reply.Rows upto) h = h
-  row_numbered n d (call.Put key value) reply.Full h = h
-  row_numbered n d (call.Put key value) reply.NoSplitYet h = h
-  row_numbered n d (call.Put key value) (reply.Worn version) h = h
-  row_numbered n d (call.Del key) (reply.Worn version) h = h
-  row_numbered n d c r h = absurd h
+  row_numbered n d c r h = h
 
   answers_numbered : (n : ℕ) (d : Done) → Answers log d → Answers log (numbered n d)
   answers_numbered n d h = record { within = h.within; row = row_numbered n d d.call d.reply h.row }

@@ -1,5 +1,5 @@
 -- A call begins, or is taken away when it has ended; and what there is where all clients rest.
-use Rattle.std.proofs.Common.{◌≡◌, ◌≢◌, ℕ, true, List, [], ◌++◌, length, Option, None, refl, sym, ap, ◌∙◌, subst, arith}
+use Rattle.std.proofs.Common.{◌≡◌, ◌≢◌, ℕ, false, true, List, [], ◌++◌, length, Option, None, refl, sym, ap, ◌∙◌, subst, arith}
 use Rattle.sh_base.specs.declared.config.ConfigParts.{ConfigParts}
 use Rattle.sh_base.specs.Setting.{IsSetting}
 use Rattle.sh_map.specs.declared.log.Entry.{Entry as LogEntry}
@@ -7,7 +7,7 @@ use Rattle.sh_scene.specs.Scene.{Pending, Seat, Right, Hold, Nobody, Held, Write
 use Rattle.sh_scene.proofs.Joins.{nothing_done}
 use Rattle.sh_decide.specs.declared.state.Post.{Post}
 use Rattle.sh_client.specs.declared.state.Phase.{Phase}
-use Rattle.sh_client.specs.declared.state.Phase.TheVariants.{Idle, Root, Read, Draw, Look, Grab, Hold as Holds, Seek, Fill, Waiting, Body, Unlock, Leave, Top, Raise, Swap, Ended}
+use Rattle.sh_client.specs.declared.state.Phase.TheVariants.{Idle, Ended}
 use Rattle.sh_client.specs.Machine.{Machine}
 use Rattle.sh_client.specs.Rests.{is_resting, rests}
 use Rattle.sh_core.specs.Actors.{Actor, begun, rested, updates}
@@ -26,21 +26,10 @@ before p words log Has Out inv = record { ground = inv.ground; bounded = inv.bou
 pub nothing : (p : ConfigParts) (s : Scene) (i f q e : ℕ) (m : Machine) (duty : Option Post) (ph : Phase) → rests ph ≡ true → Fits p s i f q e m duty ph → (duty ≡ None) × (holding p m ph ≡ None) × (pending i m ph ≡ [])
 nothing p s i f q e m duty Idle r h = (h, refl, refl)
 nothing p s i f q e m duty Ended r h = (h, refl, refl)
-nothing p s i f q e m duty (Root aim) r h = cc
-nothing p s i f q e m duty (Read aim top) r h = cc
-nothing p s i f q e m duty (Draw aim n) r h = cc
-nothing p s i f q e m duty (Look aim n) r h = cc
-nothing p s i f q e m duty (Grab aim n) r h = cc
-nothing p s i f q e m duty (Holds aim d) r h = cc
-nothing p s i f q e m duty (Seek aim d) r h = cc
-nothing p s i f q e m duty (Fill n d fresh done write after) r h = cc
-nothing p s i f q e m duty (Waiting n d write after) r h = cc
-nothing p s i f q e m duty (Body n carry done write after) r h = cc
-nothing p s i f q e m duty (Unlock n after) r h = cc
-nothing p s i f q e m duty (Leave n carry after) r h = cc
-nothing p s i f q e m duty (Top post root) r h = cc
-nothing p s i f q e m duty (Raise post root fresh done) r h = cc
-nothing p s i f q e m duty (Swap post root fresh) r h = cc
+nothing p s i f q e m duty ph r h = absurd (busy r)
+  where
+    busy : false ≡ true → ⊥
+    busy e = cc
 
 module _ (p : ConfigParts) (ok : IsSetting p) where
   pub begin_keeps : BeginKeeps p

@@ -10,7 +10,7 @@ use Rattle.sh_scene.specs.Scene.{Seat, Hold, Held, Writes, Owns, Scene}
 use Rattle.sh_decide.specs.declared.state.Post.{Post}
 use Rattle.sh_client.specs.declared.state.Write.{Write}
 use Rattle.sh_client.specs.declared.state.Phase.{Phase}
-use Rattle.sh_client.specs.declared.state.Phase.TheVariants.{Idle, Root, Read, Draw, Look, Grab, Hold as Holds, Seek, Fill, Waiting, Body, Unlock, Leave, Top, Raise, Swap, Ended}
+use Rattle.sh_client.specs.declared.state.Phase.TheVariants.{Hold as Holds, Seek, Fill, Waiting, Body, Unlock, Leave}
 use Rattle.sh_client.specs.Machine.{Machine}
 use Rattle.sh_core.specs.Actors.{Actor}
 use Rattle.sh_core.specs.Fits.{Carries, Fits, storing_hold, write_of}
@@ -45,17 +45,7 @@ module _ (p : ConfigParts) (s : Scene) (i f q e : ℕ) (m : Machine) (duty : Opt
   held_by (Body n carry done write after) h l at = let k = h.0 in storing k.depth (lock_of p n) l n done write k.held at
   held_by (Unlock n after) h l at = let k = h.0 in plain k.depth (lock_of p n) l k.held at
   held_by (Leave n (Some d) after) h l at = let k = h.0 in plain k.depth (lock_of p n) l k.held at
-  held_by (Leave n None after) h l at = absurd (no_lock l at)
-  held_by Idle h l at = absurd (no_lock l at)
-  held_by (Root aim) h l at = absurd (no_lock l at)
-  held_by (Read aim top) h l at = absurd (no_lock l at)
-  held_by (Draw aim n) h l at = absurd (no_lock l at)
-  held_by (Look aim n) h l at = absurd (no_lock l at)
-  held_by (Grab aim n) h l at = absurd (no_lock l at)
-  held_by (Top post root) h l at = absurd (no_lock l at)
-  held_by (Raise post root fresh done) h l at = absurd (no_lock l at)
-  held_by (Swap post root fresh) h l at = absurd (no_lock l at)
-  held_by Ended h l at = absurd (no_lock l at)
+  held_by ph h l at = absurd (no_lock l at)
 
   -- a client that writes a node holds its lock
   writes_held : (n k done : ℕ) → writes_from n done ≡ Some k → Some (lock_of p n) ≡ Some (lock_of p k)
@@ -64,22 +54,7 @@ module _ (p : ConfigParts) (s : Scene) (i f q e : ℕ) (m : Machine) (duty : Opt
 
   pub written_held : (ph : Phase) (k : ℕ) → written_node ph ≡ Some k → holding p m ph ≡ Some (lock_of p k)
   written_held (Body n carry done write after) k at = writes_held n k done at
-  written_held Idle k at = absurd (no_lock k at)
-  written_held (Root aim) k at = absurd (no_lock k at)
-  written_held (Read aim top) k at = absurd (no_lock k at)
-  written_held (Draw aim n) k at = absurd (no_lock k at)
-  written_held (Look aim n) k at = absurd (no_lock k at)
-  written_held (Grab aim n) k at = absurd (no_lock k at)
-  written_held (Holds aim d) k at = absurd (no_lock k at)
-  written_held (Seek aim d) k at = absurd (no_lock k at)
-  written_held (Fill n d fresh done write after) k at = absurd (no_lock k at)
-  written_held (Waiting n d write after) k at = absurd (no_lock k at)
-  written_held (Unlock n after) k at = absurd (no_lock k at)
-  written_held (Leave n carry after) k at = absurd (no_lock k at)
-  written_held (Top post root) k at = absurd (no_lock k at)
-  written_held (Raise post root fresh done) k at = absurd (no_lock k at)
-  written_held (Swap post root fresh) k at = absurd (no_lock k at)
-  written_held Ended k at = absurd (no_lock k at)
+  written_held ph k at = absurd (no_lock k at)
 
 -- a lock is handed over within the bound
 module _ (p : ConfigParts) (s : Scene) (i f q e : ℕ) (m : Machine) (duty : Option Post) (orderly : (lock : ℕ) → Orderly p s lock (s.hold lock)) where
@@ -103,18 +78,7 @@ module _ (p : ConfigParts) (s : Scene) (i f q e : ℕ) (m : Machine) (duty : Opt
   within_bound (Waiting n d write after) x h at = below (lock_of p n) d x h.0 at
   within_bound (Body n carry done write after) x h at = let k = h.0 in carried k.depth x carry k.carries at
   within_bound (Leave n (Some d) after) x h at = let k = h.0 in carried k.depth x (Some d) k.carries at
-  within_bound (Leave n None after) x h at = absurd (no_depth x at)
-  within_bound Idle x h at = absurd (no_depth x at)
-  within_bound (Root aim) x h at = absurd (no_depth x at)
-  within_bound (Read aim top) x h at = absurd (no_depth x at)
-  within_bound (Draw aim n) x h at = absurd (no_depth x at)
-  within_bound (Look aim n) x h at = absurd (no_depth x at)
-  within_bound (Grab aim n) x h at = absurd (no_depth x at)
-  within_bound (Unlock n after) x h at = absurd (no_depth x at)
-  within_bound (Top post root) x h at = absurd (no_depth x at)
-  within_bound (Raise post root fresh done) x h at = absurd (no_depth x at)
-  within_bound (Swap post root fresh) x h at = absurd (no_depth x at)
-  within_bound Ended x h at = absurd (no_depth x at)
+  within_bound ph x h at = absurd (no_depth x at)
 
 -- a seat holds the lock of its client, and no other
 held_is : (s : Scene) (i : ℕ) (h : Option ℕ) → Hands s i h → (l : ℕ) → Owns (s.hold l) (Seat i) → h ≡ Some l

@@ -15,7 +15,7 @@ use Rattle.sh_decide.specs.declared.state.Aim.TheVariants.{Own, Posts}
 use Rattle.sh_client.specs.declared.state.Then.{Then}
 use Rattle.sh_client.specs.declared.state.Then.TheVariants.{Ends, Starts, Takes}
 use Rattle.sh_client.specs.declared.state.Write.{Write}
-use Rattle.sh_client.specs.declared.state.Write.TheVariants.{Nothing, Entry, Leaf as WholeLeaf, LeftLeaf, Inner as WholeInner, LeftInner}
+use Rattle.sh_client.specs.declared.state.Write.TheVariants.{Nothing, LeftLeaf, Inner as WholeInner, LeftInner}
 use Rattle.sh_client.specs.declared.state.Phase.{Phase}
 use Rattle.sh_client.specs.declared.state.Phase.TheVariants.{Idle, Root, Read, Draw, Look, Grab, Hold as Holds, Seek, Fill, Waiting, Body, Unlock, Leave, Top, Raise, Swap, Ended}
 use Rattle.sh_client.specs.Machine.{Machine}
@@ -42,18 +42,13 @@ module _ (p : ConfigParts) (s : Scene) (i f q e : ℕ) (c : Call) (r : Reply) wh
   halves : (duty : Option Post) (es : List LogEntry) (body right : List ℕ) (n fresh : ℕ) (write : Write) (after : Then) → Owes s i f q e c r duty → PlansHalf p s i es body right n fresh write duty after → MayStand (pending_write i c r write after)
   halves duty es body right n fresh LeftLeaf after o h = inl refl
   halves duty es body right n fresh LeftInner after o h = owed duty _ h.plan.duty_is o
-  halves duty es body right n fresh Nothing after o h = absurd h
-  halves duty es body right n fresh (Entry index) after o h = absurd h
-  halves duty es body right n fresh WholeLeaf after o h = absurd h
-  halves duty es body right n fresh WholeInner after o h = absurd h
+  halves duty es body right n fresh write after o h = absurd h
 
   plans : (duty : Option Post) (spare : NodeRange) (body right : List ℕ) (n : ℕ) (write : Write) (after : Then) → Owes s i f q e c r duty → Plans p s i f q e c r spare body right n write duty after → (IsDecided p s i f q e c r → MayStand (entries_by i c r)) → MayStand (pending_write i c r write after)
   plans duty spare body right n Nothing after o h decided = follows duty after o h decided
-  plans duty spare body right n (Entry index) after o h decided = inl refl
-  plans duty spare body right n WholeLeaf after o h decided = inl refl
-  plans duty spare body right n LeftLeaf after o h decided = inl refl
   plans duty spare body right n WholeInner after o h decided = owed duty _ h.1.plan.duty_is o
   plans duty spare body right n LeftInner after o h decided = halves duty (entries_by i c r) body right n h.fresh LeftInner after o h.half
+  plans duty spare body right n write after o h decided = inl refl
 
 decided : (p : ConfigParts) (s : Scene) (i f q e : ℕ) (c : Call) (r : Reply) → IsDecided p s i f q e c r → MayStand p s i f q e c r (entries_by i c r)
 decided p s i f q e (call.Put key value) (reply.Some old) h = inr (refl, h)

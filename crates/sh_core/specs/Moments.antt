@@ -11,7 +11,7 @@ use Rattle.sh_tree.specs.Lists.{is_in}
 use Rattle.sh_tree.specs.Tree.{IsTree, map_in}
 use Rattle.sh_scene.specs.Scene.{Owner, Seat, Right, owner_word}
 use Rattle.sh_client.specs.declared.state.Phase.{Phase}
-use Rattle.sh_client.specs.declared.state.Phase.TheVariants.{Idle, Root as RootPhase, Read, Draw, Look, Grab, Hold, Seek, Fill, Waiting, Body, Unlock, Leave, Top, Raise, Swap, Ended}
+use Rattle.sh_client.specs.declared.state.Phase.TheVariants.{Hold, Seek, Fill, Waiting, Body, Leave}
 use Rattle.sh_core.specs.Actors.{Actor}
 use Rattle.sh_core.specs.Keeps.{holding}
 use Rattle.sh_core.specs.Core.{Inv}
@@ -23,22 +23,7 @@ writes_from n (suc done) = Some n
 
 abbrev pub written_node : Phase → Option ℕ
 written_node (Body n carry done write after) = writes_from n done
-written_node Idle = None
-written_node (RootPhase aim) = None
-written_node (Read aim top) = None
-written_node (Draw aim n) = None
-written_node (Look aim n) = None
-written_node (Grab aim n) = None
-written_node (Hold aim depth) = None
-written_node (Seek aim depth) = None
-written_node (Fill n depth fresh done write after) = None
-written_node (Waiting n depth write after) = None
-written_node (Unlock n after) = None
-written_node (Leave n carry after) = None
-written_node (Top post root) = None
-written_node (Raise post root fresh done) = None
-written_node (Swap post root fresh) = None
-written_node Ended = None
+written_node phase = None
 
 -- a seat's client has a WRITE of the node under way
 pub record IsWritten (Has : ℕ → Actor → Type 0) (n : ℕ) : Type 0 where
@@ -63,17 +48,7 @@ handed_to (Fill n depth fresh done write after) = Some depth
 handed_to (Waiting n depth write after) = Some depth
 handed_to (Body n carry done write after) = carry
 handed_to (Leave n carry after) = carry
-handed_to Idle = None
-handed_to (RootPhase aim) = None
-handed_to (Read aim top) = None
-handed_to (Draw aim n) = None
-handed_to (Look aim n) = None
-handed_to (Grab aim n) = None
-handed_to (Unlock n after) = None
-handed_to (Top post root) = None
-handed_to (Raise post root fresh done) = None
-handed_to (Swap post root fresh) = None
-handed_to Ended = None
+handed_to phase = None
 
 -- who holds a lock: a seat by what its client is at, or a compute server by a right that is out
 abbrev pub Holds : ConfigParts → (Has : ℕ → Actor → Type 0) → (Out : (lock compute depth : ℕ) → Type 0) → (lock : ℕ) → Owner → Type 0

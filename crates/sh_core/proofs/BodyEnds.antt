@@ -32,13 +32,12 @@ use Rattle.sh_decide.specs.Aims.{post_of}
 use Rattle.sh_client.specs.declared.state.Then.{Then}
 use Rattle.sh_client.specs.declared.state.Then.TheVariants.{Ends}
 use Rattle.sh_client.specs.declared.state.Write.{Write}
-use Rattle.sh_client.specs.declared.state.Write.TheVariants.{Nothing, Entry, Leaf as WholeLeaf, LeftLeaf}
+use Rattle.sh_client.specs.declared.state.Write.TheVariants.{Entry, Leaf as WholeLeaf, LeftLeaf}
 use Rattle.sh_client.specs.declared.state.Phase.{Phase}
 use Rattle.sh_client.specs.declared.state.Phase.TheVariants.{Body, Unlock, Leave}
 use Rattle.sh_client.specs.Machine.{Machine, up}
-use Rattle.sh_client.specs.Giving.{released}
-use Rattle.sh_core.specs.Actors.{Actor, becomes, going, AreAnswered, made_by, updates}
-use Rattle.sh_core.specs.Fits.{HasEntry, Fits, Follows, IsHolding, Carries, storing_hold, write_of}
+use Rattle.sh_core.specs.Actors.{Actor, AreAnswered, made_by, updates}
+use Rattle.sh_core.specs.Fits.{Fits, Follows, IsHolding, Carries, storing_hold, write_of}
 use Rattle.sh_core.specs.Keeps.{holding, pending, pending_then, Hands, Waits, Skips, IsAtWork, Keeps}
 use Rattle.sh_core.specs.Core.{Inv, Moves}
 use Rattle.sh_core.proofs.Logs.{made_by-append, made_by_here, answered_longer}
@@ -66,11 +65,6 @@ rel_calm n (Some d) after = tt
 pub rel_fits : (p : ConfigParts) (t : Scene) (i f q e : ℕ) (m : Machine) (duty : Option Post) (n : ℕ) (carry : Option ℕ) (after : Then) → IsHolding p t i n carry → Follows p t i f q e m.call m.reply duty after → Fits p t i f q e m duty (rel n carry after)
 rel_fits p t i f q e m duty n None after h w = (h, w)
 rel_fits p t i f q e m duty n (Some d) after h w = (h, w)
-
-pub rel_becomes : (i : ℕ) (a : Actor) (log more : List LogEntry) (p : ConfigParts) (m : Machine) (tally : Tally) (n : ℕ) (carry : Option ℕ) (after : Then)
-    → becomes i a log more (released (with p i m tally m.reads m.walk m.body m.right (Body n carry 0 Nothing after)) n carry after) ≡ going a log more (with p i m tally m.reads m.walk m.body m.right (rel n carry after))
-rel_becomes i a log more p m tally n None after = refl
-rel_becomes i a log more p m tally n (Some d) after = refl
 
 -- at a body's last store but one a WRITE is under way
 pub storing_at : (i d n : ℕ) (write : Write) (body : List ℕ) (done k : ℕ) → done ≡ k → 0 < k → storing_hold i d n write body done ≡ Writes i d n (write_of write body k)
@@ -115,10 +109,6 @@ module _ (p : ConfigParts) (ok : IsSetting p) (words : List ℕ) (Has Now : ℕ 
         ordered = k.ordered;
         mine = ap (made_by i) log ∙ made_by-append i s.log (entry ∷ []) ∙ ap (λ (es : List LogEntry). made_by i s.log ++ es) (made_by_here i entry by) ∙ ap (λ (es : List LogEntry). es ++ entry ∷ []) (k.mine ∙ ap (λ (es : List LogEntry). updates a.dones ++ es) was ∙ append-nil (updates a.dones)) ∙ ap (λ (es : List LogEntry). updates a.dones ++ es) (sym is);
       } count calm mv)
-
-  -- what its entry is then
-  pub has_entry : (t : Scene) (entry : LogEntry) (k : Keeps p s i a) → t.log ≡ s.log ++ entry ∷ [] → entries_by i m.call m.reply ≡ entry ∷ [] → HasEntry t.log i a.first N (N + 1) m.call m.reply
-  has_entry t entry k log is = record { entry = entry; is = is; stands = subst (λ (es : List LogEntry). slice_get es N ≡ Some entry) (sym log) (at_last s.log entry); from = omega (arith, k.first, k.seen); below = omega arith }
 
   pub keeps_hands : (t : Scene) (l : ℕ) (x : Hold) → t.hold ≡ put s.hold l x → Hands s i (Some l) → Hands t i (Some l)
   keeps_hands t l x e h k ne o = h k ne (subst (λ (z : Hold). Owns z (Seat i)) (ap (λ (f : ℕ → Hold). f k) e ∙ put_else s.hold l x k ne) o)

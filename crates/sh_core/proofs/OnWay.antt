@@ -1,5 +1,5 @@
 -- READs without a lock.
-use Rattle.std.proofs.Common.{◌≡◌, ◌≢◌, ℕ, ◌+◌, ◌-◌, ◌<◌, ◌≤◌, Bool, true, false, List, [], ◌∷◌, ◌++◌, length, get_or, Option, Some, None, refl, sym, ap, ◌∙◌, subst, arith, eqb-true}
+use Rattle.std.proofs.Common.{◌≡◌, ◌≢◌, ℕ, ◌+◌, ◌-◌, ◌<◌, Bool, true, false, List, [], ◌∷◌, ◌++◌, length, get_or, Option, Some, None, refl, sym, ap, ◌∙◌, subst, arith, eqb-true}
 use Rattle.std.specs.Prelude.{◌==◌, ◌&&◌, if◌then◌else◌, nat_lt}
 use Rattle.std.proofs.lemmas.Bool.Decides.{nat_tests}
 use Rattle.sh_base.specs.declared.config.ConfigParts.{ConfigParts}
@@ -56,13 +56,8 @@ use Rattle.sh_core.proofs.Spares.{takes_lowest, none_spare}
 use Rattle.sh_core.proofs.Raising.{work_raised, begins_walk}
 use Rattle.sh_scene.proofs.Joins.{nothing_done}
 use Rattle.sh_core.proofs.Locks.{Claim, quiet}
+use Rattle.sh_core.proofs.UnderLock.{is_lt, not_lt}
 use Rattle.sh_core.proofs.Images.{IsSeenLeaf, more_known, seen_leaf, seen_inner, right_reaches}
-
-is_lt : (a b : ℕ) → nat_lt a b ≡ true → a < b
-is_lt a b e = grind (arith, nat_tests)
-
-not_lt : (a b : ℕ) → nat_lt a b ≡ false → b ≤ a
-not_lt a b e = grind (arith, nat_tests)
 
 -- a reply with what the map had at a key is a get's
 get_ends : (p : ConfigParts) (log : List LogEntry) (i : ℕ) (a : Actor) (key : ℕ) (had : Option (List ℕ)) → HadAt log a.first key had → IsEnding log i (length log) record { n = a.number; seat = i; call = call.Get key; reply = reply_with had; first = a.first; point = point_of log a.first a.point (call.Get key) (reply_with had); rows = [] }

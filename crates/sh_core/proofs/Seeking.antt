@@ -17,7 +17,6 @@ use Rattle.sh_image.specs.Inner.{Inner, inner_in}
 use Rattle.sh_alloc.specs.declared.state.Walk.{Walk}
 use Rattle.sh_alloc.specs.declared.state.ChunkWant.{ChunkWant}
 use Rattle.sh_alloc.specs.declared.state.ChunkWant.TheVariants as chunk
-use Rattle.sh_alloc.specs.Chunks.{WantsEvent}
 use Rattle.sh_alloc.specs.Walks.{want_of as walk_wants}
 use Rattle.sh_read.specs.Reads.{accepted}
 use Rattle.sh_scene.specs.Scene.{Scene}
@@ -42,12 +41,12 @@ use Rattle.sh_core.specs.Fits.{AreSpent, IsDecided, IsPosting, IsSeeking, Owes}
 use Rattle.sh_core.specs.Keeps.{Keeps}
 use Rattle.sh_core.specs.Core.{WantsAdd}
 use Rattle.sh_core.proofs.Others.{named_on, owes_on}
-use Rattle.sh_core.proofs.Frame.{me, with, goes_on, work_with, same_grows, Before, anew, work_anew}
+use Rattle.sh_core.proofs.Frame.{me, with, work_with, same_grows, Before, anew, work_anew}
 use Rattle.sh_core.proofs.Locks.{Claim}
 use Rattle.sh_core.proofs.Skipping.{spent_more, skips_act, keeps_skipped}
 use Rattle.sh_core.proofs.LeafHalves.{SplitsFor, half_fits, half_posts, left_words, right_words, put_misses, to_split}
 use Rattle.sh_core.proofs.InnerHalves.{inner_posts, left_pairs, pair_half_fits, post_to_split, right_pairs}
-use Rattle.sh_core.proofs.Walking.{Counts, Reached, counted_on, counted_rise, counts_alone, drawn_on, event_is, rest_of, takes_chunk, with_counters, walks}
+use Rattle.sh_core.proofs.Walking.{Counts, Reached, counted_on, counts_alone, counts_to, draws_to, drawn_on, event_is, rest_of, takes_chunk, with_counters, walks}
 
 module _ (p : ConfigParts) (ok : IsSetting p) (words : List ℕ) (Has Now : ℕ → Actor → Type 0) (Out : ℕ → ℕ → ℕ → Type 0) (i : ℕ) (s : Scene) (b : Before p words Has Out s) (a : Actor) (m : Machine) (depth : ℕ) where
   abbrev n : ℕ
@@ -70,26 +69,15 @@ module _ (p : ConfigParts) (ok : IsSetting p) (words : List ℕ) (Has Now : ℕ 
     real = let there = K.work.fits.1 in (b.ground.sits n (target aim) there.low there.linked).real
 
     -- the walk goes on
-    going : (now : List ℕ) (f : ℕ → ℕ) (v : Walk) → Counts p i s now f → IsSeeking p (with_counters s f) v m.spare → Reached p i s now f (F aim v (walk_wants p v))
-    going now f v c here = by (walk_wants p v) here.wants
-      where
-        by : (w : ChunkWant) → WantsEvent w → Reached p i s now f (F aim v w)
-        by (chunk.Event e) k =
-            let t : Scene = with_counters s f in
-            let same = counts_alone p i s now f c in
-            let z = K.work.fits in
-            let there = named_on p s t i 0 0 0 0 (same_grows s t i 0 0 same (omega arith)) (target aim) n (key_of m.call aim) z.1 in
-            record {
-              scene = t;
-              act = c.act;
-              log = refl;
-              counts = λ u. refl;
-              keeps = goes_on p s t i N (me p i a m (Seek aim depth)) (V aim v) K refl c.rise K.seen (omega arith)
-                  (work_with p s t i a.first a.point a.seen N m (Seek aim depth) K.work same K.seen m.tally m.reads v m.body m.right (Seek aim depth) refl
-                  (z.0, there, z.2, record { standing = z.3.standing; image = z.3.image; accepted_is = z.3.accepted_is; split = z.3.split }, here) K.work.hands) refl;
-            }
-        by (chunk.Got server c) k = absurd k
-        by chunk.AllSpent k = absurd k
+    going : (now : List ℕ) (f : ℕ → ℕ) (v : Walk) (e : Event) → Counts p i s now f → IsSeeking p (with_counters s f) v m.spare → Reached p i s now f (F aim v (chunk.Event e))
+    going now f v e c here =
+        let t : Scene = with_counters s f in
+        let same = counts_alone p i s now f c in
+        let z = K.work.fits in
+        let there = named_on p s t i 0 0 0 0 (same_grows s t i 0 0 same (omega arith)) (target aim) n (key_of m.call aim) z.1 in
+        counts_to p i s a m (Seek aim depth) K now (V aim v) refl f c
+        (work_with p s t i a.first a.point a.seen N m (Seek aim depth) K.work same K.seen m.tally m.reads v m.body m.right (Seek aim depth) refl
+        (z.0, there, z.2, record { standing = z.3.standing; image = z.3.image; accepted_is = z.3.accepted_is; split = z.3.split }, here) K.work.hands)
 
     -- a chunk was drawn: the halves of the image
     halves : (now : List ℕ) (server : ℕ) (v : Walk) (image : Image) → accepted p m.reads ≡ Some image → let c : ℕ = s.counter server in
@@ -121,16 +109,11 @@ module _ (p : ConfigParts) (ok : IsSetting p) (words : List ℕ) (Has Now : ℕ 
         let right : List ℕ = right_words p (s.node n) m.call in
         let to : Phase = Fill n depth fresh 0 LeftLeaf (half_posts p (s.node n) m.call fresh) in
         let rest = rest_of p server (s.counter server) in
-        halves Own h now server v (LeafImage x) (z.3.accepted_is ∙ ap Some splits.0) record {
-          scene = t;
-          act = act;
-          log = refl;
-          counts = λ u. refl;
-          keeps = goes_on p s t i N (me p i a m (Seek Own depth)) (anew p i m rest m.tally reply.None m.reads v body right to) own refl (counted_rise s server) own.seen (omega arith)
-              (work_anew p s t i a.first a.point a.seen N m (Seek Own depth) own.work (λ r. refl) rest m.tally reply.None m.reads v body right to refl
-              (half_fits p ok now t act.1 i n z.1.low (act.0.linked n 0 z.1.low z.1.linked) m a.first a.point N depth fresh rest m.tally m.reads v own.work.duty z.0 z.2 taken splits.1)
-              (owes t reply.None) taken.spares own.work.hands) refl;
-        }
+        halves Own h now server v (LeafImage x) (z.3.accepted_is ∙ ap Some splits.0)
+        (draws_to p i s a m (Seek Own depth) own now (anew p i m rest m.tally reply.None m.reads v body right to) refl server act
+        (work_anew p s t i a.first a.point a.seen N m (Seek Own depth) own.work (λ r. refl) rest m.tally reply.None m.reads v body right to refl
+        (half_fits p ok now t act.1 i n z.1.low (act.0.linked n 0 z.1.low z.1.linked) m a.first a.point N depth fresh rest m.tally m.reads v own.work.duty z.0 z.2 taken splits.1)
+        (owes t reply.None) taken.spares own.work.hands))
 
     -- a put is full
     full : (f : ℕ → ℕ) → AreSpent p f → (c : Call) → SplitsFor p (s.node n) c → IsDecided p (with_counters s f) i a.first a.point N c reply.Full × (entries_by i c reply.Full ≡ [])
@@ -145,14 +128,8 @@ module _ (p : ConfigParts) (ok : IsSetting p) (words : List ℕ) (Has Now : ℕ 
         let z = own.work.fits in
         let end = full f all m.call splits.1 in
         let to : Phase = Waiting n depth Nothing Ends in
-        record {
-          scene = t;
-          act = c.act;
-          log = refl;
-          counts = λ u. refl;
-          keeps = goes_on p s t i N (me p i a m (Seek Own depth)) (anew p i m m.spare m.tally reply.Full m.reads v m.body m.right to) own refl c.rise own.seen (omega arith)
-              (work_anew p s t i a.first a.point a.seen N m (Seek Own depth) own.work (λ r. refl) m.spare m.tally reply.Full m.reads v m.body m.right to refl (z.2, (z.0, end.0), real Own h) (owes t reply.Full) own.work.spares own.work.hands) end.1;
-        }
+        counts_to p i s a m (Seek Own depth) own now (anew p i m m.spare m.tally reply.Full m.reads v m.body m.right to) end.1 f c
+        (work_anew p s t i a.first a.point a.seen N m (Seek Own depth) own.work (λ r. refl) m.spare m.tally reply.Full m.reads v m.body m.right to refl (z.2, (z.0, end.0), real Own h) (owes t reply.Full) own.work.spares own.work.hands)
 
   -- ---- for a post
   module _ (post : Post) (h : Has i (me p i a m (Seek (Posts post) depth))) where
@@ -178,16 +155,11 @@ module _ (p : ConfigParts) (ok : IsSetting p) (words : List ℕ) (Has Now : ℕ 
         let to : Phase = Fill n depth fresh 0 LeftInner (inner_posts p (s.node n) post fresh) in
         let rest = rest_of p server (s.counter server) in
         let there = named_on p s t i a.first a.point a.seen N gr post.level n post.separator z.1 in
-        halves (Posts post) h now server v (InnerImage y) (z.3.accepted_is ∙ ap Some is.0) record {
-          scene = t;
-          act = act;
-          log = refl;
-          counts = λ u. refl;
-          keeps = goes_on p s t i N (me p i a m (Seek (Posts post) depth)) (anew p i m rest m.tally m.reply m.reads v body right to) P refl (counted_rise s server) P.seen (omega arith)
-              (work_anew p s t i a.first a.point a.seen N m (Seek (Posts post) depth) P.work (λ r. refl) rest m.tally m.reply m.reads v body right to refl
-              (pair_half_fits p ok now t act.1 i a.first a.point N m.call m.reply post owed n there m a.first a.point N depth fresh rest m.tally m.reads v P.work.duty z.0 z.2 taken is.1 is.2)
-              owes taken.spares P.work.hands) refl;
-        }
+        halves (Posts post) h now server v (InnerImage y) (z.3.accepted_is ∙ ap Some is.0)
+        (draws_to p i s a m (Seek (Posts post) depth) P now (anew p i m rest m.tally m.reply m.reads v body right to) refl server act
+        (work_anew p s t i a.first a.point a.seen N m (Seek (Posts post) depth) P.work (λ r. refl) rest m.tally m.reply m.reads v body right to refl
+        (pair_half_fits p ok now t act.1 i a.first a.point N m.call m.reply post owed n there m a.first a.point N depth fresh rest m.tally m.reads v P.work.duty z.0 z.2 taken is.1 is.2)
+        owes taken.spares P.work.hands))
 
     abbrev skips : Tally
     skips = record { again = m.tally.again; rights = m.tally.rights; splits = m.tally.splits; handed = m.tally.handed; from_cache = m.tally.from_cache; skipped_spent = up m.tally.skipped_spent; skipped_worn = m.tally.skipped_worn; rewritten = m.tally.rewritten }
@@ -233,6 +205,4 @@ module _ (p : ConfigParts) (ok : IsSetting p) (words : List ℕ) (Has Now : ℕ 
   only aim u v chunk.AllSpent at q = absurd (full_calm aim v u q)
 
   pub seek : (aim : Aim) (e : Event) → count_of (walk_wants p m.walk) ≡ want.Event e → Claim p ok words Has Now Out i s b a m (Seek aim depth) e
-  seek aim e q h mv = walks p ok words Has Now Out i s b a m (Seek aim depth) h (λ v. F aim v (walk_wants p v)) (K aim h).work.fits.4 (λ v. ap count_of) (λ u v. only aim u v (walk_wants p v) refl) (going aim h)
-      (λ now server v lt below act at. subst (λ (w : ChunkWant). Reached p i s now (counted_on s server) (F aim v w)) (sym at) (got aim h now server v act))
-      (λ now f v c all at. subst (λ (w : ChunkWant). Reached p i s now f (F aim v w)) (sym at) (spent aim h now f v c all)) e q mv
+  seek aim e q h mv = walks p ok words Has Now Out i s b a m (Seek aim depth) h (F aim) (K aim h).work.fits.4 (λ v. ap count_of) (only aim) (going aim h) (got aim h) (spent aim h) e q mv

@@ -1,5 +1,5 @@
 -- The turns of a walk over the counters for a new root, without a lock.
-use Rattle.std.proofs.Common.{◌≡◌, ℕ, List, [], length, refl, sym, ap, ◌∙◌, subst, arith}
+use Rattle.std.proofs.Common.{◌≡◌, ℕ, List, [], length, refl, sym, ap, ◌∙◌, arith}
 use Rattle.sh_base.specs.declared.config.ConfigParts.{ConfigParts}
 use Rattle.sh_base.specs.declared.event.Event.{Event}
 use Rattle.sh_base.specs.declared.event.Event.TheVariants.{Add}
@@ -8,7 +8,6 @@ use Rattle.sh_base.specs.Layout.{counter_word, first_node}
 use Rattle.sh_alloc.specs.declared.state.Walk.{Walk}
 use Rattle.sh_alloc.specs.declared.state.ChunkWant.{ChunkWant}
 use Rattle.sh_alloc.specs.declared.state.ChunkWant.TheVariants as chunk
-use Rattle.sh_alloc.specs.Chunks.{WantsEvent}
 use Rattle.sh_alloc.specs.Walks.{want_of as walk_wants}
 use Rattle.sh_scene.specs.Scene.{Scene}
 use Rattle.sh_scene.specs.Ground.{Ground}
@@ -23,15 +22,15 @@ use Rattle.sh_client.specs.Machine.{Machine, up}
 use Rattle.sh_client.specs.Splitting.{topped_by}
 use Rattle.sh_client.specs.Wants.{count_of}
 use Rattle.sh_core.specs.Actors.{Actor, becomes}
-use Rattle.sh_core.specs.Fits.{IsSeeking}
+use Rattle.sh_core.specs.Fits.{AreSpent, IsSeeking}
 use Rattle.sh_core.specs.Keeps.{Keeps}
 use Rattle.sh_core.specs.Core.{WantsAdd}
 use Rattle.sh_core.proofs.Others.{below_on}
-use Rattle.sh_core.proofs.Frame.{me, at, with, goes_on, work_with, same_grows, Before}
+use Rattle.sh_core.proofs.Frame.{me, at, with, work_with, same_grows, Before}
 use Rattle.sh_core.proofs.Locks.{Claim}
 use Rattle.sh_core.proofs.Raising.{work_raised}
 use Rattle.sh_core.proofs.Skipping.{spent_more, skips_act, keeps_ended}
-use Rattle.sh_core.proofs.Walking.{Counts, Reached, counted_on, counted_rise, counts_alone, drawn_on, event_is, rest_of, takes_chunk, with_counters, walks}
+use Rattle.sh_core.proofs.Walking.{Counts, Reached, counted_on, counts_alone, counts_to, draws_to, drawn_on, event_is, rest_of, takes_chunk, with_counters, walks}
 
 module _ (p : ConfigParts) (ok : IsSetting p) (words : List ℕ) (Has Now : ℕ → Actor → Type 0) (Out : ℕ → ℕ → ℕ → Type 0) (i : ℕ) (s : Scene) (b : Before p words Has Out s) (a : Actor) (m : Machine) (post : Post) (root : ℕ)
     (h : Has i (me p i a m (Top post root))) where
@@ -50,37 +49,25 @@ module _ (p : ConfigParts) (ok : IsSetting p) (words : List ℕ) (Has Now : ℕ 
   abbrev F : Walk → ChunkWant → Actor
   F v w = becomes i (me p i a m ph) s.log [] (topped_by (V v) post root w)
 
-  going : (now : List ℕ) (f : ℕ → ℕ) (v : Walk) → Counts p i s now f → IsSeeking p (with_counters s f) v m.spare → Reached p i s now f (F v (walk_wants p v))
-  going now f v c here = by (walk_wants p v) here.wants
-    where
-      by : (w : ChunkWant) → WantsEvent w → Reached p i s now f (F v w)
-      by (chunk.Event e) k =
-          let t : Scene = with_counters s f in
-          let same = counts_alone p i s now f c in
-          let below = below_on p s t i 0 0 0 0 (same_grows s t i 0 0 same (omega arith)) post root K.work.fits.1 in
-          record { scene = t; act = c.act; log = refl; counts = λ u. refl; keeps = goes_on p s t i N (me p i a m ph) (V v) K refl c.rise K.seen (omega arith) (work_with p s t i a.first a.point a.seen N m ph K.work same K.seen m.tally m.reads v m.body m.right ph refl (K.work.fits.0, below, here) K.work.hands) refl }
-      by (chunk.Got server c) k = absurd k
-      by chunk.AllSpent k = absurd k
+  going : (now : List ℕ) (f : ℕ → ℕ) (v : Walk) (e : Event) → Counts p i s now f → IsSeeking p (with_counters s f) v m.spare → Reached p i s now f (F v (chunk.Event e))
+  going now f v e c here =
+      let t : Scene = with_counters s f in
+      let same = counts_alone p i s now f c in
+      let below = below_on p s t i 0 0 0 0 (same_grows s t i 0 0 same (omega arith)) post root K.work.fits.1 in
+      counts_to p i s a m ph K now (V v) refl f c (work_with p s t i a.first a.point a.seen N m ph K.work same K.seen m.tally m.reads v m.body m.right ph refl (K.work.fits.0, below, here) K.work.hands)
 
   got : (now : List ℕ) (server : ℕ) (v : Walk) → Change p i s (drawn p s server i) × Ground p now (drawn p s server i) → Reached p i s now (counted_on s server) (F v (chunk.Got server (s.counter server)))
   got now server v act =
-      let t : Scene = drawn p s server i in
       let gr = drawn_on p i s server a.seen N act.0 K.seen in
-      let fresh : ℕ = first_node p server (s.counter server) in
-      record {
-        scene = t;
-        act = act;
-        log = refl;
-        counts = λ u. refl;
-        keeps = goes_on p s t i N (me p i a m ph) (F v (chunk.Got server (s.counter server))).client K refl (counted_rise s server) K.seen (omega arith)
-            (work_raised p s t i a.first a.point a.seen N m ph K.work gr (λ k. refl) m.reads v m.body (rest_of p server (s.counter server)) post root fresh (takes_chunk p ok s i server) K.work.fits.0 (below_on p s t i a.first a.point a.seen N gr post root K.work.fits.1) K.work.hands) refl;
-      }
+      let c : ℕ = s.counter server in
+      draws_to p i s a m ph K now (F v (chunk.Got server c)).client refl server act
+      (work_raised p s (drawn p s server i) i a.first a.point a.seen N m ph K.work gr (λ k. refl) m.reads v m.body (rest_of p server c) post root (first_node p server c) (takes_chunk p ok s i server) K.work.fits.0 (below_on p s (drawn p s server i) i a.first a.point a.seen N gr post root K.work.fits.1) K.work.hands)
 
   abbrev skips : Tally
   skips = record { again = m.tally.again; rights = m.tally.rights; splits = m.tally.splits; handed = m.tally.handed; from_cache = m.tally.from_cache; skipped_spent = up m.tally.skipped_spent; skipped_worn = m.tally.skipped_worn; rewritten = m.tally.rewritten }
 
-  spent : (now : List ℕ) (f : ℕ → ℕ) (v : Walk) → Counts p i s now f → Reached p i s now f (F v chunk.AllSpent)
-  spent now f v c =
+  spent : (now : List ℕ) (f : ℕ → ℕ) (v : Walk) → Counts p i s now f → AreSpent p f → Reached p i s now f (F v chunk.AllSpent)
+  spent now f v c all =
       let u : Scene = with_counters s f in
       let same = counts_alone p i s now f c in
       let duty = K.work.fits.0 in
@@ -98,6 +85,4 @@ module _ (p : ConfigParts) (ok : IsSetting p) (words : List ℕ) (Has Now : ℕ 
   only u v chunk.AllSpent at q = absurd (cc)
 
   pub top : (e : Event) → count_of (walk_wants p m.walk) ≡ want.Event e → Claim p ok words Has Now Out i s b a m ph e
-  top e q h' mv = walks p ok words Has Now Out i s b a m ph h (λ v. F v (walk_wants p v)) K.work.fits.2 (λ v. ap count_of) (λ u v. only u v (walk_wants p v) refl) going
-      (λ now server v lt below act at. subst (λ (w : ChunkWant). Reached p i s now (counted_on s server) (F v w)) (sym at) (got now server v act))
-      (λ now f v c all at. subst (λ (w : ChunkWant). Reached p i s now f (F v w)) (sym at) (spent now f v c)) e q mv
+  top e q h' mv = walks p ok words Has Now Out i s b a m ph h F K.work.fits.2 (λ v. ap count_of) only going got spent e q mv

@@ -1,5 +1,5 @@
 -- A walk over the counters is fed the word that its event found: what the counters are bounded by, and what it has passed.
-use Rattle.std.proofs.Common.{◌≡◌, ◌≢◌, ℕ, ◌+◌, ◌-◌, ◌<◌, ◌≤◌, Bool, true, false, List, [], ◌++◌, get_or, set, Some, refl, sym, ap, ◌∙◌, subst, inl, inr, arith, append-nil}
+use Rattle.std.proofs.Common.{◌≡◌, ◌≢◌, ℕ, ◌+◌, ◌-◌, ◌<◌, ◌≤◌, Bool, true, false, List, [], ◌++◌, length, get_or, set, Some, refl, sym, ap, ◌∙◌, subst, inl, inr, arith, append-nil}
 use Rattle.std.specs.Prelude.{◌%◌, ◌^◌, if◌then◌else◌, nat_lt}
 use Rattle.std.proofs.Math.Nat.{mod-lt, mod-eq_of_lt, add-mod_right}
 use Rattle.std.proofs.lemmas.Bool.{cases_lt}
@@ -17,6 +17,7 @@ use Rattle.sh_alloc.specs.declared.state.NodeRange.{NodeRange}
 use Rattle.sh_alloc.specs.declared.state.Phase.{Phase as Step}
 use Rattle.sh_alloc.specs.declared.state.Phase.TheVariants.{Loading, Adding, Found, Spent}
 use Rattle.sh_alloc.specs.declared.state.Walk.{Walk}
+use Rattle.sh_alloc.specs.declared.state.ChunkWant.{ChunkWant}
 use Rattle.sh_alloc.specs.declared.state.ChunkWant.TheVariants as chunk
 use Rattle.sh_alloc.specs.Spares.{lowest, nodes_from, without_lowest}
 use Rattle.sh_alloc.specs.Walks.{walk_at, with_phase, server_at, next_of, fed_in as walk_fed_in, fed_by as walk_fed, want_in as walk_want_in, want_of as walk_wants}
@@ -36,10 +37,10 @@ use Rattle.sh_client.specs.Machine.{Machine}
 use Rattle.sh_client.specs.Wants.{count_of}
 use Rattle.sh_core.specs.Actors.{Actor}
 use Rattle.sh_core.specs.Fits.{AreSpent, ArePassed, IsSeeking}
-use Rattle.sh_core.specs.Keeps.{Keeps}
+use Rattle.sh_core.specs.Keeps.{pending, IsAtWork, Keeps}
 use Rattle.sh_core.specs.Core.{WantsAdd, SomeAdds, Inv, Moves}
 use Rattle.sh_core.proofs.Others.{Grows, others_add, adds_before, bounded_less, turn_to}
-use Rattle.sh_core.proofs.Frame.{me, at, SameNodes, Before, one_log}
+use Rattle.sh_core.proofs.Frame.{next, me, at, goes_on, SameNodes, Before, one_log}
 use Rattle.sh_core.proofs.Spares.{IsTaken, takes_lowest}
 use Rattle.sh_core.proofs.UnderLock.{is_lt, not_lt}
 
@@ -75,6 +76,9 @@ with_counters s f = record s { counter = f }
 abbrev pub counted_on : Scene → (server : ℕ) → ℕ → ℕ
 counted_on s server = put s.counter server (s.counter server + 1)
 
+pub counted_rise : (s : Scene) (server v : ℕ) → s.counter v ≤ counted_on s server v
+counted_rise s server v = put_case (λ z. s.counter v ≤ z) s.counter server (s.counter server + 1) v (λ e. omega (arith, ap s.counter e)) (λ ne. omega arith)
+
 -- the scene that the turn leads to, of these words and these counters, and what holds of the seat's actor in it
 pub record Reached (p : ConfigParts) (i : ℕ) (s : Scene) (now : List ℕ) (f : ℕ → ℕ) (x : Actor) : Type 0 where
   pub scene : Scene
@@ -88,12 +92,17 @@ pub record Counts (p : ConfigParts) (i : ℕ) (s : Scene) (now : List ℕ) (f : 
   pub act : Change p i s (with_counters s f) × Ground p now (with_counters s f)
   pub rise : (server : ℕ) → s.counter server ≤ f server
 
+-- the actor's call goes on there
+module _ (p : ConfigParts) (i : ℕ) (s : Scene) (a : Actor) (m : Machine) (ph : Phase) (k : Keeps p s i (me p i a m ph)) (now : List ℕ) (x : Machine) (same : pending i x x.phase ≡ pending i (at p i m ph) ph) where
+  pub counts_to : (f : ℕ → ℕ) → Counts p i s now f → IsAtWork p (with_counters s f) i a.first a.point (length s.log) x → Reached p i s now f (next a (length s.log) x)
+  counts_to f c w = record { scene = with_counters s f; act = c.act; log = refl; counts = λ u. refl; keeps = goes_on p s (with_counters s f) i (length s.log) (me p i a m ph) x k refl c.rise k.seen (omega arith) w same }
+
+  pub draws_to : (server : ℕ) → Change p i s (drawn p s server i) × Ground p now (drawn p s server i) → IsAtWork p (drawn p s server i) i a.first a.point (length s.log) x → Reached p i s now (counted_on s server) (next a (length s.log) x)
+  draws_to server act w = record { scene = drawn p s server i; act = act; log = refl; counts = λ u. refl; keeps = goes_on p s (drawn p s server i) i (length s.log) (me p i a m ph) x k refl (counted_rise s server) k.seen (omega arith) w same }
+
 -- they leave the rest of the scene
 pub counts_alone : (p : ConfigParts) (i : ℕ) (s : Scene) (now : List ℕ) (f : ℕ → ℕ) → Counts p i s now f → SameNodes s (with_counters s f)
 counts_alone p i s now f c = record { log = refl; class = λ n. refl; post = λ n. refl; counts = c.rise }
-
-pub counted_rise : (s : Scene) (server v : ℕ) → s.counter v ≤ counted_on s server v
-counted_rise s server v = put_case (λ z. s.counter v ≤ z) s.counter server (s.counter server + 1) v (λ e. omega (arith, ap s.counter e)) (λ ne. omega arith)
 
 -- a chunk is drawn
 pub drawn_on : (p : ConfigParts) (i : ℕ) (s : Scene) (server e n : ℕ) → Change p i s (drawn p s server i) → e ≤ n → Grows s (drawn p s server i) i e n
@@ -145,13 +154,16 @@ module _ (p : ConfigParts) (ok : IsSetting p) (words : List ℕ) (Has Now : ℕ 
       (turn_to p Has Now i x mv ok words now s r.scene b.ground r.act.1 r.keeps b.kept b.held b.pends b.skips b.makes Out r.act.0 (λ v. omega (arith, r.counts v, rise v))
       (λ v lt. subst (λ (c : ℕ). Bounded p.chunks (all_seats p) c (λ j. SomeAdds p Now v j)) (sym (r.counts v)) (bounds v lt)) b.given b.out)
 
-  -- ---- the walk goes on, or ends; F is the actor with the walk
-  module _ (F : Walk → Actor) (seeking : IsSeeking p s m.walk m.spare)
+  -- ---- the walk goes on, or ends; F is the actor with a walk, by what the walk wants
+  module _ (F : Walk → ChunkWant → Actor) (seeking : IsSeeking p s m.walk m.spare)
       (adds : (v : ℕ) → walk_wants p m.walk ≡ chunk.Event (Add (counter_word p v)) → WantsAdd p v (at p i m ph))
-      (only : (v : ℕ) (w : Walk) → WantsAdd p v (F w).client → walk_wants p w ≡ chunk.Event (Add (counter_word p v)))
-      (going : (now : List ℕ) (f : ℕ → ℕ) (w : Walk) → Counts p i s now f → IsSeeking p (with_counters s f) w m.spare → Reached p i s now f (F w))
-      (got : (now : List ℕ) (server : ℕ) (w : Walk) → server < p.servers → s.counter server < p.chunks → Change p i s (drawn p s server i) × Ground p now (drawn p s server i) → walk_wants p w ≡ chunk.Got server (s.counter server) → Reached p i s now (counted_on s server) (F w))
-      (spent : (now : List ℕ) (f : ℕ → ℕ) (w : Walk) → Counts p i s now f → AreSpent p f → walk_wants p w ≡ chunk.AllSpent → Reached p i s now f (F w)) where
+      (only : (v : ℕ) (w : Walk) (k : ChunkWant) → walk_wants p w ≡ k → WantsAdd p v (F w k).client → k ≡ chunk.Event (Add (counter_word p v)))
+      (going : (now : List ℕ) (f : ℕ → ℕ) (w : Walk) (e : Event) → Counts p i s now f → IsSeeking p (with_counters s f) w m.spare → Reached p i s now f (F w (chunk.Event e)))
+      (got : (now : List ℕ) (server : ℕ) (w : Walk) → Change p i s (drawn p s server i) × Ground p now (drawn p s server i) → Reached p i s now (counted_on s server) (F w (chunk.Got server (s.counter server))))
+      (spent : (now : List ℕ) (f : ℕ → ℕ) (w : Walk) → Counts p i s now f → AreSpent p f → Reached p i s now f (F w chunk.AllSpent)) where
+    abbrev At : Walk → Actor
+    At v = F v (walk_wants p v)
+
     abbrev w : Walk
     w = m.walk
 
@@ -169,7 +181,7 @@ module _ (p : ConfigParts) (ok : IsSetting p) (words : List ℕ) (Has Now : ℕ 
 
     -- the server is spent
     passes : (now : List ℕ) (f : ℕ → ℕ) (t : Bool) → nat_lt (w.passed + 1) p.servers ≡ t → Counts p i s now f → p.chunks ≤ f n → ((y : Actor) → ((v : ℕ) → WantsAdd p v y.client → ⊥) → Moves Has i y Now → Bounds f)
-        → Moves Has i (F (if t then walk_at w.first (w.passed + 1) Loading else with_phase w Spent)) Now → Inv p now (s.log ++ []) Now Out
+        → Moves Has i (At (if t then walk_at w.first (w.passed + 1) Loading else with_phase w Spent)) Now → Inv p now (s.log ++ []) Now Out
     passes now f true e c high bounds mv =
         let v : Walk = walk_at w.first (w.passed + 1) Loading in
         let here : IsSeeking p (with_counters s f) v m.spare = record {
@@ -180,19 +192,19 @@ module _ (p : ConfigParts) (ok : IsSetting p) (words : List ℕ) (Has Now : ℕ 
               (λ (ne : k ≢ w.passed). let old = seeking.passed k (omega (arith, lt, ne)) in omega (arith, old, c.rise ((w.first + k) % p.servers)));
           none = seeking.none;
         } in
-        turned_to now f (F v) (going now f v c here) c.rise (bounds (F v) (λ u q. let z = only u v q in cc) mv) mv
+        turned_to now f (At v) (going now f v (Load (counter_word p (server_at p v))) c here) c.rise (bounds (At v) (λ u q. let z = only u v (walk_wants p v) refl q in cc) mv) mv
     passes now f false e c high bounds mv =
         let v : Walk = with_phase w Spent in
         let all = all_passed p f w seeking.walk_is.first (not_lt (w.passed + 1) p.servers e) (λ k lt. let old = seeking.passed k lt in omega (arith, old, c.rise ((w.first + k) % p.servers))) high in
-        turned_to now f (F v) (spent now f v c all refl) c.rise (bounds (F v) (λ u q. let z = only u v q in cc) mv) mv
+        turned_to now f (At v) (spent now f v c all) c.rise (bounds (At v) (λ u q. let z = only u v (walk_wants p v) refl q in cc) mv) mv
 
     -- its counter is loaded
-    loads : (t : Bool) → nat_lt x p.chunks ≡ t → Moves Has i (F (if t then with_phase w Adding else next_of p w)) Now → Inv p words (s.log ++ []) Now Out
+    loads : (t : Bool) → nat_lt x p.chunks ≡ t → Moves Has i (At (if t then with_phase w Adding else next_of p w)) Now → Inv p words (s.log ++ []) Now Out
     loads true e mv =
         let v : Walk = with_phase w Adding in
         let c : Counts p i s words s.counter = record { act = (nothing_done p (λ o. o ≢ Seat i) s, b.ground); rise = λ u. omega arith } in
         let here : IsSeeking p s v m.spare = record { walk_is = record { first = seeking.walk_is.first; passed = seeking.walk_is.passed; found = λ c q. cc }; wants = tt; passed = seeking.passed; none = seeking.none } in
-        turned_to words s.counter (F v) (going words s.counter v c here) c.rise (finds n (F v) (omega (arith, found, is_lt x p.chunks e)) (λ u q. same_counter u (only u v q)) mv) mv
+        turned_to words s.counter (At v) (going words s.counter v (Add (counter_word p n)) c here) c.rise (finds n (At v) (omega (arith, found, is_lt x p.chunks e)) (λ u q. same_counter u (only u v (walk_wants p v) refl q)) mv) mv
       where
         add_is : (y z : ℕ) → chunk.Event (Add y) ≡ chunk.Event (Add z) → y ≡ z
         add_is y z q = cc
@@ -213,28 +225,28 @@ module _ (p : ConfigParts) (ok : IsSetting p) (words : List ℕ) (Has Now : ℕ 
       word_is : apply words (Add (counter_word p n)) ≡ set words (counter_word p n) (s.counter n + 1)
       word_is = added words (counter_word p n) (s.counter n) found small
 
-      counts_on : (t : Bool) → nat_lt x p.chunks ≡ t → Moves Has i (F (if t then with_phase w (Found x) else next_of p w)) Now → Inv p (set words (counter_word p n) (s.counter n + 1)) (s.log ++ []) Now Out
+      counts_on : (t : Bool) → nat_lt x p.chunks ≡ t → Moves Has i (At (if t then with_phase w (Found x) else next_of p w)) Now → Inv p (set words (counter_word p n) (s.counter n + 1)) (s.log ++ []) Now Out
       counts_on true e mv =
           let below : s.counter n < p.chunks = omega (arith, found, is_lt x p.chunks e) in
           let now : List ℕ = set words (counter_word p n) (s.counter n + 1) in
           let v : Walk = with_phase w (Found x) in
-          let r = got now n v real below (draw_act p words s b.ground i n real below) (ap (λ (c : ℕ). chunk.Got n c) found) in
-          turned_to now (counted_on s n) (F v) r (counted_rise s n) (raised_by n (F v) mine (λ u q. let z = only u v q in cc) mv) mv
+          let r : Reached p i s now (counted_on s n) (At v) = subst (λ (c : ℕ). Reached p i s now (counted_on s n) (F v (chunk.Got n c))) (sym found) (got now n v (draw_act p words s b.ground i n real below)) in
+          turned_to now (counted_on s n) (At v) r (counted_rise s n) (raised_by n (At v) mine (λ u q. let z = only u v (walk_wants p v) refl q in cc) mv) mv
       counts_on false e mv =
           let now : List ℕ = set words (counter_word p n) (s.counter n + 1) in
           let high : p.chunks ≤ counted_on s n n = let z = put_here s.counter n (s.counter n + 1) in omega (arith, z, found, not_lt x p.chunks e) in
           passes now (counted_on s n) (nat_lt (w.passed + 1) p.servers) refl record { act = spent_act p words s b.ground i n real; rise = counted_rise s n } high (λ y calm mv. raised_by n y mine calm mv) mv
 
-    by_step : (k : Step) (e : Event) → w.phase ≡ k → count_of (walk_want_in p n k) ≡ want.Event e → Moves Has i (F (walk_fed_in p w (found_by words e) k)) Now → Inv p (apply words e) (s.log ++ []) Now Out
+    by_step : (k : Step) (e : Event) → w.phase ≡ k → count_of (walk_want_in p n k) ≡ want.Event e → Moves Has i (At (walk_fed_in p w (found_by words e) k)) Now → Inv p (apply words e) (s.log ++ []) Now Out
     by_step Loading e at q mv =
-        subst (λ (z : Event). Moves Has i (F (walk_fed_in p w (found_by words z) Loading)) Now → Inv p (apply words z) (s.log ++ []) Now Out) (event_is (Load (counter_word p n)) e q) (λ mv. loads (nat_lt x p.chunks) refl mv) mv
+        subst (λ (z : Event). Moves Has i (At (walk_fed_in p w (found_by words z) Loading)) Now → Inv p (apply words z) (s.log ++ []) Now Out) (event_is (Load (counter_word p n)) e q) (λ mv. loads (nat_lt x p.chunks) refl mv) mv
     by_step Adding e at q mv =
         let mine = adds n (ap (walk_want_in p n) at) in
-        subst (λ (z : Event). Moves Has i (F (walk_fed_in p w (found_by words z) Adding)) Now → Inv p (apply words z) (s.log ++ []) Now Out) (event_is (Add (counter_word p n)) e q)
+        subst (λ (z : Event). Moves Has i (At (walk_fed_in p w (found_by words z) Adding)) Now → Inv p (apply words z) (s.log ++ []) Now Out) (event_is (Add (counter_word p n)) e q)
         (λ mv. subst (λ (ws : List ℕ). Inv p ws (s.log ++ []) Now Out) (sym (word_is mine)) (counts_on mine (nat_lt x p.chunks) refl mv)) mv
     by_step (Found c) e at q mv = cc
     by_step Spent e at q mv = cc
 
     -- the turn of the event that the walk wants
-    pub walks : (e : Event) → count_of (walk_wants p w) ≡ want.Event e → Moves Has i (F (walk_fed p w (found_by words e))) Now → Inv p (apply words e) (s.log ++ []) Now Out
+    pub walks : (e : Event) → count_of (walk_wants p w) ≡ want.Event e → Moves Has i (At (walk_fed p w (found_by words e))) Now → Inv p (apply words e) (s.log ++ []) Now Out
     walks e q mv = by_step w.phase e refl q mv

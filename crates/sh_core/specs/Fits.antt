@@ -123,7 +123,7 @@ AreSpares s seat spare = (n : ℕ) → IsSpare spare n → s.class n ≡ Fresh s
 abbrev pub AreSpent : ConfigParts → (counter : ℕ → ℕ) → Type 0
 AreSpent p counter = (server : ℕ) → server < p.servers → p.chunks ≤ counter server
 
--- the counters of the servers that a walk has passed are
+-- so are the counters of the servers that a walk has passed
 abbrev pub ArePassed : ConfigParts → (counter : ℕ → ℕ) → Walk → Type 0
 ArePassed p counter walk = (k : ℕ) → k < walk.passed → p.chunks ≤ counter ((walk.first + k) % p.servers)
 

@@ -53,7 +53,6 @@ module _ (log : List Entry) (e : Entry) where
   row_later d (call.Del key) reply.None w h = had_later d.point key _ w h
   row_later d (call.Range low high) (reply.Rows upto) w h = (h.0, h.1, range_later d.first d.point low upto d.rows w h.2)
   row_later d (call.Put key value) reply.Full w h = tt
-  row_later d (call.Put key value) reply.NoSplitYet w h = tt
   row_later d (call.Put key value) (reply.Worn version) w h = tt
   row_later d (call.Del key) (reply.Worn version) w h = tt
   row_later d asked answer w h = absurd h

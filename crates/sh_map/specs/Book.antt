@@ -23,7 +23,7 @@ pub record AnswersRange (log : List Entry) (a b low upto : ℕ) (rows : List Row
 abbrev pub entry_of : ℕ → Change → Option (List ℕ) → Entry
 entry_of seat change old = record { seat = seat; change = change; old = old }
 
--- What must hold of a call and its reply. Full, NoSplitYet and Worn are no replies of the map, and nothing more is asked of them.
+-- What must hold of a call and its reply. Full and Worn are no replies of the map, and nothing more is asked of them.
 abbrev pub AnswersAt : List Entry → Done → Call → Reply → Type 0
 AnswersAt log d (Get key) (reply.Some value) = get (map_at log d.point) key ≡ Some value
 AnswersAt log d (Get key) reply.None = get (map_at log d.point) key ≡ None
@@ -33,7 +33,6 @@ AnswersAt log d (Del key) (reply.Some old) = slice_get log d.point ≡ Some (ent
 AnswersAt log d (Del key) reply.None = get (map_at log d.point) key ≡ None
 AnswersAt log d (Range low high) (reply.Rows upto) = (low ≤ upto) × (upto ≤ high) × AnswersRange log d.first d.point low upto d.rows
 AnswersAt log d (Put key value) reply.Full = Unit {0}
-AnswersAt log d (Put key value) reply.NoSplitYet = Unit {0}
 AnswersAt log d (Put key value) (reply.Worn version) = Unit {0}
 AnswersAt log d (Del key) (reply.Worn version) = Unit {0}
 AnswersAt log d call reply = ⊥

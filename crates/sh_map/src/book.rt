@@ -66,7 +66,7 @@ impl Rows {
 /// before the call's first turn. `point` is where in the log it is answered: for a put, and for a delete that removed
 /// something, the number of entries before its own; for a get, and for a delete that found nothing, the least number
 /// of entries, not below `first`, whose map gives the reply; for a range the log's length after its last turn, and so
-/// for `Full`, `Worn` and `NoSplitYet`. `rows` are a range's rows.
+/// for `Full` and `Worn`. `rows` are a range's rows.
 #[derive(Debug, Drop)]
 pub struct Done {
     pub n: u32,

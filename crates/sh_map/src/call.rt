@@ -28,8 +28,6 @@ pub enum Reply {
     Full,
     /// An update had to rewrite or split a leaf whose version, this one, is the last.
     Worn { version: u64 },
-    /// A put of a new key found its leaf full, and leaves aren't split yet.
-    NoSplitYet,
 }
 
 impl Call {

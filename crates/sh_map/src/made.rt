@@ -24,7 +24,7 @@ fn log_put(log: &mut Log, seat: u32, key: u64, value: Value, reply: &Reply)
     match *reply {
         Reply::Some(old) => push(log, seat, Change::Put { key, value }, Some(old)),
         Reply::None => push(log, seat, Change::Put { key, value }, None),
-        Reply::Rows { .. } | Reply::Full | Reply::Worn { .. } | Reply::NoSplitYet => {}
+        Reply::Rows { .. } | Reply::Full | Reply::Worn { .. } => {}
     }
 }
 

@@ -57,7 +57,7 @@ fn answers_put(log: &[Entry], done: &Done, key: u64, value: Value) -> bool
     match done.reply {
         Reply::Some(old) => has_entry(log, done.point, done.seat, change, Some(old)),
         Reply::None => has_entry(log, done.point, done.seat, change, None),
-        Reply::Full | Reply::NoSplitYet | Reply::Worn { .. } => true,
+        Reply::Full | Reply::Worn { .. } => true,
         Reply::Rows { .. } => false,
     }
 }

@@ -37,4 +37,3 @@ few_more n c (Put key value) (reply.Rows upto) h = few_rows n c h
 few_more n c (Del key) (reply.Rows upto) h = few_rows n c h
 few_more n c call reply.Full h = record { some = omega (arith, h.some); none = omega (arith, h.none); rows = omega (arith, h.rows); part = omega (arith, h.part); full = omega (arith, h.full); worn = omega (arith, h.worn) }
 few_more n c call (reply.Worn version) h = record { some = omega (arith, h.some); none = omega (arith, h.none); rows = omega (arith, h.rows); part = omega (arith, h.part); full = omega (arith, h.full); worn = omega (arith, h.worn) }
-few_more n c call reply.NoSplitYet h = record { some = omega (arith, h.some); none = omega (arith, h.none); rows = omega (arith, h.rows); part = omega (arith, h.part); full = omega (arith, h.full); worn = omega (arith, h.worn) }

@@ -28,7 +28,6 @@ with_answer c (Range low high) (reply.Rows upto) = if nat_lt upto high then with
 with_answer c call (reply.Rows upto) = with_rows c
 with_answer c call reply.Full = record { some = c.some; none = c.none; rows = c.rows; part = c.part; full = c.full + 1; worn = c.worn }
 with_answer c call (reply.Worn version) = record { some = c.some; none = c.none; rows = c.rows; part = c.part; full = c.full; worn = c.worn + 1 }
-with_answer c call reply.NoSplitYet = c
 
 -- the counts of these finished calls
 abbrev pub counts_of : List Done → Counts

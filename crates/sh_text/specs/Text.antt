@@ -48,7 +48,6 @@ reply_text (Range low high) (reply.Rows upto) = if nat_lt upto high then codes "
 reply_text call (reply.Rows upto) = codes "rows"
 reply_text call reply.Full = codes "full"
 reply_text call (reply.Worn version) = codes "worn"
-reply_text call reply.NoSplitYet = codes "nosplit"
 
 -- a reply's value: the value that was there, how far a range's rows go, or the version that is worn
 abbrev pub reply_value : Reply → List ℕ
@@ -57,7 +56,6 @@ reply_value reply.None = []
 reply_value (reply.Rows upto) = decimal upto
 reply_value reply.Full = []
 reply_value (reply.Worn version) = decimal version
-reply_value reply.NoSplitYet = []
 
 -- where in the log a reply is answered: a point, for a range the two ends of its points, and empty where it isn't
 abbrev pub point_text : Reply → ℕ → ℕ → List ℕ
@@ -66,7 +64,6 @@ point_text reply.None first point = decimal point
 point_text (reply.Rows upto) first point = decimal first ++ (codes ":" ++ decimal point)
 point_text reply.Full first point = []
 point_text (reply.Worn version) first point = []
-point_text reply.NoSplitYet first point = []
 
 -- what ends a call's line behind its value: the column of points, where it is shown, and the line feed
 abbrev pub point_column : Points → Reply → ℕ → ℕ → List ℕ

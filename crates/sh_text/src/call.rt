@@ -54,7 +54,6 @@ fn reply_word(call: &Call, reply: &Reply) -> &'static str
         },
         Reply::Full => "full",
         Reply::Worn { .. } => "worn",
-        Reply::NoSplitYet => "nosplit",
     }
 }
 
@@ -66,7 +65,7 @@ fn push_reply_value(text: &mut String, reply: &Reply) -> Result<(), AllocError>
         Reply::Some(value) => push_words(text, value.words()),
         Reply::Rows { upto } => write!(text, "{upto}"),
         Reply::Worn { version } => write!(text, "{version}"),
-        Reply::None | Reply::Full | Reply::NoSplitYet => Ok(()),
+        Reply::None | Reply::Full => Ok(()),
     }
 }
 
@@ -77,7 +76,7 @@ fn push_point(text: &mut String, reply: &Reply, first: u64, point: u64) -> Resul
     match reply {
         Reply::Some(_) | Reply::None => write!(text, "{point}\n"),
         Reply::Rows { .. } => write!(text, "{first}:{point}\n"),
-        Reply::Full | Reply::Worn { .. } | Reply::NoSplitYet => write!(text, "\n"),
+        Reply::Full | Reply::Worn { .. } => write!(text, "\n"),
     }
 }
 

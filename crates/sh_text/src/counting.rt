@@ -28,7 +28,6 @@ fn add_answer(counts: &mut Counts, call: &Call, reply: &Reply)
         },
         Reply::Full => counts.full += 1,
         Reply::Worn { .. } => counts.worn += 1,
-        Reply::NoSplitYet => {}
     }
 }
 

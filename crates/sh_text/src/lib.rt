@@ -78,7 +78,6 @@ mod tests {
         dones.push(done(alloc, 7, range(), Reply::Rows { upto: 20 }, 4, 4))?;
         dones.push(done(alloc, 8, put(), Reply::Full, 4, 4))?;
         dones.push(done(alloc, 9, put(), Reply::Worn { version: 15 }, 4, 4))?;
-        dones.push(done(alloc, 10, put(), Reply::NoSplitYet, 4, 4))?;
         Ok(dones)
     }
 
@@ -90,7 +89,7 @@ mod tests {
         assert!(rt; write_calls(alloc, &mut sink, Points::Shown, &dones).is_ok());
         assert_eq!(rt;
             sink.bytes(),
-            b"1,3,put,5,50:0,none,,0\n2,3,put,5,50:0,some,7:18446744073709551615,1\n3,3,get,18446744073709551614,,some,7:18446744073709551615,12\n4,3,get,18446744073709551614,,none,,12\n5,3,del,5,,none,,9\n6,3,range,10,20,part,13,2:4\nrow,6,10,1:2\nrow,6,12,3:40\n7,3,range,10,20,rows,20,4:4\n8,3,put,5,50:0,full,,\n9,3,put,5,50:0,worn,15,\n10,3,put,5,50:0,nosplit,,\n".as_slice()
+            b"1,3,put,5,50:0,none,,0\n2,3,put,5,50:0,some,7:18446744073709551615,1\n3,3,get,18446744073709551614,,some,7:18446744073709551615,12\n4,3,get,18446744073709551614,,none,,12\n5,3,del,5,,none,,9\n6,3,range,10,20,part,13,2:4\nrow,6,10,1:2\nrow,6,12,3:40\n7,3,range,10,20,rows,20,4:4\n8,3,put,5,50:0,full,,\n9,3,put,5,50:0,worn,15,\n".as_slice()
         );
         Ok(())
     }
@@ -103,7 +102,7 @@ mod tests {
         assert!(rt; write_calls(alloc, &mut sink, Points::Hidden, &dones).is_ok());
         assert_eq!(rt;
             sink.bytes(),
-            b"1,3,put,5,50:0,none,\n2,3,put,5,50:0,some,7:18446744073709551615\n3,3,get,18446744073709551614,,some,7:18446744073709551615\n4,3,get,18446744073709551614,,none,\n5,3,del,5,,none,\n6,3,range,10,20,part,13\nrow,6,10,1:2\nrow,6,12,3:40\n7,3,range,10,20,rows,20\n8,3,put,5,50:0,full,\n9,3,put,5,50:0,worn,15\n10,3,put,5,50:0,nosplit,\n".as_slice()
+            b"1,3,put,5,50:0,none,\n2,3,put,5,50:0,some,7:18446744073709551615\n3,3,get,18446744073709551614,,some,7:18446744073709551615\n4,3,get,18446744073709551614,,none,\n5,3,del,5,,none,\n6,3,range,10,20,part,13\nrow,6,10,1:2\nrow,6,12,3:40\n7,3,range,10,20,rows,20\n8,3,put,5,50:0,full,\n9,3,put,5,50:0,worn,15\n".as_slice()
         );
         Ok(())
     }

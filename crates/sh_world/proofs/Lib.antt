@@ -1,3 +1,5 @@
 pub mod PointLemmas
 pub mod DoneLemmas
 pub mod SettleLemmas
+pub mod StandLemmas
+pub mod LineLemmas

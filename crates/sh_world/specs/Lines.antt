@@ -1,5 +1,5 @@
 -- The ticket lines of locks: who stands in a line, who is served, and what was left for the next.
-use Rattle.std.specs.Prelude.{◌≡◌, ◌≢◌, ℕ, ◌+◌, ◌-◌, ◌^◌, ◌<◌, ◌≤◌, nat_le, Bool, true, false, if◌then◌else◌, slice_get, Option, None, Some}
+use Rattle.std.specs.Prelude.{◌≡◌, ℕ, ◌^◌, ◌<◌, ◌≤◌, Bool, true, false, slice_get, Option, None, Some}
 use Rattle.sh_base.specs.declared.config.ConfigParts.{ConfigParts}
 use Rattle.sh_base.specs.Setting.{all_locks, all_seats}
 use Rattle.sh_base.specs.Layout.{lock_of, compute_of}
@@ -9,6 +9,7 @@ use Rattle.sh_client.specs.declared.state.Phase.TheVariants.{Idle, Root, Read, D
 use Rattle.sh_client.specs.Machine.{Machine}
 use Rattle.sh_world.specs.declared.state.Line.{Line}
 use Rattle.sh_world.specs.States.{Place, State, line_at}
+use Rattle.sh_world.specs.Turning.{minus}
 
 -- Where a client stands: in no line; in the line of a lock with its ticket not served yet, as far as it knows; or with
 -- its turn in the line, from which it is to hand the lock over or isn't.
@@ -61,9 +62,9 @@ WillHand lock Away = ⊥
 WillHand lock (Waits l) = ⊥
 WillHand lock (Served l hands) = (l ≡ lock) × (hands ≡ true)
 
--- How far a ticket is behind the served one. Tickets are words, and behind the last word comes 0.
+-- how far a ticket is behind the served one
 abbrev pub distance : (served ticket : ℕ) → ℕ
-distance served ticket = if nat_le served ticket then ticket - served else ticket + 2 ^ 64 - served
+distance served ticket = minus ticket served
 
 -- the seat with this place stands in the line of a lock and a compute server
 pub record StandsIn (s : State) (lock compute seat : ℕ) (q : Place) : Type 0 where

@@ -8,7 +8,7 @@ use Rattle.sh_map.specs.declared.book.Done.{Done}
 use Rattle.sh_world.specs.declared.state.Given.{Given}
 use Rattle.sh_world.specs.States.{answered, done_in, dones_by, dones_from, dones_of}
 
-abbrev told : Given → Reply → (first point : ℕ) → Given
+abbrev pub told : Given → Reply → (first point : ℕ) → Given
 told g r f p = record { seat = g.seat; call = g.call; reply = Some r; first = f; point = p }
 
 -- a call that is written whole at its place is answered there

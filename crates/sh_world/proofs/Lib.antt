@@ -3,3 +3,5 @@ pub mod DoneLemmas
 pub mod SettleLemmas
 pub mod StandLemmas
 pub mod LineLemmas
+pub mod MoveLemmas
+pub mod PlaceLemmas

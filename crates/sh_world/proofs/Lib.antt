@@ -5,3 +5,4 @@ pub mod StandLemmas
 pub mod LineLemmas
 pub mod MoveLemmas
 pub mod PlaceLemmas
+pub mod QueueLemmas

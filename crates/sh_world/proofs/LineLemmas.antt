@@ -41,3 +41,24 @@ module _ (p : ConfigParts) (ok : IsSetting p) where
   pub line_apart : (lock compute l c : ℕ) → compute < p.computes → c < p.computes → line_at p lock compute ≡ line_at p l c → (lock ≡ l) × (compute ≡ c)
   unfolding line_at
   line_apart lock compute l c a b e = row_apart p.computes lock compute l c a b e
+
+pub next_small : (n : ℕ) → next_ticket n < 2 ^ 64
+next_small n = omega arith
+
+pub count_up : (t s : ℕ) → t < 2 ^ 64 → s < 2 ^ 64 → minus t s + 1 < 2 ^ 64 → minus (next_ticket t) s ≡ minus t s + 1
+count_up t s a b c = omega (arith, a, b, c)
+
+pub count_down : (t s : ℕ) → t < 2 ^ 64 → s < 2 ^ 64 → 1 ≤ minus t s → minus t (next_ticket s) ≡ minus t s - 1
+count_down t s a b c = omega (arith, a, b, c)
+
+pub minus_self : (s : ℕ) → s < 2 ^ 64 → minus s s ≡ 0
+minus_self s a = omega (arith, a)
+
+pub minus_zero : (t s : ℕ) → t < 2 ^ 64 → s < 2 ^ 64 → minus t s ≡ 0 → t ≡ s
+minus_zero t s a b e = omega (arith, a, b, e)
+
+pub minus_small : (t s : ℕ) → minus t s < 2 ^ 64
+minus_small t s = omega arith
+
+pub minus_one : (n : ℕ) → 1 ≤ n → n < 2 ^ 64 → minus n 1 ≡ n - 1
+minus_one n a b = omega (arith, a, b)

@@ -1,3 +1,4 @@
+use Rattle.sh_world.proofs.QueueLemmas.{line_left}
 use Rattle.sh_world.proofs.MoveLemmas.{settled_keeps}
 use Rattle.sh_world.proofs.PlaceLemmas.{place_own}
 use Rattle.std.proofs.Common.{◌<◌, ap}

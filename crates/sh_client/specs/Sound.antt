@@ -71,7 +71,7 @@ pub record AreSpare (p : ConfigParts) (r : NodeRange) : Type 0 where
   pub low : 1 ≤ r.first
   pub high : r.first + r.count ≤ nodes p + 1
 
--- a READ that was accepted, of such a node
+-- a READ that was accepted, of a node that can be split so
 abbrev pub HasSplit : ConfigParts → Call → Aim → Option Image → Type 0
 HasSplit p call aim (Some image) = CanSplit p call aim image
 HasSplit p call aim None = ⊥

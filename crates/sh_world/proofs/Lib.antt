@@ -6,3 +6,7 @@ pub mod LineLemmas
 pub mod MoveLemmas
 pub mod PlaceLemmas
 pub mod QueueLemmas
+pub mod CountLemmas
+pub mod RunLemmas
+pub mod WantLemmas
+pub mod TurnLemmas

@@ -96,7 +96,7 @@ module _ (p : ConfigParts) (seats : List Place) (calls : List Given) (i : ℕ) (
   abbrev A : Actor
   A = actor_of calls i q
 
-  agree_ended : IsNext calls i q.number m → AgreeBut i calls (answered calls (q.number - 1) m.reply q.first (point_of log q.first q.point m.call m.reply))
+  pub agree_ended : IsNext calls i q.number m → AgreeBut i calls (answered calls (q.number - 1) m.reply q.first (point_of log q.first q.point m.call m.reply))
   agree_ended n j ne = by_other j 1 calls (q.number - 1) m.reply q.first (point_of log q.first q.point m.call m.reply) n.given n.here (λ e. ne (sym e ∙ n.seat_is))
 
   -- the seat's ended calls, with this one

@@ -62,7 +62,7 @@ IsEvent (want.Leave lock carry) = ⊥
 IsEvent want.Done = ⊥
 
 -- an event, or nothing
-abbrev Elsewhere : Want → Type 0
+abbrev pub Elsewhere : Want → Type 0
 Elsewhere (want.Event e) = Unit {0}
 Elsewhere (want.Draw lock) = ⊥
 Elsewhere (want.Look lock) = ⊥
@@ -211,16 +211,16 @@ fed_stands m word (Raise post root fresh done) h = either (to m (Swap post root 
 fed_stands m word (Swap post root fresh) h = either (to m Ended) (to (sparing m (with_lowest fresh m.spare)) (Root (Posts post))) Away (word == root) refl refl
 fed_stands m word Ended h = absurd h
 
-load_is : (o : Option ℕ) → Elsewhere (load_of o)
+pub load_is : (o : Option ℕ) → Elsewhere (load_of o)
 load_is (Some at) = tt
 load_is None = tt
 
-count_is : (w : ChunkWant) → Elsewhere (count_of w)
+pub count_is : (w : ChunkWant) → Elsewhere (count_of w)
 count_is (chunk.Event e) = tt
 count_is (chunk.Got server chunk) = tt
 count_is chunk.AllSpent = tt
 
-not_elsewhere : (w : Want) → (Elsewhere w → ⊥) → (v : Want) → v ≡ w → Elsewhere v → ⊥
+pub not_elsewhere : (w : Want) → (Elsewhere w → ⊥) → (v : Want) → v ≡ w → Elsewhere v → ⊥
 not_elsewhere w h v e k = h (subst Elsewhere e k)
 
 -- a ticket is drawn by a client that stands nowhere, which then waits in that line

@@ -19,7 +19,7 @@ use Rattle.sh_client.specs.Sound.{IsPointCall}
 use Rattle.sh_client.specs.Wants.{want_of}
 use Rattle.sh_core.specs.Core.{Inv}
 use Rattle.sh_world.specs.declared.state.Given.{Given}
-use Rattle.sh_world.specs.States.{Place, State, dones_by, dones_of, HasActor, IsLeft}
+use Rattle.sh_world.specs.States.{Place, State, dones_by, dones_of, HasActor, IsBlank, IsLeft}
 use Rattle.sh_world.specs.Lines.{AreLines}
 
 -- ---- points
@@ -73,8 +73,9 @@ pub record IsRunning (s : State) : Type 0 where
   pub places : (seat : ℕ) (q : Place) → slice_get s.seats seat ≡ Some q → IsPlace s.calls seat q
   pub given : (place : ℕ) (g : Given) → slice_get s.calls place ≡ Some g → IsGiven s.setting g
   pub few : length s.calls < 2 ^ 32
+  pub points : (seat : ℕ) (q : Place) → slice_get s.seats seat ≡ Some q → q.point ≤ length s.log
   pub by_seats : (place : ℕ) (e : Entry) → slice_get s.log place ≡ Some e → e.seat < all_seats s.setting
 
--- Any world: a blank one, or one that runs, with room in its log for an entry of each call.
+-- Any world: a blank one, or one that runs, with more room in its log than there are calls.
 abbrev pub IsWorld : State → (room : ℕ) → Type 0
-IsWorld s room = (s.seats ≡ []) ⊎ (IsRunning s × (length s.calls ≤ room))
+IsWorld s room = IsBlank s ⊎ (IsRunning s × (length s.calls < room))

@@ -4,7 +4,8 @@ ghost use Rattle.sh_base.specs.Parts.{parts_of};
 ghost use Rattle.sh_base.specs.Setting.{all_locks, all_seats, node_size};
 ghost use Rattle.sh_base.specs.Layout.{node_word};
 ghost use Rattle.sh_image.specs.Leaf.{leaf_words};
-ghost use Rattle.sh_world.specs.Laid.{bare_words, empty_leaf, first_leaf, AreLaid};
+ghost use Rattle.sh_own.specs.Laid.{blank_leaf, AreLaid};
+ghost use Rattle.sh_world.specs.Laid.{bare_words};
 ghost use Rattle.sh_world.specs.States.{dones_of, dones_from, free_line, fresh_from, fresh_place};
 
 use crate::{Given, Line, Seat};
@@ -38,7 +39,7 @@ fn zero_value(cfg: &Config) -> Value
 // Writes the empty leaf of all keys.
 fn write_empty_leaf(cfg: &Config, node: &mut [u64])
     requires { length node.old ≡ node_size (parts_of cfg.now) }
-    ensures { node.new ≡ leaf_words (empty_leaf (parts_of cfg.now)) }
+    ensures { node.new ≡ leaf_words (blank_leaf (parts_of cfg.now)) }
 {
     let leaf = LeafImage::new(0, 0, u64::MAX, 0, cfg.leaf(), zero_value(cfg));
     write_leaf(cfg, &leaf, node);

@@ -3,7 +3,7 @@ ghost use Rattle.std.specs.Prelude.{◌≡◌, ◌+◌, ◌-◌, ◌^◌, ◌<�
 ghost use Rattle.sh_base.specs.Parts.{parts_of};
 ghost use Rattle.sh_map.specs.Calls.{IsInRange};
 ghost use Rattle.sh_client.specs.Sound.{IsPointCall};
-ghost use Rattle.sh_world.specs.Laid.{AreLaid};
+ghost use Rattle.sh_own.specs.Laid.{AreLaid};
 ghost use Rattle.sh_world.specs.States.{dones_by, dones_of, fresh_state, IsBlank};
 ghost use Rattle.sh_world.specs.Turning.{answer_of, give_of, is_idle_at, tally_at, turn_of};
 
@@ -141,7 +141,7 @@ impl World {
         ensures err { OnErr result (self.new ≡ self.old) }
     {
         let number = self.calls.len() + 1;
-        self.log.reserve(number - self.log.len())?;
+        self.log.reserve(number + 1 - self.log.len())?;
         self.calls.reserve(1)?;
         let place = &mut self.seats[seat as usize];
         place.numbers.reserve(1)?;

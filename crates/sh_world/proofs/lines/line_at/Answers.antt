@@ -1,6 +1,3 @@
-use Rattle.sh_world.proofs.QueueLemmas.{line_left}
-use Rattle.sh_world.proofs.MoveLemmas.{settled_keeps}
-use Rattle.sh_world.proofs.PlaceLemmas.{place_own}
 use Rattle.std.proofs.Common.{◌<◌, ap}
 use Rattle.sh_base.specs.declared.config.ConfigParts.{ConfigParts}
 use Rattle.sh_base.specs.Setting.{all_locks}

@@ -10,3 +10,5 @@ pub mod CountLemmas
 pub mod RunLemmas
 pub mod WantLemmas
 pub mod TurnLemmas
+pub mod StartLemmas
+pub mod WorldLemmas

@@ -101,10 +101,10 @@ module _ (s : State) (run : IsRunning s) (i : ℕ) (q : Place) (at : slice_get s
     abbrev M : Machine
     M = fed_by q.client (found_by s.words e)
 
-    event_busy : is_resting q.client ≡ false
+    pub event_busy : is_resting q.client ≡ false
     event_busy = wants_busy q.client (want.Event e) w (λ x. cc)
 
-    event_step : (Now : ℕ → Actor → Type 0) → Moves Has i (becomes i A s.log (makes q.client) M) Now → Inv P (apply s.words e) (s.log ++ makes q.client) Now Out
+    pub event_step : (Now : ℕ → Actor → Type 0) → Moves Has i (becomes i A s.log (makes q.client) M) Now → Inv P (apply s.words e) (s.log ++ makes q.client) Now Out
     event_step Now mv = turn_keeps P ok s.words s.log Has Now Out i A e run.inv h w mv
 
     event_stand : stand_of q.client ≡ stand_of (place_after q s.log (makes q.client) M).client
@@ -360,7 +360,7 @@ module _ (s : State) (run : IsRunning s) (i : ℕ) (q : Place) (at : slice_get s
 
     -- the line is left
     module _ (carry : Option ℕ) (w : want_of q.client ≡ want.Leave lock carry) where
-      leave_busy : is_resting q.client ≡ false
+      pub leave_busy : is_resting q.client ≡ false
       leave_busy = wants_busy q.client (want.Leave lock carry) w (λ x. cc)
 
       abbrev VM : Machine
@@ -391,7 +391,7 @@ module _ (s : State) (run : IsRunning s) (i : ℕ) (q : Place) (at : slice_get s
       leave_lines = lines_one P ok s.lines lock D lock_ok compute_small X (left_line X carry) at_line s.seats i q VQ at refl run.lines (in_none (stand_of VQ.client) leave_now) (in_served (stand_of q.client) (is_some carry) leave_was)
         (line_left P ok s.seats i q VQ at lock X line_ok carry leave_was leave_now carry_bound)
 
-      leave_step : (o : Option ℕ) → carry ≡ o → (Now : ℕ → Actor → Type 0) → Moves Has i (becomes i A s.log [] VM) Now → Inv P s.words (s.log ++ []) Now (IsLeft P VL)
+      pub leave_step : (o : Option ℕ) → carry ≡ o → (Now : ℕ → Actor → Type 0) → Moves Has i (becomes i A s.log [] VM) Now → Inv P s.words (s.log ++ []) Now (IsLeft P VL)
       leave_step None e Now mv =
           let same : carry ≡ X.left = e ∙ sym its_last.1 in
           no_more Now (IsLeft P VL) (out_same P s.words s.log Now Out (IsLeft P VL) (left_on P ok s.lines lock D lock_ok compute_small X (left_line X carry) at_line same) (left_back P ok s.lines lock D lock_ok compute_small X (left_line X carry) at_line same)

@@ -1,6 +1,6 @@
 -- The world's turn as what its parts do.
 use Rattle.std.proofs.Common.{◌≡◌, ◌≢◌, ◌⊎◌, ℕ, zero, suc, ◌+◌, ◌-◌, ◌^◌, ◌<◌, ◌≤◌, inl, inr, Bool, true, false, List, [], ◌∷◌, ◌++◌, length, get_or, set, take, drop, Option, Some, None, refl, sym, ap, ◌∙◌, subst, arith}
-use Rattle.std.specs.Prelude.{◌==◌, if◌then◌else◌, slice_get}
+use Rattle.std.specs.Prelude.{◌==◌, if◌then◌else◌, slice_get, IfSome}
 use Rattle.std.proofs.lemmas.Option.{slice_get_within, slice_get_read}
 use Rattle.std.proofs.lemmas.List.{append-nil, length-set, take_at}
 use Rattle.sh_base.specs.declared.config.ConfigParts.{ConfigParts}
@@ -20,12 +20,14 @@ use Rattle.sh_core.specs.Actors.{has_ended, point_of}
 use Rattle.sh_world.specs.declared.state.Given.{Given}
 use Rattle.sh_world.specs.declared.state.Line.{Line}
 use Rattle.sh_world.specs.declared.turn.Turn.{Turn}
-use Rattle.sh_world.specs.States.{Place, State, answered, line_at, IsBlank}
+use Rattle.sh_world.specs.States.{Place, State, actor_of, answered, line_at, IsBlank}
 use Rattle.sh_world.specs.Turning.{answer_at, answer_in, answer_of, asked, behind, calls_after, drawn, left_line, line_of, looked_client, looked_line, or_free, place_after, took, turn_at, turn_of, with_ticket}
 use Rattle.sh_world.specs.Running.{IsRunning, IsWorld}
+use Rattle.sh_world.specs.Seats.{CanSettle}
+use Rattle.sh_world.proofs.LineLemmas.{compute_within}
 use Rattle.sh_world.proofs.DoneLemmas.{length_answered}
 use Rattle.sh_world.proofs.MoveLemmas.{set_again, set_here}
-use Rattle.sh_world.proofs.StartLemmas.{asked_runs}
+use Rattle.sh_world.proofs.StartLemmas.{asked_runs, event_settles, leave_settles}
 use Rattle.sh_world.proofs.TurnLemmas.{at_line, count_runs, draw_runs, event_runs, leave_runs, look_runs, put_place}
 
 some_is : {X : Type 0} {x y : X} → Some x ≡ Some y → x ≡ y
@@ -166,3 +168,71 @@ module _ (s : State) (i : ℕ) (r R : Place) (r_is : r ≡ R) where
         let p = x_is ∙ (λ z. place_after (r_is z) (lg_is z) [] (fed_by (r_is z).client 0)) in
         let n = new_is ∙ ap (λ (y : Line). left_line y carry) l_is in
         λ z. record { setting = s.setting; words = s.words; log = none z; seats = set s.seats i (p z); calls = c z; lines = set s.lines (k_is z) (n z) }
+
+-- the seat was asked, and wants this
+pub record IsAsked (s : State) (i room : ℕ) (r : Place) (w : Want) : Type 0 where
+  pub run : IsRunning s
+  pub room_is : length s.calls < room
+  pub place : Place
+  pub here : slice_get s.seats i ≡ Some place
+  pub asked_is : r ≡ asked s.calls place (length s.log)
+  pub want_is : want_of (asked s.calls place (length s.log)).client ≡ w
+  pub within : IsWithin s.setting w
+
+asked_setting : (s : State) (run : IsRunning s) (i : ℕ) (q : Place) (at : slice_get s.seats i ≡ Some q) → (asked s.calls q (length s.log)).client.setting ≡ s.setting
+asked_setting s run i q at = let r1 = run1 s run i q at in (r1.inv.kept i (actor_of s.calls i (asked s.calls q (length s.log))) (record { place = asked s.calls q (length s.log); here = at1 s run i q at; actor_is = refl })).work.seated.setting_is
+
+pub is_asked : (s t : State) (room i : ℕ) (q r : Place) (calls : List Given) (seen : ℕ) (res w : Want) → s ≡ t → IsWorld s room → i < length t.seats → q ≡ get_or s.seats i q → calls ≡ s.calls → seen ≡ length s.log → r ≡ asked calls q seen → res ≡ want_of r.client → IsWithin r.client.setting res → res ≡ w → IsAsked s i room r w
+is_asked s t room i q r calls seen res w e h lt read calls_is seen_is r_is res_is inside w_is =
+    let g = running s t room i e h lt in
+    let at = slice_get_read s.seats (length s.seats) i q refl g.2 read in
+    let all : r ≡ asked s.calls q (length s.log) = r_is ∙ (λ z. asked (calls_is z) q (seen_is z)) in
+    record {
+      run = g.0; room_is = g.1; place = q; here = at; asked_is = all;
+      want_is = ap (λ (x : Place). want_of x.client) (sym all) ∙ sym res_is ∙ w_is;
+      within = subst (λ (p : ConfigParts). IsWithin p w) (ap (λ (x : Place). x.client.setting) all ∙ asked_setting s g.0 i q at) (subst (IsWithin r.client.setting) w_is inside);
+    }
+
+module _ (s : State) (i room : ℕ) (r : Place) (w : Want) (a : IsAsked s i room r w) where
+  -- what comes of it is the turn
+  pub value_is : (t u : State) → s ≡ u → t ≡ took s i (asked s.calls a.place (length s.log)) w → t ≡ turn_of u i
+  value_is t u e is = is ∙ sym (turn_is s a.run i a.place a.here w a.want_is) ∙ ap (λ (x : State). turn_of x i) e
+
+  pub told_is : (u : State) (words : List ℕ) (x : Turn) → s ≡ u → words ≡ s.words → x ≡ answer_in words w → x ≡ answer_of u i
+  told_is u words x e ws is = is ∙ ap (λ (v : List ℕ). answer_in v w) ws ∙ sym (answer_is s a.run i a.place a.here w a.want_is) ∙ ap (λ (y : State). answer_of y i) e
+
+  pub kept_is : (t : State) (new : ℕ) → t ≡ took s i (asked s.calls a.place (length s.log)) w → new ≡ room → IsWorld t new
+  kept_is t new is same = world_is s a.run i a.place a.here w a.want_is a.within t room new is a.room_is same
+
+pub event_can : (s : State) (i room : ℕ) (r : Place) (e : Event) (cs : List Given) (ws : List ℕ) → IsAsked s i room r (want.Event e) → cs ≡ s.calls → ws ≡ s.words → CanSettle s.log cs r (fed_by r.client (found_by ws e))
+event_can s i room r e cs ws a cs_is ws_is =
+    let h = event_settles (put_place s i (asked s.calls a.place (length s.log))) (run1 s a.run i a.place a.here) i (asked s.calls a.place (length s.log)) (at1 s a.run i a.place a.here) e a.want_is in
+    subst (λ (x : Place). CanSettle s.log cs x (fed_by x.client (found_by ws e))) (sym a.asked_is)
+    (subst (λ (v : List ℕ). CanSettle s.log cs (asked s.calls a.place (length s.log)) (fed_by (asked s.calls a.place (length s.log)).client (found_by v e))) (sym ws_is)
+    (subst (λ (c : List Given). CanSettle s.log c (asked s.calls a.place (length s.log)) (fed_by (asked s.calls a.place (length s.log)).client (found_by s.words e))) (sym cs_is) h))
+
+pub leave_can : (s : State) (i room : ℕ) (r : Place) (lock : ℕ) (carry : Option ℕ) (cs : List Given) (lg : List Entry) → IsAsked s i room r (want.Leave lock carry) → cs ≡ s.calls → lg ≡ s.log → CanSettle lg cs r (fed_by r.client 0)
+leave_can s i room r lock carry cs lg a cs_is lg_is =
+    let h = leave_settles (put_place s i (asked s.calls a.place (length s.log))) (run1 s a.run i a.place a.here) i (asked s.calls a.place (length s.log)) (at1 s a.run i a.place a.here) lock a.within carry a.want_is in
+    subst (λ (x : Place). CanSettle lg cs x (fed_by x.client 0)) (sym a.asked_is)
+    (subst (λ (v : List Entry). CanSettle v cs (asked s.calls a.place (length s.log)) (fed_by (asked s.calls a.place (length s.log)).client 0)) (sym lg_is)
+    (subst (λ (c : List Given). CanSettle s.log c (asked s.calls a.place (length s.log)) (fed_by (asked s.calls a.place (length s.log)).client 0)) (sym cs_is) h))
+
+-- what was left in a line is within the bound
+pub left_bound : (s : State) (i room : ℕ) (r : Place) (lock : ℕ) (l : Line) → IsAsked s i room r (want.Look lock) → l ≡ line_of s i lock → (d : ℕ) → l.left ≡ Some d → d ≤ r.client.setting.bound
+left_bound s i room r lock l a l_is d e =
+    let q = asked s.calls a.place (length s.log) in
+    let r1 = run1 s a.run i a.place a.here in
+    let seat = (r1.inv.kept i (actor_of s.calls i q) (record { place = q; here = at1 s a.run i a.place a.here; actor_is = refl })).work.seated.within in
+    let compute = compute_within s.setting a.run.setting i seat in
+    let h = (a.run.lines.each lock (compute_of s.setting i) (line_of s i lock) a.within compute (at_line s a.run i a.place a.here lock a.within)).left d (ap (λ (x : Line). x.left) (sym l_is) ∙ e) in
+    let set_is : r.client.setting ≡ s.setting = ap (λ (x : Place). x.client.setting) a.asked_is ∙ asked_setting s a.run i a.place a.here in
+    let bound : r.client.setting.bound ≡ s.setting.bound = ap (λ (p : ConfigParts). p.bound) set_is in
+    omega (arith, h.1, bound)
+
+pub done_world : (s : State) (i : ℕ) (r R : Place) → r ≡ R → record { setting = s.setting; words = s.words; log = s.log; seats = set s.seats i r; calls = s.calls; lines = s.lines } ≡ took s i R want.Done
+done_world s i r R e = λ z. record { setting = s.setting; words = s.words; log = s.log; seats = set s.seats i (e z); calls = s.calls; lines = s.lines }
+
+pub if_some : (o : Option ℕ) (b : ℕ) → ((d : ℕ) → o ≡ Some d → d ≤ b) → IfSome o (λ d. d ≤ b)
+if_some None b h = tt
+if_some (Some d) b h = h d refl

@@ -12,6 +12,7 @@ ghost use Rattle.sh_world.specs.States.{answered};
 ghost use Rattle.sh_world.specs.Turning.{asked, behind, calls_after, drawn, is_idle, left_line, looked_client, looked_line, place_after, started, starts_next, with_ticket};
 ghost use Rattle.sh_world.specs.Seats.{CanAsk, CanSettle, CanStart};
 
+use crate::lines::behind;
 use crate::points::point_of;
 use crate::{Given, Line, Seat};
 use sh_base::Event;
@@ -143,8 +144,7 @@ impl Seat {
         ensures seat { self.new ≡ place_after self.old log.now [] (fed_by self.old.client (behind line.now self.old.ticket)) }
         ensures calls { calls.new ≡ calls_after calls.old self.old log.now (fed_by self.old.client (behind line.now self.old.ticket)) }
     {
-        let behind = line.next.wrapping_sub(self.ticket).wrapping_sub(1);
-        self.client.fed(behind);
+        self.client.fed(behind(line, self.ticket));
         self.settle(log, log.len() as u64, calls);
     }
 

@@ -19,7 +19,7 @@ returns-clause-run c =
     record {
       run = subst (λ ws. IsRun p ws c.log_call.new.log.items c.push_reserved.new.self.items) (sym (take_at c.serve-reply.new.words _ _ words))
           (serving_more p _ _ _ _ _ _ c.args.seat c.args.call.now _ _ _ _ c.requires.run.run c.requires.one_key c.requires.in_range served
-          (c.log_call.ensures ∙ ap (λ l. l ++ entries_by c.args.seat c.args.call.now c.serve-reply.result) c.reserve.ensures.items)
+          (c.log_call.ensures.items ∙ ap (λ l. l ++ entries_by c.args.seat c.args.call.now c.serve-reply.result) c.reserve.ensures.items)
           (c.push_reserved.ensures.items ∙ ap (λ l. l ++ done ∷ []) c.reserve-2.ensures.items)
           number first c.new.ensures);
       room = ap length (take_at c.serve-reply.new.node _ _ node) ∙ node ∙ c.args.self.now.node.ok.0 ∙ c.requires.run.room;

@@ -1,0 +1,14 @@
+pub mod PointLemmas
+pub mod DoneLemmas
+pub mod SettleLemmas
+pub mod StandLemmas
+pub mod LineLemmas
+pub mod MoveLemmas
+pub mod PlaceLemmas
+pub mod QueueLemmas
+pub mod CountLemmas
+pub mod RunLemmas
+pub mod WantLemmas
+pub mod TurnLemmas
+pub mod StartLemmas
+pub mod WorldLemmas

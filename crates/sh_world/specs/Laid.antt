@@ -1,0 +1,13 @@
+-- The words of a laid pool, as they are written.
+use Rattle.std.specs.Prelude.{ℕ, List, replicate, slice_set}
+use Rattle.sh_base.specs.declared.config.ConfigParts.{ConfigParts}
+use Rattle.sh_base.specs.Setting.{pool_words}
+use Rattle.sh_base.specs.Layout.{root_word, counter_word}
+
+-- the number of the first leaf
+abbrev pub first_leaf : ℕ
+first_leaf = 1
+
+-- the words of a laid pool, but for the leaf's
+abbrev pub bare_words : ConfigParts → List ℕ
+bare_words p = slice_set (slice_set (replicate (pool_words p) 0) root_word first_leaf) (counter_word p 0) 1

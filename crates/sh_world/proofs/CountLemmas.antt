@@ -12,7 +12,7 @@ use Rattle.sh_map.specs.declared.book.Done.{Done}
 use Rattle.sh_map.specs.Made.{entries_by}
 use Rattle.sh_core.specs.Actors.{made_by, updates}
 use Rattle.sh_core.specs.Keeps.{pending, pending_aim, pending_then, pending_write}
-use Rattle.sh_core.specs.Rest.{sum_below}
+use Rattle.sh_core_books.specs.Rest.{sum_below}
 use Rattle.sh_decide.specs.declared.state.Aim.{Aim}
 use Rattle.sh_decide.specs.declared.state.Aim.TheVariants.{Own, Posts}
 use Rattle.sh_client.specs.declared.state.Then.{Then}

@@ -20,7 +20,7 @@ use Rattle.sh_client.specs.Rests.{is_resting}
 use Rattle.sh_core.specs.Actors.{Actor, becomes, done_of, ending, going as actor_going, has_ended, point_of, point_after, AreAnswered, IsAnswered, IsLeast, made_by, updates}
 use Rattle.sh_core.specs.Keeps.{Keeps, pending}
 use Rattle.sh_core.specs.Core.{Inv, Moves}
-use Rattle.sh_core.specs.Rest.{sum_below}
+use Rattle.sh_core_books.specs.Rest.{sum_below}
 use Rattle.sh_core.proofs.Calls.{rest_keeps}
 use Rattle.sh_world.specs.declared.state.Given.{Given}
 use Rattle.sh_world.specs.declared.state.Line.{Line}

@@ -24,7 +24,7 @@ use Rattle.sh_core.specs.Actors.{Actor, becomes, stepped, turned}
 use Rattle.sh_core.specs.Fits.{Fits}
 use Rattle.sh_core.specs.Keeps.{Keeps}
 use Rattle.sh_core.specs.Core.{Inv, Moves, IsLocal, HasSeen, AreSame}
-use Rattle.sh_core.proofs.Turns.{turn_keeps}
+use Rattle.sh_core_turns.proofs.Turns.{turn_keeps}
 use Rattle.sh_core.proofs.LocalLaws.{local_keeps, look_keeps, take_keeps, part_keeps}
 use Rattle.sh_core.proofs.Calls.{same_keeps}
 use Rattle.sh_world.specs.declared.state.Given.{Given}

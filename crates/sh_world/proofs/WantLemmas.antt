@@ -29,7 +29,7 @@ use Rattle.sh_client.specs.Wants.{count_of, load_of, want_in, want_of}
 use Rattle.sh_client.proofs.KeptLemmas.{fed_keeps, turned_keeps}
 use Rattle.sh_core.specs.Actors.{Actor, becomes, has_ended, turned}
 use Rattle.sh_core.specs.Core.{Inv, Moves, IsLocal, HasSeen}
-use Rattle.sh_core.proofs.Turns.{turn_keeps}
+use Rattle.sh_core_turns.proofs.Turns.{turn_keeps}
 use Rattle.sh_core.proofs.LocalLaws.{local_keeps, look_keeps, take_keeps, part_keeps}
 use Rattle.sh_core.proofs.Calls.{same_keeps}
 use Rattle.sh_world.specs.declared.state.Given.{Given}

@@ -167,6 +167,7 @@ impl World {
         let words = laid_words(alloc, cfg)?;
         let seats = fresh_seats(alloc, cfg)?;
         let lines = free_lines(alloc, cfg)?;
+        self.log.reserve(1)?;
         self.cfg = *cfg;
         self.words = words;
         self.seats = seats;

@@ -1,20 +1,18 @@
-use Rattle.std.proofs.Common.{rules, ◌≡◌, ◌+◌, ◌-◌, ◌^◌, ◌<◌, ◌≤◌, OnOk, OnErr, IfOk, length, slice_get, ℕ, ◌*◌, ◌/◌, ◌%◌, Bool, true, false, nat_eq, nat_lt, List, [], ◌∷◌, ◌++◌, slice_index_or, slice_set, bit_and, bit_or, Fits, w8, w32, w64, Bor, MutBor}
-use Rattle.sh_base.specs.Parts.{parts_of}
-use Rattle.sh_map.specs.Calls.{IsInRange}
-use Rattle.sh_client.specs.Sound.{IsPointCall}
-use Rattle.sh_world.specs.Laid.{AreLaid}
-use Rattle.sh_world.specs.States.{dones_by, dones_of, fresh_state, IsBlank}
-use Rattle.sh_world.specs.Turning.{answer_of, give_of, is_idle_at, tally_at, turn_of}
+use Rattle.std.proofs.Common.{◌∙◌, ap, arith, refl, sym}
+use Rattle.std.proofs.lemmas.Option.{slice_get_read}
+use Rattle.sh_world.specs.contracts.state.World.{the_view}
+use Rattle.sh_world.proofs.GiveLemmas.{give_is, given_world}
+use Rattle.sh_world.proofs.RunLemmas.{log_few}
+use Rattle.sh_world.proofs.WorldLemmas.{running}
 use Rattle.sh_world.proofs.state.World.give.Goals as goal
 
--- src/world.rt:144:26
 pub overflow_sub-number : goal.overflow_sub-number
-overflow_sub-number c = ?
+overflow_sub-number c =
+    let g = running (the_view c.self.inside) c.args.self.now _ c.args.seat c.self.view_is c.self.invariant c.requires.seat in
+    omega (arith, log_few (the_view c.self.inside) g.0, c.len.ensures, c.len-number.ensures, c.self.inside.log.ok.0, c.self.inside.calls.ok.0)
 
--- src/world.rt:135:5
 pub invariant_of-self-2 : goal.invariant_of-self-2
 invariant_of-self-2 c = ?
 
--- src/world.rt:135:5
 pub returns-clause-ok : goal.returns-clause-ok
 returns-clause-ok c = ?

@@ -58,9 +58,9 @@ module _ (calls : List Given) (g : Given) (waits : g.reply ≡ None) (j : ℕ) (
     call = λ x b here. elim (slice_get-push_back calls g x (q.number - 1) here) [
       | inl was ↦ h.call x b was
       | inr w ↦
-        let n = number_in j 1 calls q.ended q.number (ap (λ (ms : List ℕ). slice_get ms q.ended) (sym h.numbers) ∙ h.busy b) in
-        let below = slice_get_within calls (q.number - 1) n.given n.here in
-        absurd (omega (arith, below, w.0))
+          let n = number_in j 1 calls q.ended q.number (ap (λ (ms : List ℕ). slice_get ms q.ended) (sym h.numbers) ∙ h.busy b) in
+          let below = slice_get_within calls (q.number - 1) n.given n.here in
+          absurd (omega (arith, below, w.0))
     ];
   }
 
@@ -71,8 +71,8 @@ module _ (calls : List Given) (g : Given) (waits : g.reply ≡ None) (j : ℕ) (
   own_given own =
       let n : 1 + length calls ≡ length calls + 1 = omega arith in
       place_given (q.numbers ++ (length calls + 1) ∷ []) (ap (λ (ms : List ℕ). ms ++ (length calls + 1) ∷ []) h.numbers ∙ sym (numbers_snoc j 1 calls g ∙ ap (λ (b : Bool). numbers_from j 1 calls ++ last j (1 + length calls) g b) (eq-eqb g.seat j own) ∙ ap (λ (m : ℕ). numbers_from j 1 calls ++ m ∷ []) n))
-        (λ m e. elim (slice_get-push_back q.numbers (length calls + 1) m q.ended e) [ | inl w ↦ inl w | inr w ↦ inr (sym w.1) ]) (λ m e. slice_get-append_left q.numbers ((length calls + 1) ∷ []) q.ended m e)
-        (let l = length_push q.numbers (length calls + 1) in omega (arith, l))
+      (λ m e. elim (slice_get-push_back q.numbers (length calls + 1) m q.ended e) [ inl w ↦ inl w | inr w ↦ inr (sym w.1) ]) (λ m e. slice_get-append_left q.numbers ((length calls + 1) ∷ []) q.ended m e)
+      (let l = length_push q.numbers (length calls + 1) in omega (arith, l))
 
 module _ (s : State) (run : IsRunning s) (i : ℕ) (q : Place) (at : slice_get s.seats i ≡ Some q) (call : Call) (in_range : IsInRange s.setting call) (point : IsPointCall call) (few : length s.calls < 2 ^ 32 - 1) where
   abbrev G : Given

@@ -1,5 +1,5 @@
 -- A world whose pool was just laid.
-use Rattle.std.proofs.Common.{◌≡◌, ◌≢◌, ℕ, zero, suc, ◌+◌, ◌-◌, ◌*◌, ◌^◌, ◌<◌, ◌≤◌, false, List, [], ◌∷◌, ◌++◌, length, get_or, take, replicate, Option, Some, None, refl, sym, ap, ◌∙◌, subst, arith}
+use Rattle.std.proofs.Common.{◌≡◌, ◌≢◌, ℕ, zero, suc, ◌+◌, ◌-◌, ◌*◌, ◌^◌, ◌<◌, ◌≤◌, false, List, [], ◌∷◌, ◌++◌, length, get_or, take, replicate, Option, Some, None, refl, sym, ap, ◌∙◌, subst, arith, inr, append-nil}
 use Rattle.std.specs.Prelude.{slice_get}
 use Rattle.std.proofs.lemmas.List.{length-replicate, length-take-le, take_more}
 use Rattle.sh_base.specs.declared.config.ConfigParts.{ConfigParts}
@@ -7,6 +7,7 @@ use Rattle.sh_base.specs.Setting.{all_locks, all_seats, IsSetting}
 use Rattle.sh_map.specs.declared.call.Reply.{Reply}
 use Rattle.sh_map.specs.declared.book.Done.{Done}
 use Rattle.sh_own.specs.Laid.{AreLaid}
+use Rattle.sh_client.specs.Machine.{Machine, fresh_machine}
 use Rattle.sh_core.specs.Actors.{Actor}
 use Rattle.sh_core.specs.Opening.{entered}
 use Rattle.sh_core.proofs.Opening.{laid_keeps}
@@ -14,7 +15,7 @@ use Rattle.sh_world.specs.declared.state.Given.{Given}
 use Rattle.sh_world.specs.declared.state.Line.{Line}
 use Rattle.sh_world.specs.States.{Place, State, done_in, dones_of, free_line, fresh_from, fresh_place, fresh_state, HasActor, IsLeft}
 use Rattle.sh_world.specs.Lines.{stand_of, IsIn, IsLine, StandsIn}
-use Rattle.sh_world.specs.Running.{IsPlace, IsRunning}
+use Rattle.sh_world.specs.Running.{IsPlace, IsRunning, IsWorld}
 use Rattle.sh_world.proofs.DoneLemmas.{dones_snoc}
 
 -- one seat more
@@ -30,6 +31,17 @@ pub dones_more : (calls : List Given) (i : ℕ) (g : Given) → i < length calls
 dones_more calls i g lt read =
     let n : 1 + length (take i calls) ≡ i + 1 = omega (arith, length-take-le i calls (omega (arith, lt))) in
     ap dones_of (take_more calls i g lt ∙ ap (λ (x : Given). take i calls ++ x ∷ []) (sym read)) ∙ dones_snoc 1 (take i calls) g ∙ ap (λ (m : ℕ). dones_of (take i calls) ++ done_in m g g.reply) n
+
+pub seats_more : (p : ConfigParts) (n : ℕ) (old new : List Place) (m : Machine) (ns : List ℕ) → old ≡ fresh_from p 0 n → m ≡ fresh_machine p n → ns ≡ [] → new ≡ old ++ record { client = m; numbers = ns; ended = 0; number = 0; ticket = 0; seen = 0; first = 0; point = 0 } ∷ [] → new ≡ fresh_from p 0 (n + 1)
+seats_more p n old new m ns old_is m_is ns_is new_is =
+    let x : n ≡ 0 + n = omega arith in
+    new_is ∙ (λ z. old_is z ++ record { client = (m_is ∙ ap (fresh_machine p) x) z; numbers = ns_is z; ended = 0; number = 0; ticket = 0; seen = 0; first = 0; point = 0 } ∷ []) ∙ sym (fresh_snoc p 0 n)
+
+pub told_more : (calls : List Given) (i : ℕ) (g : Given) (r : Reply) (old new : List Done) (d : Done) → i < length calls → g ≡ get_or calls i g → old ≡ dones_of (take i calls) → g.reply ≡ Some r → new ≡ old ++ d ∷ [] → d ∷ [] ≡ done_in (i + 1) g (Some r) → new ≡ dones_of (take (i + 1) calls)
+told_more calls i g r old new d lt read old_is reply_is new_is d_is = new_is ∙ (λ z. old_is z ++ d_is z) ∙ ap (λ (o : Option Reply). dones_of (take i calls) ++ done_in (i + 1) g o) (sym reply_is) ∙ sym (dones_more calls i g lt read)
+
+pub untold_more : (calls : List Given) (i : ℕ) (g : Given) (old : List Done) → i < length calls → g ≡ get_or calls i g → old ≡ dones_of (take i calls) → g.reply ≡ None → old ≡ dones_of (take (i + 1) calls)
+untold_more calls i g old lt read old_is reply_is = old_is ∙ sym (append-nil (dones_of (take i calls))) ∙ ap (λ (o : Option Reply). dones_of (take i calls) ++ done_in (i + 1) g o) (sym reply_is) ∙ sym (dones_more calls i g lt read)
 
 fresh_at : (p : ConfigParts) (k n i : ℕ) (q : Place) → slice_get (fresh_from p k n) i ≡ Some q → (i < n) × (q ≡ fresh_place p (k + i))
 fresh_at p k zero i q e = cc
@@ -74,7 +86,9 @@ module _ (p : ConfigParts) (ok : IsSetting p) (words : List ℕ) (laid : AreLaid
     lines = record {
       count = length-replicate (all_locks p * p.computes) free_line;
       each = λ lock compute line a b e. subst (IsLine p S lock compute) (sym (free_at (all_locks p * p.computes) _ line e)) (record {
-        next = omega arith; served = omega arith; few = omega arith;
+        next = omega arith;
+        served = omega arith;
+        few = omega arith;
         each = λ k lt. absurd (omega (arith, lt));
         out = λ j q h. absurd (away lock compute j q h);
         differ = λ i j q r h k x. absurd (away lock compute i q h);
@@ -90,3 +104,7 @@ module _ (p : ConfigParts) (ok : IsSetting p) (words : List ℕ) (laid : AreLaid
     points = λ seat q e. subst (λ (x : Place). x.point ≤ 0) (sym (fresh_at p 0 (all_seats p) seat q e).1) (omega arith);
     by_seats = λ k e x. cc;
   }
+
+  -- and so it is a world
+  pub open_world : (t : State) (room : ℕ) → t ≡ fresh_state p words → 0 < room → IsWorld t room
+  open_world t room is lt = subst (λ (x : State). IsWorld x room) (sym is) (inr (laid_runs, lt))

@@ -58,8 +58,8 @@ all_counts key n [] h = sym (sum_zero n)
 all_counts key n (x ∷ xs) h =
     ap suc (all_counts key n xs (λ k y e. h (suc k) y e))
     ∙ sym (sum_more n (key x) (λ j. counts key j xs) (λ j. if key x == j then suc (counts key j xs) else counts key j xs)
-      (λ j ne. ap (λ (b : Bool). if b then suc (counts key j xs) else counts key j xs) (ne_eqb (key x) j (λ e. ne (sym e))))
-      (ap (λ (b : Bool). if b then suc (counts key (key x) xs) else counts key (key x) xs) (eq-eqb (key x) (key x) refl)) (h 0 x refl))
+    (λ j ne. ap (λ (b : Bool). if b then suc (counts key j xs) else counts key j xs) (ne_eqb (key x) j (λ e. ne (sym e))))
+    (ap (λ (b : Bool). if b then suc (counts key (key x) xs) else counts key (key x) xs) (eq-eqb (key x) (key x) refl)) (h 0 x refl))
 
 log_counts : (j : ℕ) (log : List Entry) → length (made_by j log) ≡ counts (λ (e : Entry). e.seat) j log
 unfolding counts

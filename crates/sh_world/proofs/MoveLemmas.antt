@@ -63,8 +63,8 @@ module _ (seats : List Place) (calls now : List Given) (i : ℕ) (q : Place) (a 
   own_back b h =
       let same : h.place ≡ q = some_is (sym h.here ∙ set_here seats i q lt) in
       h.actor_is ∙ ap (actor_of now i) same ∙ sym is where
-    some_is : {x y : Place} → Some x ≡ Some y → x ≡ y
-    some_is e = cc
+        some_is : {x y : Place} → Some x ≡ Some y → x ≡ y
+        some_is e = cc
 
   pub moves_from : (Has : ℕ → Actor → Type 0) → ((j : ℕ) (b : Actor) → j ≢ i → Has j b → HasActor seats calls j b) → ((j : ℕ) (b : Actor) → j ≢ i → HasActor seats calls j b → Has j b) → Moves Has i a (HasActor (set seats i q) now)
   moves_from Has to from = record {
@@ -119,7 +119,7 @@ module _ (p : ConfigParts) (seats : List Place) (calls : List Given) (i : ℕ) (
         let inv = step (Instead (HasActor seats calls) i (becomes i A log more m)) (instead_moves (HasActor seats calls) i (becomes i A log more m)) in
         rest_law words (log ++ more) (Instead (HasActor seats calls) i (becomes i A log more m)) (HasActor (set seats i (resting q log m)) (answered calls (q.number - 1) m.reply q.first (point_of log q.first q.point m.call m.reply))) Out i ended inv (inl (refl, sym is)) (phase_ended m.phase e)
         (moves_from seats calls (answered calls (q.number - 1) m.reply q.first (point_of log q.first q.point m.call m.reply)) i (resting q log m) (rested ended) lt (agree_ended n) (own_ended n) (Instead (HasActor seats calls) i (becomes i A log more m))
-          (λ j b ne h. elim h [ | inl k ↦ absurd (ne k.0) | inr k ↦ k.1 ]) (λ j b ne h. inr (ne, h)))
+        (λ j b ne h. elim h [ inl k ↦ absurd (ne k.0) | inr k ↦ k.1 ]) (λ j b ne h. inr (ne, h)))
 
     pub settled_keeps : Inv p words (log ++ more) (HasActor (set seats i (place_after q log more m)) (calls_after calls q log m)) Out
     settled_keeps = by_end (has_ended m.phase) refl

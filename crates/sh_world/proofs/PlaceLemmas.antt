@@ -115,12 +115,12 @@ module _ (calls : List Given) (i : ℕ) (q : Place) (log more : List Entry) (m :
         ended = omega (arith, inside);
         count = ap length (by_own i 1 calls (q.number - 1) m.reply q.first (point_of log q.first q.point m.call m.reply) n.given n.here n.seat_is n.later) ∙ length_push (dones_by i (dones_of calls)) _ ∙ ap (λ (c : ℕ). c + 1) h.count;
         waiting = λ next place g at le here own.
-          let more_one : q.ended + 1 ≡ suc q.ended = omega arith in
-          let lt = rising i 1 calls q.ended q.number next (ap (λ (ns : List ℕ). slice_get ns q.ended) (sym h.numbers) ∙ h.busy busy) (ap (λ (ns : List ℕ). slice_get ns (suc q.ended)) (sym h.numbers) ∙ ap (slice_get q.numbers) (sym more_one) ∙ at) in
-          elim (get_answered calls (q.number - 1) m.reply q.first (point_of log q.first q.point m.call m.reply) place g here) [
-            | inl was ↦ h.waiting q.number place g (h.busy busy) (omega (arith, lt, le)) was own
-            | inr k ↦ absurd (omega (arith, lt, le, k.0, n.real))
-          ];
+            let more_one : q.ended + 1 ≡ suc q.ended = omega arith in
+            let lt = rising i 1 calls q.ended q.number next (ap (λ (ns : List ℕ). slice_get ns q.ended) (sym h.numbers) ∙ h.busy busy) (ap (λ (ns : List ℕ). slice_get ns (suc q.ended)) (sym h.numbers) ∙ ap (slice_get q.numbers) (sym more_one) ∙ at) in
+            elim (get_answered calls (q.number - 1) m.reply q.first (point_of log q.first q.point m.call m.reply) place g here) [
+              | inl was ↦ h.waiting q.number place g (h.busy busy) (omega (arith, lt, le)) was own
+              | inr k ↦ absurd (omega (arith, lt, le, k.0, n.real))
+            ];
         rests = λ r. refl;
         busy = λ b. cc;
         call = λ g b at. cc;

@@ -42,7 +42,10 @@ module _ (log : List Entry) (first key : ℕ) (had : Option (List ℕ)) where
     -- an entry of another key
     pub other : key ≢ key_of e.change → IsWalked log first key had start (at + 1)
     other ne = record {
-      from = w.from; upto = omega (arith, w.upto); within = omega (arith, lt); before = w.before;
+      from = w.from;
+      upto = omega (arith, w.upto);
+      within = omega (arith, lt);
+      before = w.before;
       since = λ q a b. elim (cases_eq q (at + 1)) [
         | inl is ↦ ap (λ (n : ℕ). get (map_at log n) key) is ∙ ap (λ m. get m key) next ∙ changed_other (map_at log at) e.change key ne ∙ w.since at w.upto (omega arith)
         | inr not ↦ w.since q a (omega (arith, b, not))
@@ -55,7 +58,9 @@ module _ (log : List Entry) (first key : ℕ) (had : Option (List ℕ)) where
 
     pub passes : key ≡ key_of e.change → e.old ≢ had → IsWalked log first key had (at + 1) (at + 1)
     passes is not = record {
-      from = omega (arith, w.from, w.upto); upto = omega arith; within = omega (arith, lt);
+      from = omega (arith, w.from, w.upto);
+      upto = omega arith;
+      within = omega (arith, lt);
       before = λ q a b. elim (cases_lt q start) [
         | inl early ↦ w.before q a early
         | inr late ↦ λ same. not (tells is ∙ sym (w.since q late (omega (arith, b))) ∙ same)

@@ -66,34 +66,36 @@ module _ (p : ConfigParts) (ok : IsSetting p) (seats : List Place) (i : ℕ) (q 
   to_old : (l c : ℕ) → IsStill l c → (j : ℕ) (r : Place) → StandsIn p S l c j r → IsLike seats l c j r
   to_old l c st j r h = elim (cases_eq j i) [
     | inl e ↦
-      let o = own l c j r e h in
-      let k = st.now o.2 o.1 in
-      record {
-        place = q;
-        stands = record { here = ap (slice_get seats) e ∙ at; compute_is = h.compute_is; stands = subst (IsIn l) (sym k.0) o.2 };
-        ticket = k.1 ∙ ap (λ (x : Place). x.ticket) (sym o.0);
-        stand = k.0 ∙ ap (λ (x : Place). stand_of x.client) (sym o.0);
-      }
+        let o = own l c j r e h in
+        let k = st.now o.2 o.1 in
+        record {
+          place = q;
+          stands = record { here = ap (slice_get seats) e ∙ at; compute_is = h.compute_is; stands = subst (IsIn l) (sym k.0) o.2 };
+          ticket = k.1 ∙ ap (λ (x : Place). x.ticket) (sym o.0);
+          stand = k.0 ∙ ap (λ (x : Place). stand_of x.client) (sym o.0);
+        }
     | inr ne ↦ record { place = r; stands = off l c j r ne h; ticket = refl; stand = refl }
   ]
 
   to_new : (l c : ℕ) → IsStill l c → (j : ℕ) (r : Place) → StandsIn p seats l c j r → IsLike S l c j r
   to_new l c st j r h = elim (cases_eq j i) [
     | inl e ↦
-      let o = was l c j r e h in
-      let k = st.before o.2 o.1 in
-      record {
-        place = q';
-        stands = record { here = ap (slice_get S) e ∙ here; compute_is = h.compute_is; stands = subst (IsIn l) k.0 o.2 };
-        ticket = sym k.1 ∙ ap (λ (x : Place). x.ticket) (sym o.0);
-        stand = sym k.0 ∙ ap (λ (x : Place). stand_of x.client) (sym o.0);
-      }
+        let o = was l c j r e h in
+        let k = st.before o.2 o.1 in
+        record {
+          place = q';
+          stands = record { here = ap (slice_get S) e ∙ here; compute_is = h.compute_is; stands = subst (IsIn l) k.0 o.2 };
+          ticket = sym k.1 ∙ ap (λ (x : Place). x.ticket) (sym o.0);
+          stand = sym k.0 ∙ ap (λ (x : Place). stand_of x.client) (sym o.0);
+        }
     | inr ne ↦ record { place = r; stands = on l c j r ne h; ticket = refl; stand = refl }
   ]
 
   pub line_still : (l c : ℕ) (line : Line) → IsStill l c → IsLine p seats l c line → IsLine p S l c line
   line_still l c line st h = record {
-    next = h.next; served = h.served; few = h.few;
+    next = h.next;
+    served = h.served;
+    few = h.few;
     each = λ k lt. let x = h.each k lt in let n = to_new l c st x.seat x.place x.stands in record { seat = x.seat; place = n.place; stands = n.stands; behind = ap (λ (t : ℕ). minus t line.served) n.ticket ∙ x.behind };
     out = λ j r k. let o = to_old l c st j r k in let w = h.out j o.place o.stands in (subst (λ (t : ℕ). t < 2 ^ 64) o.ticket w.0, subst (λ (t : ℕ). minus t line.served < minus line.next line.served) o.ticket w.1);
     differ = λ a b x y hx hy e. let m = to_old l c st a x hx in let n = to_old l c st b y hy in h.differ a b m.place n.place m.stands n.stands (m.ticket ∙ e ∙ sym n.ticket);
@@ -150,10 +152,10 @@ module _ (p : ConfigParts) (ok : IsSetting p) (seats : List Place) (i : ℕ) (q 
     draw_out : (j : ℕ) (r : Place) → StandsIn p S lock C j r → (r.ticket < 2 ^ 64) × (minus r.ticket line.served < N + 1)
     draw_out j r k = elim (cases_eq j i) [
       | inl e ↦
-        let o = own lock C j r e k in
-        let is : r.ticket ≡ line.next = ap (λ (x : Place). x.ticket) o.0 ∙ ticket in
-        let far : minus r.ticket line.served ≡ N = ap (λ (t : ℕ). minus t line.served) is in
-        (omega (arith, is, h.next), omega (arith, far))
+          let o = own lock C j r e k in
+          let is : r.ticket ≡ line.next = ap (λ (x : Place). x.ticket) o.0 ∙ ticket in
+          let far : minus r.ticket line.served ≡ N = ap (λ (t : ℕ). minus t line.served) is in
+          (omega (arith, is, h.next), omega (arith, far))
       | inr ne ↦ let w = h.out j r (off lock C j r ne k) in (w.0, omega (arith, w.1))
     ]
 
@@ -162,7 +164,9 @@ module _ (p : ConfigParts) (ok : IsSetting p) (seats : List Place) (i : ℕ) (q 
 
     pub line_drawn : IsLine p S lock C (drawn line)
     line_drawn = record {
-      next = next_small line.next; served = h.served; few = omega (arith, up, room);
+      next = next_small line.next;
+      served = h.served;
+      few = omega (arith, up, room);
       each = λ k lt. elim (cases_lt k N) [
         | inl below ↦ let x = h.each k below in record { seat = x.seat; place = x.place; stands = on lock C x.seat x.place (not_in x.seat x.place x.stands) x.stands; behind = x.behind }
         | inr le ↦ record { seat = i; place = q'; stands = mine; behind = let e : N ≡ k = omega (arith, le, lt, up) in ap (λ (t : ℕ). minus t line.served) ticket ∙ e }
@@ -178,8 +182,8 @@ module _ (p : ConfigParts) (ok : IsSetting p) (seats : List Place) (i : ℕ) (q 
           | inr nb ↦ h.differ a b x y (off lock C a x na hx) (off lock C b y nb hy) e
         ]
       ];
-      turn = λ j r k t. elim (cases_eq j i) [ | inl e ↦ absurd (no_turn j r e k t) | inr ne ↦ h.turn j r (off lock C j r ne k) t ];
-      ahead = λ j r k w. elim (cases_eq j i) [ | inl e ↦ absurd (no_turn j r e k (hand_turn lock (stand_of r.client) w)) | inr ne ↦ let a = h.ahead j r (off lock C j r ne k) w in omega (arith, a, up) ];
+      turn = λ j r k t. elim (cases_eq j i) [ inl e ↦ absurd (no_turn j r e k t) | inr ne ↦ h.turn j r (off lock C j r ne k) t ];
+      ahead = λ j r k w. elim (cases_eq j i) [ inl e ↦ absurd (no_turn j r e k (hand_turn lock (stand_of r.client) w)) | inr ne ↦ let a = h.ahead j r (off lock C j r ne k) w in omega (arith, a, up) ];
       left = λ d e. let l = h.left d e in (omega (arith, l.0, up), l.1);
     }
 
@@ -215,19 +219,21 @@ module _ (p : ConfigParts) (ok : IsSetting p) (seats : List Place) (i : ℕ) (q 
     -- with what is left in it changed
     pub line_turned : (left : Option ℕ) → (HasTurn lock (stand_of q'.client) → (q.ticket ≡ line.served) × (left ≡ None)) → (WillHand lock (stand_of q'.client) → 2 ≤ minus line.next line.served) → ((left ≡ line.left) ⊎ (left ≡ None)) → IsLine p S lock D (record line { left = left })
     line_turned left turn ahead which = record {
-      next = h.next; served = h.served; few = h.few;
+      next = h.next;
+      served = h.served;
+      few = h.few;
       each = λ k lt. let x = h.each k lt in let n = kept_new x.seat x.place x.stands in record { seat = x.seat; place = n.place; stands = n.stands; behind = ap (λ (t : ℕ). minus t line.served) n.same ∙ x.behind };
       out = λ j r k. let o = kept_old j r k in let w = h.out j o.place o.stands in (subst (λ (t : ℕ). t < 2 ^ 64) o.same w.0, subst (λ (t : ℕ). minus t line.served < minus line.next line.served) o.same w.1);
       differ = λ a b x y hx hy e. let m = kept_old a x hx in let n = kept_old b y hy in h.differ a b m.place n.place m.stands n.stands (m.same ∙ e ∙ sym n.same);
       turn = λ j r k t. elim (cases_eq j i) [
         | inl e ↦ let o = own lock D j r e k in let w = turn (subst (λ (x : Place). HasTurn lock (stand_of x.client)) o.0 t) in (ap (λ (x : Place). x.ticket) o.0 ∙ ticket ∙ w.0, w.1)
-        | inr ne ↦ let w = h.turn j r (off lock D j r ne k) t in (w.0, elim which [ | inl e ↦ e ∙ w.1 | inr e ↦ e ])
+        | inr ne ↦ let w = h.turn j r (off lock D j r ne k) t in (w.0, elim which [ inl e ↦ e ∙ w.1 | inr e ↦ e ])
       ];
       ahead = λ j r k w. elim (cases_eq j i) [
         | inl e ↦ let o = own lock D j r e k in ahead (subst (λ (x : Place). WillHand lock (stand_of x.client)) o.0 w)
         | inr ne ↦ h.ahead j r (off lock D j r ne k) w
       ];
-      left = λ d e. elim which [ | inl is ↦ h.left d (sym is ∙ e) | inr is ↦ cc ];
+      left = λ d e. elim which [ inl is ↦ h.left d (sym is ∙ e) | inr is ↦ cc ];
     }
 
   -- the line is left
@@ -255,9 +261,9 @@ module _ (p : ConfigParts) (ok : IsSetting p) (seats : List Place) (i : ℕ) (q 
     later j r ne k = elim (cases_lt 0 (minus r.ticket line.served)) [
       | inl lt ↦ omega (arith, lt)
       | inr le ↦
-        let w = h.out j r k in
-        let none : minus r.ticket line.served ≡ 0 = omega (arith, le) in
-        absurd (ne (h.differ j i r q k first (minus_zero r.ticket line.served w.0 h.served none ∙ sym its_turn.0)))
+          let w = h.out j r k in
+          let none : minus r.ticket line.served ≡ 0 = omega (arith, le) in
+          absurd (ne (h.differ j i r q k first (minus_zero r.ticket line.served w.0 h.served none ∙ sym its_turn.0)))
     ]
 
     no_turn_left : (j : ℕ) (r : Place) → StandsIn p S lock E j r → HasTurn lock (stand_of r.client) → ⊥
@@ -268,24 +274,26 @@ module _ (p : ConfigParts) (ok : IsSetting p) (seats : List Place) (i : ℕ) (q 
 
     pub line_left : IsLine p S lock E (left_line line carry)
     line_left = record {
-      next = h.next; served = next_small line.served; few = omega (arith, h.few, down);
+      next = h.next;
+      served = next_small line.served;
+      few = omega (arith, h.few, down);
       each = λ k lt.
-        let x = h.each (k + 1) (omega (arith, lt, down)) in
-        let behind_one : 1 ≤ minus x.place.ticket line.served = omega (arith, x.behind) in
-        let ne : x.seat ≢ i = λ e. let same = (was lock E x.seat x.place e x.stands).0 in let none : minus x.place.ticket line.served ≡ 0 = ap (λ (z : Place). minus z.ticket line.served) same ∙ ap (λ (t : ℕ). minus t line.served) its_turn.0 ∙ minus_self line.served h.served in absurd (omega (arith, none, behind_one)) in
-        let w = h.out x.seat x.place x.stands in
-        record { seat = x.seat; place = x.place; stands = on lock E x.seat x.place ne x.stands; behind = let e = count_down x.place.ticket line.served w.0 h.served behind_one in omega (arith, e, x.behind) };
+          let x = h.each (k + 1) (omega (arith, lt, down)) in
+          let behind_one : 1 ≤ minus x.place.ticket line.served = omega (arith, x.behind) in
+          let ne : x.seat ≢ i = λ e. let same = (was lock E x.seat x.place e x.stands).0 in let none : minus x.place.ticket line.served ≡ 0 = ap (λ (z : Place). minus z.ticket line.served) same ∙ ap (λ (t : ℕ). minus t line.served) its_turn.0 ∙ minus_self line.served h.served in absurd (omega (arith, none, behind_one)) in
+          let w = h.out x.seat x.place x.stands in
+          record { seat = x.seat; place = x.place; stands = on lock E x.seat x.place ne x.stands; behind = let e = count_down x.place.ticket line.served w.0 h.served behind_one in omega (arith, e, x.behind) };
       out = λ j r k.
-        let ne = gone j r k in
-        let o = off lock E j r ne k in
-        let w = h.out j r o in
-        let l = later j r ne o in
-        let e = count_down r.ticket line.served w.0 h.served l in
-        (w.0, omega (arith, e, w.1, l, down));
+          let ne = gone j r k in
+          let o = off lock E j r ne k in
+          let w = h.out j r o in
+          let l = later j r ne o in
+          let e = count_down r.ticket line.served w.0 h.served l in
+          (w.0, omega (arith, e, w.1, l, down));
       differ = λ a b x y hx hy e. h.differ a b x y (off lock E a x (gone a x hx) hx) (off lock E b y (gone b y hy) hy) e;
       turn = λ j r k t. absurd (no_turn_left j r k t);
       ahead = λ j r k w. absurd (no_turn_left j r k (hand_turn lock (stand_of r.client) w));
       left = λ d e.
-        let two = h.ahead i q first (subst (WillHand lock) (sym served) (refl, ap is_some e)) in
-        (omega (arith, two, down), bound d e);
+          let two = h.ahead i q first (subst (WillHand lock) (sym served) (refl, ap is_some e)) in
+          (omega (arith, two, down), bound d e);
     }

@@ -57,10 +57,10 @@ module _ (s : State) (run : IsRunning s) where
       let few = updates_few (dones_by j (dones_of s.calls)) in
       let all : length (numbers_from j 1 s.calls) ≡ length q.numbers = ap length (sym h.numbers) in
       by_rest (is_resting q.client) refl mine few h all where
-    by_rest : (b : Bool) → is_resting q.client ≡ b → length (made_by j s.log) ≡ length (updates (dones_by j (dones_of s.calls))) + length (pending j q.client q.client.phase) → length (updates (dones_by j (dones_of s.calls))) ≤ length (dones_by j (dones_of s.calls)) → IsPlace s.calls j q
-        → length (numbers_from j 1 s.calls) ≡ length q.numbers → length (made_by j s.log) ≤ length (numbers_from j 1 s.calls)
-    by_rest true e mine few h all = omega (arith, mine, few, h.count, h.ended, all, pending_none j q.client q.client.phase e)
-    by_rest false e mine few h all = omega (arith, mine, few, h.count, all, pending_one j q.client q.client.phase, slice_get_within q.numbers q.ended q.number (h.busy e))
+        by_rest : (b : Bool) → is_resting q.client ≡ b → length (made_by j s.log) ≡ length (updates (dones_by j (dones_of s.calls))) + length (pending j q.client q.client.phase) → length (updates (dones_by j (dones_of s.calls))) ≤ length (dones_by j (dones_of s.calls)) → IsPlace s.calls j q
+            → length (numbers_from j 1 s.calls) ≡ length q.numbers → length (made_by j s.log) ≤ length (numbers_from j 1 s.calls)
+        by_rest true e mine few h all = omega (arith, mine, few, h.count, h.ended, all, pending_none j q.client q.client.phase e)
+        by_rest false e mine few h all = omega (arith, mine, few, h.count, all, pending_one j q.client q.client.phase, slice_get_within q.numbers q.ended q.number (h.busy e))
 
   seat_at : (j : ℕ) → j < length s.seats → (q : Place) × (slice_get s.seats j ≡ Some q)
   seat_at j lt = there s.seats j lt where
@@ -178,7 +178,7 @@ module _ (s : State) (run : IsRunning s) (i : ℕ) (q : Place) (at : slice_get s
     ]
 
     seats_of : ((k : ℕ) (e : Entry) → slice_get more k ≡ Some e → e.seat < all_seats P) → (k : ℕ) (e : Entry) → slice_get (s.log ++ more) k ≡ Some e → e.seat < all_seats P
-    seats_of ok k e h = elim (slice_get-append s.log more k e h) [ | inl w ↦ run.by_seats k e w | inr w ↦ ok w.0 e w.1 ]
+    seats_of ok k e h = elim (slice_get-append s.log more k e h) [ inl w ↦ run.by_seats k e w | inr w ↦ ok w.0 e w.1 ]
 
     -- all that holds of the world, in the one after the turn
     pub settled_runs : (lines : List Line) → ((Now : ℕ → Actor → Type 0) → Inv P words (s.log ++ more) Now Out → Inv P words (s.log ++ more) Now (IsLeft P lines)) → AreLines P (set s.seats i Q) lines → ((k : ℕ) (e : Entry) → slice_get more k ≡ Some e → e.seat < all_seats P)
@@ -213,12 +213,16 @@ module _ (s : State) (run : IsRunning s) (i : ℕ) (q : Place) (at : slice_get s
   pub placed : (q1 : Place) → Inv s.setting s.words s.log (HasActor (set s.seats i q1) s.calls) (IsLeft s.setting s.lines) → IsPlace s.calls i q1 → q1.point ≤ length s.log → AreLines s.setting (set s.seats i q1) s.lines
       → IsRunning (record s { seats = set s.seats i q1 })
   placed q1 inv place point lines = record {
-    setting = run.setting; inv = inv; seats = length-set s.seats i q1 ∙ run.seats; lines = lines;
+    setting = run.setting;
+    inv = inv;
+    seats = length-set s.seats i q1 ∙ run.seats;
+    lines = lines;
     places = λ j r e. elim (now_at q1 j r e) [
       | inl w ↦ subst (λ (x : Place). IsPlace s.calls j x) (sym w.1) (subst (λ (k : ℕ). IsPlace s.calls k q1) (sym w.0) place)
       | inr w ↦ run.places j r w.1
     ];
-    given = run.given; few = run.few;
+    given = run.given;
+    few = run.few;
     points = λ j r e. elim (now_at q1 j r e) [
       | inl w ↦ subst (λ (x : Place). x.point ≤ length s.log) (sym w.1) point
       | inr w ↦ run.points j r w.1

@@ -32,7 +32,6 @@ use Rattle.sh_client.specs.Giving.{carried, counted, followed, left, released, w
 use Rattle.sh_client.specs.Machine.{Machine, handed_over, rewrite_done, sparing, split_done, to}
 use Rattle.sh_client.specs.Splitting.{all_spent, chunk_taken, growing, grown, halved, halved_by, raised, sought_by, splitting, topped_by, walked}
 use Rattle.sh_decide.specs.Ways.{way_of}
-
 use Rattle.sh_client.specs.declared.state.Want.{Want}
 use Rattle.sh_client.specs.declared.state.Want.TheVariants as want
 use Rattle.sh_client.specs.Wants.{count_of, load_of, want_in}
@@ -189,7 +188,6 @@ follows m (Takes aim node) = refl
 leaves : (m : Machine) (carry : Option ℕ) (after : Then) → stand_of (left m carry after) ≡ Away
 leaves m (Some depth) after = follows (handed_over m) after
 leaves m None after = follows m after
-
 
 -- a turn that isn't of a line leaves a client where it stands
 pub fed_stands : (m : Machine) (word : ℕ) (phase : Phase) → IsEvent (want_in m phase) → stand_of (fed_in m word phase) ≡ stand_in m.setting m phase

@@ -108,10 +108,10 @@ module _ (s : State) (run : IsRunning s) (i : ℕ) (q : Place) (at : slice_get s
       let seen = k.seen in
       let q1 : Place = started q n g.call (length s.log) in
       placed s run i q at q1
-        (begin_keeps P run.setting s.words s.log (HasActor s.seats s.calls) (HasActor (set s.seats i q1) s.calls) (IsLeft P s.lines) i n (length s.log) A g.call run.inv h rest (run.given (n - 1) g here).in_range (omega (arith, e, seen)) (omega arith)
-          (moves_seats s.seats s.calls s.calls i q1 (begun A n g.call (length s.log)) (slice_get_within s.seats i q at) (λ j ne. refl) refl))
-        (place_started s.calls i q n (length s.log) g (run.places i q at) next here) (omega arith)
-        (lines_still P run.setting s.lines s.seats i q q1 at run.lines (ap (stand_in q.client.setting q.client) idle) (inr refl))
+      (begin_keeps P run.setting s.words s.log (HasActor s.seats s.calls) (HasActor (set s.seats i q1) s.calls) (IsLeft P s.lines) i n (length s.log) A g.call run.inv h rest (run.given (n - 1) g here).in_range (omega (arith, e, seen)) (omega arith)
+      (moves_seats s.seats s.calls s.calls i q1 (begun A n g.call (length s.log)) (slice_get_within s.seats i q at) (λ j ne. refl) refl))
+      (place_started s.calls i q n (length s.log) g (run.places i q at) next here) (omega arith)
+      (lines_still P run.setting s.lines s.seats i q q1 at run.lines (ap (stand_in q.client.setting q.client) idle) (inr refl))
 
   same_runs : IsRunning (put_place s i q)
   same_runs = subst (λ (xs : List Place). IsRunning (record s { seats = xs })) (sym (set_same s.seats i q at)) run

@@ -112,8 +112,8 @@ module _ (s : State) (run : IsRunning s) (i : ℕ) (q : Place) (at : slice_get s
 
     pub event_runs : IsRunning (made s i q e)
     event_runs = settled_runs s run i q at event_busy (apply s.words e) Out (makes q.client) M (fed_keeps q.client (found_by s.words e)).2 event_step s.lines (λ Now x. x)
-      (lines_still P ok s.lines s.seats i q (place_after q s.log (makes q.client) M) at run.lines event_stand (inr (sym (place_ticket q s.log (makes q.client) M))))
-      (λ k e x. let own = made_of_seat q.client q.client.phase k e x in let seat = (run.inv.kept i A h).work.seated.seat_is in omega (arith, own, seat, seat_small))
+        (lines_still P ok s.lines s.seats i q (place_after q s.log (makes q.client) M) at run.lines event_stand (inr (sym (place_ticket q s.log (makes q.client) M))))
+        (λ k e x. let own = made_of_seat q.client q.client.phase k e x in let seat = (run.inv.kept i A h).work.seated.seat_is in omega (arith, own, seat, seat_small))
 
   -- ---- lines
 
@@ -165,7 +165,7 @@ module _ (s : State) (run : IsRunning s) (i : ℕ) (q : Place) (at : slice_get s
 
       draw_lines : AreLines P (set s.seats i DQ) (set s.lines K (drawn X))
       draw_lines = lines_one P ok s.lines lock D lock_ok compute_small X (drawn X) at_line s.seats i q DQ at refl run.lines (in_waits (stand_of DQ.client) drawn_stand) (in_none (stand_of q.client) away)
-        (line_drawn P ok s.seats i q DQ at lock X line_ok away drawn_stand (place_ticket T s.log [] DM) run.seats)
+          (line_drawn P ok s.seats i q DQ at lock X line_ok away drawn_stand (place_ticket T s.log [] DM) run.seats)
 
       -- the seat with its ticket, before it stands in the line
       abbrev S1 : State
@@ -188,14 +188,14 @@ module _ (s : State) (run : IsRunning s) (i : ℕ) (q : Place) (at : slice_get s
 
       run1 : IsRunning S1
       run1 = placed s run i q at T (same_keeps P ok s.words s.log Has (HasActor (set s.seats i T) s.calls) Out run.inv same_actors) (ticket_place s.calls i q X.next (run.places i q at)) (run.points i q at)
-        (lines_still P ok s.lines s.seats i q T at run.lines refl (inl away))
+          (lines_still P ok s.lines s.seats i q T at run.lines refl (inl away))
 
       draw_step : (Now : ℕ → Actor → Type 0) → Moves (HasActor (set s.seats i T) s.calls) i (becomes i (actor_of s.calls i T) s.log [] DM) Now → Inv P s.words (s.log ++ []) Now Out
       draw_step Now mv = no_more Now Out (local_keeps P ok s.words s.log s.log (HasActor (set s.seats i T) s.calls) Now Out i X.next (actor_of s.calls i T) run1.inv (record { place = T; here = at1; actor_is = refl }) (subst IsLocal (sym w) tt) saw (as_stepped Now (HasActor (set s.seats i T) s.calls) (actor_of s.calls i T) X.next (line_makes q.client (want.Draw lock) w (λ x. x)) mv))
 
       pub draw_runs : IsRunning (drew s i lock q X)
       draw_runs = subst (λ (xs : List Place). IsRunning (record { setting = P; words = s.words; log = s.log ++ []; seats = xs; calls = calls_after s.calls T s.log DM; lines = set s.lines K (drawn X) })) (set_again s.seats i T DQ)
-        (settled_runs S1 run1 i T at1 draw_busy s.words Out [] DM (fed_keeps q.client X.next).2 draw_step (set s.lines K (drawn X))
+          (settled_runs S1 run1 i T at1 draw_busy s.words Out [] DM (fed_keeps q.client X.next).2 draw_step (set s.lines K (drawn X))
           (λ Now inv. out_same P s.words (s.log ++ []) Now Out (IsLeft P (set s.lines K (drawn X))) (left_on P ok s.lines lock D lock_ok compute_small X (drawn X) at_line refl) (left_back P ok s.lines lock D lock_ok compute_small X (drawn X) at_line refl) inv)
           (subst (λ (xs : List Place). AreLines P xs (set s.lines K (drawn X))) (sym (set_again s.seats i T DQ)) draw_lines) none_made)
 
@@ -221,7 +221,7 @@ module _ (s : State) (run : IsRunning s) (i : ℕ) (q : Place) (at : slice_get s
 
       may_in : (n : ℕ) (x : Stand) → MayHand lock n x → (IsIn lock x) × ((l : ℕ) → IsIn l x → l ≡ lock)
       may_in zero x e = (subst (IsIn lock) (sym e) refl, in_served x false e)
-      may_in (suc n) x e = elim e [ | inl f ↦ (subst (IsIn lock) (sym f) refl, in_served x false f) | inr f ↦ (subst (IsIn lock) (sym f) refl, in_served x true f) ]
+      may_in (suc n) x e = elim e [ inl f ↦ (subst (IsIn lock) (sym f) refl, in_served x false f) | inr f ↦ (subst (IsIn lock) (sym f) refl, in_served x true f) ]
 
       may_will : (n : ℕ) (x : Stand) → MayHand lock n x → WillHand lock x → 1 ≤ n
       may_will zero x e will = let f = (subst (WillHand lock) e will).1 in cc
@@ -242,7 +242,7 @@ module _ (s : State) (run : IsRunning s) (i : ℕ) (q : Place) (at : slice_get s
 
       count_lines : AreLines P (set s.seats i CQ) s.lines
       count_lines = subst (AreLines P (set s.seats i CQ)) (set_same s.lines K X at_line)
-        (lines_one P ok s.lines lock D lock_ok compute_small X X at_line s.seats i q CQ at refl run.lines (may_in N (stand_of CQ.client) count_now).1 (in_served (stand_of q.client) false count_was) count_line)
+          (lines_one P ok s.lines lock D lock_ok compute_small X X at_line s.seats i q CQ at refl run.lines (may_in N (stand_of CQ.client) count_now).1 (in_served (stand_of q.client) false count_was) count_line)
 
       pub count_runs : IsRunning (counted s i q X)
       count_runs = settled_runs s run i q at count_busy s.words Out [] CM (fed_keeps q.client N).2 (λ Now mv. no_more Now Out (local_keeps P ok s.words s.log s.log Has Now Out i N A run.inv h (subst IsLocal (sym w) tt) saw (as_stepped Now Has A N (line_makes q.client (want.Waiting lock) w (λ x. x)) mv))) s.lines (λ Now x. x) count_lines none_made
@@ -285,7 +285,7 @@ module _ (s : State) (run : IsRunning s) (i : ℕ) (q : Place) (at : slice_get s
 
         wait_runs : IsRunning (looked s i lock q X)
         wait_runs = settled_runs s run i q at look_busy s.words Out [] LM wait_call wait_step LL
-          (λ Now inv. subst (λ (ls : List Line). Inv P s.words (s.log ++ []) Now (IsLeft P ls)) (sym line_same) inv) wait_lines none_made
+            (λ Now inv. subst (λ (ls : List Line). Inv P s.words (s.log ++ []) Now (IsLeft P ls)) (sym line_same) inv) wait_lines none_made
 
       -- it is: what was left is taken
       module _ (yes_is : (X.served == q.ticket) ≡ true) where
@@ -323,8 +323,8 @@ module _ (s : State) (run : IsRunning s) (i : ℕ) (q : Place) (at : slice_get s
             let here = run.inv.out l c e o in
             let same = right_is (sym here ∙ ap run.inv.scene.hold l_is ∙ there) in
             (λ z. line_at P (l_is z) (same z)) where
-          right_is : {a b m n : ℕ} → Held (Right a) m ≡ Held (Right b) n → a ≡ b
-          right_is x = cc
+              right_is : {a b m n : ℕ} → Held (Right a) m ≡ Held (Right b) n → a ≡ b
+              right_is x = cc
 
         gone : (l c e : ℕ) → line_at P l c ≡ K → IsLeft P (set s.lines K taken) l c e → ⊥
         gone l c e is o = let x = (left_new P ok s.lines lock D lock_ok compute_small X taken at_line l c e is o).0 in none_some x
@@ -340,16 +340,16 @@ module _ (s : State) (run : IsRunning s) (i : ℕ) (q : Place) (at : slice_get s
             let lock_is : lock_of P l.node ≡ lock = ap (λ (p : ConfigParts). lock_of p l.node) (sym k.work.seated.setting_is) ∙ l.lock_is in
             let mv1 : Moves Has i (turned i A s.log (Some d)) Now = subst (λ (m : Machine). Moves Has i (becomes i A s.log [] m) Now) (client_turned ∙ ap (turned_by q.client) left) mv in
             no_more Now (IsLeft P (set s.lines K taken)) (take_keeps P ok s.words s.log s.log Has Now Out (IsLeft P (set s.lines K taken)) i A l.aim l.node d run.inv h l.phase_is saw
-              (subst (λ (n : ℕ). IsLeft P s.lines n D d) (sym lock_is) (record { line = X; lock_is = lock_ok; compute_is = compute_small; here = at_line; left = left }))
-              (λ n c e o. elim (cases_eq (line_at P n c) K) [
-                | inl is ↦ absurd (gone n c e is o)
-                | inr ne ↦ let b = elsewhere_back P ok s.lines lock D lock_ok compute_small X taken at_line n c e ne o in ((λ (q : n ≡ lock_of P l.node). ne (only n c d e left (q ∙ lock_is) b)), b)
-              ])
-              (λ n c e far o. elsewhere_on P ok s.lines lock D lock_ok compute_small X taken at_line n c e (λ is. far (sym ((line_apart P ok lock D n c compute_small o.compute_is (sym is)).0) ∙ sym lock_is)) o) mv1)
+            (subst (λ (n : ℕ). IsLeft P s.lines n D d) (sym lock_is) (record { line = X; lock_is = lock_ok; compute_is = compute_small; here = at_line; left = left }))
+            (λ n c e o. elim (cases_eq (line_at P n c) K) [
+              | inl is ↦ absurd (gone n c e is o)
+              | inr ne ↦ let b = elsewhere_back P ok s.lines lock D lock_ok compute_small X taken at_line n c e ne o in ((λ (q : n ≡ lock_of P l.node). ne (only n c d e left (q ∙ lock_is) b)), b)
+            ])
+            (λ n c e far o. elsewhere_on P ok s.lines lock D lock_ok compute_small X taken at_line n c e (λ is. far (sym ((line_apart P ok lock D n c compute_small o.compute_is (sym is)).0) ∙ sym lock_is)) o) mv1)
 
         turn_runs : IsRunning (looked s i lock q X)
         turn_runs = subst (λ (x : Line). IsRunning (record { setting = P; words = s.words; log = s.log ++ []; seats = set s.seats i LQ; calls = calls_after s.calls q s.log LM; lines = set s.lines K x })) (sym line_taken)
-          (settled_runs s run i q at look_busy s.words (IsLeft P (set s.lines K taken)) [] LM turn_call (turn_step X.left refl) (set s.lines K taken) (λ Now x. x) turn_lines none_made)
+            (settled_runs s run i q at look_busy s.words (IsLeft P (set s.lines K taken)) [] LM turn_call (turn_step X.left refl) (set s.lines K taken) (λ Now x. x) turn_lines none_made)
 
       look_by : (b : Bool) → (X.served == q.ticket) ≡ b → IsRunning (looked s i lock q X)
       look_by true e = turn_runs e
@@ -389,7 +389,7 @@ module _ (s : State) (run : IsRunning s) (i : ℕ) (q : Place) (at : slice_get s
 
       leave_lines : AreLines P (set s.seats i VQ) VL
       leave_lines = lines_one P ok s.lines lock D lock_ok compute_small X (left_line X carry) at_line s.seats i q VQ at refl run.lines (in_none (stand_of VQ.client) leave_now) (in_served (stand_of q.client) (is_some carry) leave_was)
-        (line_left P ok s.seats i q VQ at lock X line_ok carry leave_was leave_now carry_bound)
+          (line_left P ok s.seats i q VQ at lock X line_ok carry leave_was leave_now carry_bound)
 
       pub leave_step : (o : Option ℕ) → carry ≡ o → (Now : ℕ → Actor → Type 0) → Moves Has i (becomes i A s.log [] VM) Now → Inv P s.words (s.log ++ []) Now (IsLeft P VL)
       leave_step None e Now mv =
@@ -400,16 +400,16 @@ module _ (s : State) (run : IsRunning s) (i : ℕ) (q : Place) (at : slice_get s
           let l = leaving q.client lock carry w in
           let lock_is : lock_of P l.node ≡ lock = ap (λ (p : ConfigParts). lock_of p l.node) (sym k.work.seated.setting_is) ∙ l.lock_is in
           no_more Now (IsLeft P VL) (part_keeps P ok s.words s.log s.log Has Now Out (IsLeft P VL) i 0 A l.node d l.after run.inv h (l.phase_is ∙ ap (λ (o : Option ℕ). Leave l.node o l.after) e) saw
-            (subst (λ (n : ℕ). IsLeft P VL n D d) (sym lock_is) (mine P ok s.lines lock D lock_ok compute_small X (left_line X carry) at_line d e))
-            (λ n c b o. elim (cases_eq (line_at P n c) K) [
-              | inl is ↦ let x = left_new P ok s.lines lock D lock_ok compute_small X (left_line X carry) at_line n c b is o in inl (sym x.1 ∙ sym lock_is, sym x.2, some_is (sym x.0 ∙ e))
-              | inr ne ↦ inr (elsewhere_back P ok s.lines lock D lock_ok compute_small X (left_line X carry) at_line n c b ne o)
-            ])
-            (λ n c b o. elim (cases_eq (line_at P n c) K) [
-              | inl is ↦ let x = (left_old P ok s.lines lock D lock_ok compute_small X (left_line X carry) at_line n c b is o).0 in absurd (none_some (sym its_last.1 ∙ x))
-              | inr ne ↦ elsewhere_on P ok s.lines lock D lock_ok compute_small X (left_line X carry) at_line n c b ne o
-            ])
-            (as_stepped Now Has A 0 (line_makes q.client (want.Leave lock carry) w (λ x. x)) mv))
+          (subst (λ (n : ℕ). IsLeft P VL n D d) (sym lock_is) (mine P ok s.lines lock D lock_ok compute_small X (left_line X carry) at_line d e))
+          (λ n c b o. elim (cases_eq (line_at P n c) K) [
+            | inl is ↦ let x = left_new P ok s.lines lock D lock_ok compute_small X (left_line X carry) at_line n c b is o in inl (sym x.1 ∙ sym lock_is, sym x.2, some_is (sym x.0 ∙ e))
+            | inr ne ↦ inr (elsewhere_back P ok s.lines lock D lock_ok compute_small X (left_line X carry) at_line n c b ne o)
+          ])
+          (λ n c b o. elim (cases_eq (line_at P n c) K) [
+            | inl is ↦ let x = (left_old P ok s.lines lock D lock_ok compute_small X (left_line X carry) at_line n c b is o).0 in absurd (none_some (sym its_last.1 ∙ x))
+            | inr ne ↦ elsewhere_on P ok s.lines lock D lock_ok compute_small X (left_line X carry) at_line n c b ne o
+          ])
+          (as_stepped Now Has A 0 (line_makes q.client (want.Leave lock carry) w (λ x. x)) mv))
 
       pub leave_runs : IsRunning (left s i lock q X carry)
       leave_runs = settled_runs s run i q at leave_busy s.words (IsLeft P VL) [] VM (fed_keeps q.client 0).2 (leave_step carry refl) VL (λ Now x. x) leave_lines none_made

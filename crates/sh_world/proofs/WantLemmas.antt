@@ -124,8 +124,17 @@ place_ticket q log more m = by_end (has_ended m.phase) where
 
 pub out_same : (p : ConfigParts) (words : List ℕ) (log : List Entry) (Has : ℕ → Actor → Type 0) (Out After : ℕ → ℕ → ℕ → Type 0) → ((l c d : ℕ) → Out l c d → After l c d) → ((l c d : ℕ) → After l c d → Out l c d) → Inv p words log Has Out → Inv p words log Has After
 out_same p words log Has Out After on back inv = record {
-  scene = inv.scene; log_is = inv.log_is; ground = inv.ground; bounded = inv.bounded; kept = inv.kept; held = inv.held; pends = inv.pends; skips = inv.skips; makes = inv.makes;
-  given = λ l c d e. on l c d (inv.given l c d e); out = λ l c d o. inv.out l c d (back l c d o);
+  scene = inv.scene;
+  log_is = inv.log_is;
+  ground = inv.ground;
+  bounded = inv.bounded;
+  kept = inv.kept;
+  held = inv.held;
+  pends = inv.pends;
+  skips = inv.skips;
+  makes = inv.makes;
+  given = λ l c d e. on l c d (inv.given l c d e);
+  out = λ l c d o. inv.out l c d (back l c d o);
 }
 
 -- a line changes, and no right with it
@@ -189,16 +198,16 @@ module _ (p : ConfigParts) (ok : IsSetting p) (lines : List Line) (lock compute 
       count = length-set lines K new ∙ h.count;
       each = λ l c line a b e. elim (cases_eq (line_at p l c) K) [
         | inl is ↦
-          let w = line_apart p ok lock compute l c compute_ok b (sym is) in
-          let same : new ≡ line = some_is (sym new_here ∙ ap (slice_get L) (sym is) ∙ e) in
-          subst (λ (x : Line). IsLine p (set seats i q') l c x) same (subst (λ (k : ℕ). IsLine p (set seats i q') k c new) w.0 (subst (λ (k : ℕ). IsLine p (set seats i q') lock k new) w.1 line_ok))
+            let w = line_apart p ok lock compute l c compute_ok b (sym is) in
+            let same : new ≡ line = some_is (sym new_here ∙ ap (slice_get L) (sym is) ∙ e) in
+            subst (λ (x : Line). IsLine p (set seats i q') l c x) same (subst (λ (k : ℕ). IsLine p (set seats i q') k c new) w.0 (subst (λ (k : ℕ). IsLine p (set seats i q') lock k new) w.1 line_ok))
         | inr ne ↦ line_still p ok seats i q q' here l c line (still_else l c ne) (h.each l c line a b (sym (set_else lines K (line_at p l c) new ne) ∙ e))
       ];
       within = λ j r l e inside. elim (cases_eq j i) [
         | inl is ↦
-          let same : r ≡ q' = some_is (sym e ∙ ap (slice_get (set seats i q')) is ∙ set_here seats i q' (slice_get_within seats i q here)) in
-          let one : l ≡ lock = now l (subst (λ (x : Place). IsIn l (stand_of x.client)) same inside) in
-          omega (arith, one, lock_ok)
+            let same : r ≡ q' = some_is (sym e ∙ ap (slice_get (set seats i q')) is ∙ set_here seats i q' (slice_get_within seats i q here)) in
+            let one : l ≡ lock = now l (subst (λ (x : Place). IsIn l (stand_of x.client)) same inside) in
+            omega (arith, one, lock_ok)
         | inr ne ↦ h.within j r l (sym (set_else seats i j q' ne) ∙ e) inside
       ];
     }
@@ -213,10 +222,10 @@ module _ (p : ConfigParts) (ok : IsSetting p) (lines : List Line) (seats : List 
         each = λ l c line a b e. line_still p ok seats i q q' here l c line (st l c) (h.each l c line a b e);
         within = λ j r l e inside. elim (cases_eq j i) [
           | inl is ↦
-            let one : r ≡ q' = some_is (sym e ∙ ap (slice_get (set seats i q')) is ∙ set_here seats i q' (slice_get_within seats i q here)) in
-            h.within i q l here (subst (IsIn l) (sym same) (subst (λ (x : Place). IsIn l (stand_of x.client)) one inside))
+              let one : r ≡ q' = some_is (sym e ∙ ap (slice_get (set seats i q')) is ∙ set_here seats i q' (slice_get_within seats i q here)) in
+              h.within i q l here (subst (IsIn l) (sym same) (subst (λ (x : Place). IsIn l (stand_of x.client)) one inside))
           | inr ne ↦ h.within j r l (sym (set_else seats i j q' ne) ∙ e) inside
         ];
       } where
-    tick : (l : ℕ) → IsIn l (stand_of q.client) → q.ticket ≡ q'.ticket
-    tick l a = elim ticket [ | inl away ↦ absurd (subst (IsIn l) away a) | inr e ↦ e ]
+        tick : (l : ℕ) → IsIn l (stand_of q.client) → q.ticket ≡ q'.ticket
+        tick l a = elim ticket [ inl away ↦ absurd (subst (IsIn l) away a) | inr e ↦ e ]

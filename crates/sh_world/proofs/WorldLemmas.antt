@@ -188,7 +188,11 @@ is_asked s t room i q r calls seen res w e h lt read calls_is seen_is r_is res_i
     let at = slice_get_read s.seats (length s.seats) i q refl g.2 read in
     let all : r ≡ asked s.calls q (length s.log) = r_is ∙ (λ z. asked (calls_is z) q (seen_is z)) in
     record {
-      run = g.0; room_is = g.1; place = q; here = at; asked_is = all;
+      run = g.0;
+      room_is = g.1;
+      place = q;
+      here = at;
+      asked_is = all;
       want_is = ap (λ (x : Place). want_of x.client) (sym all) ∙ sym res_is ∙ w_is;
       within = subst (λ (p : ConfigParts). IsWithin p w) (ap (λ (x : Place). x.client.setting) all ∙ asked_setting s g.0 i q at) (subst (IsWithin r.client.setting) w_is inside);
     }

@@ -8,6 +8,7 @@
 
 mod laid;
 mod lines;
+mod node;
 mod points;
 mod seats;
 mod state;

@@ -167,8 +167,10 @@ impl World {
         let words = laid_words(alloc, cfg)?;
         let seats = fresh_seats(alloc, cfg)?;
         let lines = free_lines(alloc, cfg)?;
+        let log = Vec::with_capacity(alloc, 1)?;
         self.cfg = *cfg;
         self.words = words;
+        self.log = log;
         self.seats = seats;
         self.lines = lines;
         Ok(())

@@ -1,20 +1,5 @@
-use Rattle.std.proofs.Common.{rules, ◌≡◌, ◌*◌, ◌≤◌, IfOk, length, replicate, ℕ, ◌+◌, ◌-◌, ◌<◌, ◌/◌, ◌%◌, Bool, true, false, nat_eq, nat_lt, List, [], ◌∷◌, ◌++◌, slice_index_or, slice_set, bit_and, bit_or, Fits, w8, w32, w64, Bor, MutBor}
-use Rattle.sh_base.specs.Parts.{parts_of}
-use Rattle.sh_base.specs.Setting.{all_locks, all_seats, node_size}
-use Rattle.sh_base.specs.Layout.{node_word}
-use Rattle.sh_image.specs.Leaf.{leaf_words}
-use Rattle.sh_world.specs.Laid.{bare_words, empty_leaf, first_leaf, AreLaid}
-use Rattle.sh_world.specs.States.{dones_of, dones_from, free_line, fresh_from, fresh_place}
+use Rattle.sh_world.proofs.OpenLemmas.{seats_more}
 use Rattle.sh_world.proofs.laid.fresh_seats.Goals as goal
 
--- src/laid.rt:62:5
-pub loop-seat-init : goal.loop-seat-init
-loop-seat-init c = ?
-
--- src/laid.rt:62:5
 pub loop-seat-preserved : goal.loop-seat-preserved
-loop-seat-preserved c = ?
-
--- src/laid.rt:58:1
-pub returns : goal.returns
-returns c = ?
+loop-seat-preserved c = seats_more c.args.cfg.now.parts c.loop-seat.seat c.loop-seat.seats.items _ c.in_ok-new.field-0 _ c.loop-seat.invariant c.in_ok-new.ensures c.new-in-loop-seat.ensures.items c.in_ok-push.ensures.items

@@ -15,11 +15,11 @@ loop-at-preserved c =
     let e = c.index-log-at.result in
     elim c.if-key.branch [
       | then-key+else-same w ↦
-        let is : c.args.key ≡ key_of e.change = omega (arith, w.if-key.true, c.key.ensures) in
-        rw w.start-is (passes _ _ _ _ c.requires.legal _ _ e lt c.index-log-at.is c.loop-at.invariant is (λ q. let t = w.same.ensures.1 q in let f = w.if-same.false in cc))
+          let is : c.args.key ≡ key_of e.change = omega (arith, w.if-key.true, c.key.ensures) in
+          rw w.start-is (passes _ _ _ _ c.requires.legal _ _ e lt c.index-log-at.is c.loop-at.invariant is (λ q. let t = w.same.ensures.1 q in let f = w.if-same.false in cc))
       | else-key w ↦
-        let ne : c.args.key ≢ key_of e.change = λ q. absurd (omega (arith, q, w.if-key.false, c.key.ensures)) in
-        rw w.start-is (other _ _ _ _ c.requires.legal _ _ e lt c.index-log-at.is c.loop-at.invariant ne)
+          let ne : c.args.key ≢ key_of e.change = λ q. absurd (omega (arith, q, w.if-key.false, c.key.ensures)) in
+          rw w.start-is (other _ _ _ _ c.requires.legal _ _ e lt c.index-log-at.is c.loop-at.invariant ne)
     ]
 
 pub returns : goal.returns

@@ -1,12 +1,13 @@
-use Rattle.std.proofs.Common.{rules, ◌≡◌, ◌+◌, ◌-◌, ◌^◌, ◌<◌, ◌≤◌, OnOk, OnErr, IfOk, length, slice_get, ℕ, ◌*◌, ◌/◌, ◌%◌, Bool, true, false, nat_eq, nat_lt, List, [], ◌∷◌, ◌++◌, slice_index_or, slice_set, bit_and, bit_or, Fits, w8, w32, w64, Bor, MutBor}
-use Rattle.sh_base.specs.Parts.{parts_of}
-use Rattle.sh_map.specs.Calls.{IsInRange}
-use Rattle.sh_client.specs.Sound.{IsPointCall}
-use Rattle.sh_world.specs.Laid.{AreLaid}
-use Rattle.sh_world.specs.States.{dones_by, dones_of, fresh_state, IsBlank}
-use Rattle.sh_world.specs.Turning.{answer_of, give_of, is_idle_at, tally_at, turn_of}
+use Rattle.std.proofs.Common.{◌∙◌, ap, length, refl, subst, sym}
+use Rattle.std.specs.Prelude.{◌≡◌}
+use Rattle.std.proofs.lemmas.Option.{slice_get_read}
+use Rattle.sh_world.specs.contracts.state.World.{the_view}
+use Rattle.sh_world.specs.States.{Place, State, dones_by, dones_of}
+use Rattle.sh_world.proofs.WorldLemmas.{running}
 use Rattle.sh_world.proofs.state.World.done_calls.Goals as goal
 
--- src/world.rt:43:5
 pub returns : goal.returns
-returns c = ?
+returns c =
+    let g = running (the_view c.self.inside) c.args.self.now _ c.args.seat c.self.view_is c.self.invariant c.requires in
+    let at = slice_get_read _ _ c.args.seat c.index.result.now refl g.2 c.index.ensures in
+    ap (λ (q : Place). q.ended) c.behind-self.view_is ∙ sym (g.0.places c.args.seat c.index.result.now at).count ∙ ap (λ (s : State). length (dones_by c.args.seat (dones_of s.calls))) c.self.view_is

@@ -93,7 +93,7 @@ module _ (p : ConfigParts) (setting : IsSetting p) (node : ℕ) (words : List �
   none_words = drop_all (node_size p) (take (node_size p) words) (omega (arith, all_words))
 
   -- the READ that a reader's answer leaves
-  ended : (seen : Seen) → reads_with node (loaded_in p (left_after seen (node_size p)) words) ≡ left_by seen (reads_with node (take (node_size p) words))
+  ended : (seen : Seen) → reads_with node (loaded_in p (left_after (answer_to seen) (node_size p)) words) ≡ left_by seen (reads_with node (take (node_size p) words))
   ended (LeafSeen a) = refl
   ended (InnerSeen a) = refl
   ended (Torn rear front) = ap (reads_with node) none_words
@@ -104,7 +104,7 @@ module _ (p : ConfigParts) (setting : IsSetting p) (node : ℕ) (words : List �
   none_found = rw (none_words, less_test 0 (node_size p) (omega (arith, size_some p setting))) refl
 
 module _ (p : ConfigParts) (setting : IsSetting p) (left node word : ℕ) (words : List ℕ) (room : length words ≡ 711) (within : left ≤ node_size p) (some : 1 ≤ left) where
-  pub fed_last : (seen : Seen) (after : ℕ) → left - 1 ≡ 0 → seen ≡ seen_of p (take (node_size p) (set words (left - 1) word)) → after ≡ left_after seen (node_size p) → reader_of p node after (set words (left - 1) word) ≡ record { setting = p; reads = fed_by p (reads_with node (loaded_in p left words)) word }
+  pub fed_last : (seen : Seen) (after : ℕ) → left - 1 ≡ 0 → seen ≡ seen_of p (take (node_size p) (set words (left - 1) word)) → after ≡ left_after (answer_to seen) (node_size p) → reader_of p node after (set words (left - 1) word) ≡ record { setting = p; reads = fed_by p (reads_with node (loaded_in p left words)) word }
   fed_last seen after last is after_is =
       let all = all_is p setting left words room within node word some last in
       let step : reads_with node (loaded_in p after (set words (left - 1) word)) ≡ fed_by p (reads_with node (loaded_in p left words)) word =

@@ -3,8 +3,8 @@ use Rattle.std.specs.Prelude.{◌≡◌, ℕ, ◌≤◌, List, take, drop, lengt
 use Rattle.sh_base.specs.declared.config.ConfigParts.{ConfigParts}
 use Rattle.sh_base.specs.Setting.{node_size, IsNode}
 use Rattle.sh_image.specs.declared.inner.Image.{Image}
-use Rattle.sh_image.specs.declared.read.Seen.{Seen}
-use Rattle.sh_image.specs.declared.read.Seen.TheVariants.{Leaf as LeafSeen, Inner as InnerSeen, Torn, TornEntry, Odd as OddSeen}
+use Rattle.sh_read.specs.declared.state.Progress.{Progress}
+use Rattle.sh_read.specs.declared.state.Progress.TheVariants.{More, Accepted, Again, Odd}
 use Rattle.sh_read.specs.Reads.{Reader, reads_with, accepted}
 
 -- the node's words behind the first ones, which are left to load
@@ -15,12 +15,11 @@ abbrev pub reader_of : ConfigParts → (node left : ℕ) → List ℕ → Reader
 reader_of p node left words = record { setting = p; reads = reads_with node (loaded_in p left words) }
 
 -- how many words are left to load behind an answer
-abbrev pub left_after : Seen → (size : ℕ) → ℕ
-left_after (LeafSeen a) size = 0
-left_after (InnerSeen a) size = 0
-left_after (Torn rear front) size = size
-left_after (TornEntry index rear front) size = size
-left_after OddSeen size = 0
+abbrev pub left_after : Progress → (size : ℕ) → ℕ
+left_after (Again rear front) size = size
+left_after More size = 0
+left_after Accepted size = 0
+left_after Odd size = 0
 
 -- the room, and the image of the words that were accepted
 pub record IsKept (p : ConfigParts) (node left : ℕ) (words : List ℕ) (image : Option Image) : Type 0 where

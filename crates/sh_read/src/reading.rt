@@ -71,10 +71,8 @@ impl Reading {
             return Progress::More;
         }
         let size = self.cfg.node_size();
-        let seen = judged(&self.cfg, &self.words[..size as usize]);
-        let progress = answer(&seen);
-        self.left = left(&seen, size);
-        self.image = image_of(seen);
+        let progress = judge(&self.cfg, &self.words[..size as usize], &mut self.image);
+        self.left = left(&progress, size);
         progress
     }
 
@@ -103,6 +101,20 @@ fn blank() -> [u64; 711]
     [0; 711]
 }
 
+// Judges a node's words, and keeps the image that they spell. It isn't put into its caller, whose other words would pay
+// for the room of an image.
+#[inline(never)]
+fn judge(cfg: &Config, words: &[u64], image: &mut Option<Image>) -> Progress
+    requires { length words.now ≡ node_size (parts_of cfg.now) }
+    ensures progress { result ≡ answer_to (seen_of (parts_of cfg.now) words.now) }
+    ensures image { image.new ≡ image_in (seen_of (parts_of cfg.now) words.now) }
+{
+    let seen = judged(cfg, words);
+    let progress = answer(&seen);
+    *image = image_of(seen);
+    progress
+}
+
 // What is judged of a node's words.
 fn judged(cfg: &Config, words: &[u64]) -> Seen
     requires { length words.now ≡ node_size (parts_of cfg.now) }
@@ -124,16 +136,15 @@ fn answer(seen: &Seen) -> Progress
     }
 }
 
-// How many words are to be loaded behind what was judged: of torn words all.
-fn left(seen: &Seen, size: u32) -> u32
-    ensures { result ≡ left_after seen.now size }
+// How many words are to be loaded behind an answer: of torn words all.
+fn left(progress: &Progress, size: u32) -> u32
+    ensures { result ≡ left_after progress.now size }
 {
-    match seen {
-        Seen::Torn { .. } => size,
-        Seen::TornEntry { .. } => size,
-        Seen::Leaf(_) => 0,
-        Seen::Inner(_) => 0,
-        Seen::Odd => 0,
+    match progress {
+        Progress::Again { .. } => size,
+        Progress::More => 0,
+        Progress::Accepted => 0,
+        Progress::Odd => 0,
     }
 }
 

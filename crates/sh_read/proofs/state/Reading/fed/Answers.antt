@@ -1,6 +1,8 @@
-use Rattle.std.proofs.Common.{◌≢◌, ◌∙◌, ◌-◌, take, ap, sym, subst, arith}
+use Rattle.std.proofs.Common.{◌≢◌, ◌∙◌, ◌-◌, ℕ, take, ap, refl, sym, subst, arith}
 use Rattle.std.specs.Prelude.{slice_set, None}
-use Rattle.sh_read.specs.Reads.{Reader, wanted}
+use Rattle.sh_base.specs.Setting.{node_size}
+use Rattle.sh_image.specs.declared.read.Seen.{Seen}
+use Rattle.sh_read.specs.Reads.{Reader, answer_to, wanted}
 use Rattle.sh_read.specs.Judging.{seen_of}
 use Rattle.sh_read.specs.Kept.{left_after}
 use Rattle.sh_read.proofs.KeptLemmas.{size_small, some_left, fed_more, answers_last, fed_last}
@@ -16,17 +18,20 @@ pub returns-then-self-gt0-clause-reads : goal.returns-then-self-gt0-clause-reads
 returns-then-self-gt0-clause-reads c =
     rw (← c.self.view_is) (fed_more c.self.inside.cfg.parts c.self.inside.cfg.lawful c.self.inside.left c.self.inside.words c.self.invariant.room c.self.invariant.within c.self.inside.node c.args.word (omega (arith, c.if-self-gt0.true)) c.if-self-gt0.true)
 
-pub shared_ref_as_front-judged : goal.shared_ref_as_front-judged
-shared_ref_as_front-judged c = omega (arith, c.node_size-size.ensures, size_small c.self.inside.cfg.parts c.self.inside.cfg.lawful)
+pub shared_ref_as_front-judge : goal.shared_ref_as_front-judge
+shared_ref_as_front-judge c = omega (arith, c.node_size-size.ensures, size_small c.self.inside.cfg.parts c.self.inside.cfg.lawful)
 
 pub returns-clause-reads : goal.returns-clause-reads
 returns-clause-reads c =
     let p = c.self.inside.cfg.parts in
     let some = some_left p c.self.inside.cfg.lawful c.self.inside.left c.self.inside.words c.self.invariant.room c.self.invariant.within c.self.inside.node (subst (λ (r : Reader). wanted r.setting r.reads ≢ None) (sym c.self.view_is) c.requires) in
-    rw (← c.self.view_is) (fed_last p c.self.inside.cfg.lawful c.self.inside.left c.self.inside.node c.args.word c.self.inside.words c.self.invariant.room c.self.invariant.within some c.judged-seen.result c.left-self-inside.result (omega (arith, c.if-self-gt0.false)) (c.judged-seen.ensures ∙ ap (λ n. seen_of p (take n (slice_set c.self.inside.words (c.self.inside.left - 1) c.args.word))) c.node_size-size.ensures) (c.left-self-inside.ensures ∙ ap (left_after c.judged-seen.result) c.node_size-size.ensures))
+    let seen : ℕ → Seen = λ n. seen_of p (take n (slice_set c.self.inside.words (c.self.inside.left - 1) c.args.word)) in
+    let after = c.left-self-inside.ensures ∙ ap (left_after c.judge-progress.result) c.node_size-size.ensures ∙ ap (λ g. left_after g (node_size p)) (c.judge-progress.ensures.progress ∙ ap (λ n. answer_to (seen n)) c.node_size-size.ensures) in
+    rw (← c.self.view_is) (fed_last p c.self.inside.cfg.lawful c.self.inside.left c.self.inside.node c.args.word c.self.inside.words c.self.invariant.room c.self.invariant.within some (seen (node_size p)) c.left-self-inside.result (omega (arith, c.if-self-gt0.false)) refl after)
 
 pub returns-clause-answer : goal.returns-clause-answer
 returns-clause-answer c =
     let p = c.self.inside.cfg.parts in
     let some = some_left p c.self.inside.cfg.lawful c.self.inside.left c.self.inside.words c.self.invariant.room c.self.invariant.within c.self.inside.node (subst (λ (r : Reader). wanted r.setting r.reads ≢ None) (sym c.self.view_is) c.requires) in
-    rw (← c.self.view_is) (c.answer-progress.ensures ∙ answers_last p c.self.inside.cfg.lawful c.self.inside.left c.self.inside.words c.self.invariant.room c.self.invariant.within c.self.inside.node c.args.word some c.judged-seen.result (omega (arith, c.if-self-gt0.false)) (c.judged-seen.ensures ∙ ap (λ n. seen_of p (take n (slice_set c.self.inside.words (c.self.inside.left - 1) c.args.word))) c.node_size-size.ensures))
+    let seen : ℕ → Seen = λ n. seen_of p (take n (slice_set c.self.inside.words (c.self.inside.left - 1) c.args.word)) in
+    rw (← c.self.view_is) (c.judge-progress.ensures.progress ∙ ap (λ n. answer_to (seen n)) c.node_size-size.ensures ∙ answers_last p c.self.inside.cfg.lawful c.self.inside.left c.self.inside.words c.self.invariant.room c.self.invariant.within c.self.inside.node c.args.word some (seen (node_size p)) (omega (arith, c.if-self-gt0.false)) refl)

@@ -62,7 +62,7 @@ module _ (s : State) (run : IsRunning s) where
         by_rest true e mine few h all = omega (arith, mine, few, h.count, h.ended, all, pending_none j q.client q.client.phase e)
         by_rest false e mine few h all = omega (arith, mine, few, h.count, all, pending_one j q.client q.client.phase, slice_get_within q.numbers q.ended q.number (h.busy e))
 
-  seat_at : (j : ℕ) → j < length s.seats → (q : Place) × (slice_get s.seats j ≡ Some q)
+  pub seat_at : (j : ℕ) → j < length s.seats → (q : Place) × (slice_get s.seats j ≡ Some q)
   seat_at j lt = there s.seats j lt where
     there : (xs : List Place) (j : ℕ) → j < length xs → (q : Place) × (slice_get xs j ≡ Some q)
     there [] j lt = absurd (omega (arith, lt))

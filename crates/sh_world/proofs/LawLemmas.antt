@@ -4,6 +4,8 @@ use Rattle.std.specs.Prelude.{◌==◌, ◌&&◌, if◌then◌else◌, slice_get
 use Rattle.std.specs.List.{AllByRecursion}
 use Rattle.std.proofs.lemmas.Bool.{and_parts}
 use Rattle.std.proofs.lemmas.Option.{slice_get_cases, slice_get_past}
+use Rattle.std.proofs.lemmas.List.{length-append}
+use Rattle.std.proofs.lemmas.List.Elements.{filter-append}
 use Rattle.std.proofs.lemmas.List.Kept.{AllPairs-cons}
 use Rattle.sh_base.specs.declared.config.ConfigParts.{ConfigParts}
 use Rattle.sh_base.specs.declared.event.Event.{Event}
@@ -31,10 +33,10 @@ use Rattle.sh_core.proofs.Moments.{each_moment}
 use Rattle.sh_core.proofs.Refusals.{refusals_have_causes}
 use Rattle.sh_core.proofs.Senses.{never_senseless}
 use Rattle.sh_world.specs.declared.state.Given.{Given}
-use Rattle.sh_world.specs.States.{Place, State, actor_of, done_in, dones_from, dones_of, HasActor}
+use Rattle.sh_world.specs.States.{Place, State, actor_of, done_in, dones_by, dones_from, dones_of, HasActor}
 use Rattle.sh_world.specs.Turning.{answer_at, answer_in, answer_of, asked, asked_in, is_done, is_idle, is_idle_at, started, starts, starts_next, took, turn_at}
 use Rattle.sh_world.specs.Lines.{Away, stand_in, stand_of, IsIn}
-use Rattle.sh_world.specs.Running.{IsRunning}
+use Rattle.sh_world.specs.Running.{numbers_from, IsRunning}
 use Rattle.sh_world.specs.Laws.{entries_at, entries_in, AllIdle, Clients, Extends, IdlesRight, Rights, IsLawful}
 use Rattle.sh_world.specs.declared.turn.Turn.TheVariants as turn
 use Rattle.sh_world.proofs.CountLemmas.{entries_one}
@@ -70,6 +72,50 @@ owners Has n (g ∷ calls) h = by_reply (owners Has (n + 1) calls (λ k x e. h (
   by_reply r own None = r
   by_reply r own (Some x) = (own, r)
 
+-- ---- where all of a seat's calls have ended
+
+ended_one : (seat n : ℕ) (g : Given) (o : Option Reply) (b : Bool) → (g.seat == seat) ≡ b → length (dones_by seat (done_in n g o)) ≤ (if b then 1 else 0)
+ended_one seat n g None b e = omega arith
+ended_one seat n g (Some r) true e = ap_le (g.seat == seat) where
+  ap_le : (t : Bool) → length {A = Done} (if t then record { n = n; seat = g.seat; call = g.call; reply = r; first = g.first; point = g.point; rows = [] } ∷ [] else []) ≤ 1
+  ap_le true = omega arith
+  ap_le false = omega arith
+ended_one seat n g (Some r) false e = let l = ap (λ (t : Bool). length {A = Done} (if t then record { n = n; seat = g.seat; call = g.call; reply = r; first = g.first; point = g.point; rows = [] } ∷ [] else [])) e in omega (arith, l)
+
+numbers_long : (seat m : ℕ) (g : Given) (calls : List Given) (b : Bool) → (g.seat == seat) ≡ b → length (numbers_from seat m (g ∷ calls)) ≡ (if b then 1 else 0) + length (numbers_from seat (m + 1) calls)
+numbers_long seat m g calls b e = ap (λ (t : Bool). length (if t then m ∷ numbers_from seat (m + 1) calls else numbers_from seat (m + 1) calls)) e ∙ by_test b where
+  by_test : (t : Bool) → length (if t then m ∷ numbers_from seat (m + 1) calls else numbers_from seat (m + 1) calls) ≡ (if t then 1 else 0) + length (numbers_from seat (m + 1) calls)
+  by_test true = omega arith
+  by_test false = omega arith
+
+ended_long : (seat n : ℕ) (g : Given) (calls : List Given) → length (dones_by seat (dones_from n (g ∷ calls))) ≡ length (dones_by seat (done_in n g g.reply)) + length (dones_by seat (dones_from (n + 1) calls))
+ended_long seat n g calls = ap length (filter-append (λ (d : Done). d.seat == seat) (done_in n g g.reply) (dones_from (n + 1) calls)) ∙ length-append (dones_by seat (done_in n g g.reply)) (dones_by seat (dones_from (n + 1) calls))
+
+ended_few : (seat n m : ℕ) (calls : List Given) → length (dones_by seat (dones_from n calls)) ≤ length (numbers_from seat m calls)
+ended_few seat n m [] = omega arith
+ended_few seat n m (g ∷ calls) =
+    let a = ended_long seat n g calls in
+    let b = numbers_long seat m g calls (g.seat == seat) refl in
+    let c = ended_one seat n g g.reply (g.seat == seat) refl in
+    let r = ended_few seat (n + 1) (m + 1) calls in
+    omega (arith, a, b, c, r)
+
+ended_all_of : (seat n m : ℕ) (calls : List Given) → length (dones_by seat (dones_from n calls)) ≡ length (numbers_from seat m calls) → (k : ℕ) (g : Given) → slice_get calls k ≡ Some g → g.seat ≡ seat → g.reply ≢ None
+ended_all_of seat n m [] e k g at own none = cc
+ended_all_of seat n m (x ∷ calls) e zero g at own none =
+    let same : x ≡ g = cc in
+    let a = ended_long seat n x calls in
+    let b = numbers_long seat m x calls true (eq-eqb x.seat seat (ap (λ (y : Given). y.seat) same ∙ own)) in
+    let r = ended_few seat (n + 1) (m + 1) calls in
+    let c : length (dones_by seat (done_in n x x.reply)) ≡ 0 = ap (λ (o : Option Reply). length (dones_by seat (done_in n x o))) (ap (λ (y : Given). y.reply) same ∙ none) in
+    absurd (omega (arith, e, a, b, r, c))
+ended_all_of seat n m (x ∷ calls) e (suc k) g at own none =
+    let a = ended_long seat n x calls in
+    let b = numbers_long seat m x calls (x.seat == seat) refl in
+    let c = ended_one seat n x x.reply (x.seat == seat) refl in
+    let r = ended_few seat (n + 1) (m + 1) calls in
+    ended_all_of seat (n + 1) (m + 1) calls (omega (arith, e, a, b, c, r)) k g at own none
+
 done_is : (w : Want) → is_done w ≡ true → w ≡ want.Done
 done_is want.Done e = refl
 done_is w e = cc
@@ -102,6 +148,16 @@ module _ (s : State) (run : IsRunning s) where
       let phase = (run.places x.seat x.place x.stands.here).rests (idle_rests x.seat x.place x.stands.here (idle x.seat x.place x.stands.here)) in
       subst (IsIn lock) (ap (stand_in x.place.client.setting x.place.client) phase) x.stands.stands
 
+  -- all calls have ended
+  all_ended : AllIdle s → (k : ℕ) (g : Given) → slice_get s.calls k ≡ Some g → g.reply ≢ None
+  all_ended idle k g e none =
+      let small = (run.given k g e).seat_is in
+      let q = seat_at s run g.seat (omega (arith, small, run.seats)) in
+      let pl = run.places g.seat q.0 q.1 in
+      let all = eqb-true q.0.ended (length q.0.numbers) (and_parts (is_done (want_of q.0.client)) (q.0.ended == length q.0.numbers) (idle g.seat q.0 q.1)).1 in
+      let numbers = ap length pl.numbers in
+      ended_all_of g.seat 1 1 s.calls (pl.count ∙ all ∙ numbers) k g e refl none
+
   pub lawful : IsLawful s
   lawful = record {
     seats = run.seats;
@@ -112,6 +168,7 @@ module _ (s : State) (run : IsRunning s) where
     senses = λ seat a e h w. never_senseless s.setting run.setting s.words s.log (Clients s) (Rights s) seat a e run.inv h w;
     lines = run.lines;
     few = log_few s run;
+    ended = all_ended;
     rest = λ idle. at_rest s.setting run.setting s.words s.log (Clients s) (Rights s) run.inv (all_rest idle) (no_right idle);
   }
 

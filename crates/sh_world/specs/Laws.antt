@@ -1,5 +1,5 @@
 -- What holds of a world whose pool is laid, after any calls were given and any turns were taken.
-use Rattle.std.specs.Prelude.{◌≡◌, ◌↔◌, ℕ, ◌+◌, ◌<◌, ◌≤◌, Bool, true, false, List, [], ◌++◌, length, slice_get, Option, Some, None}
+use Rattle.std.specs.Prelude.{◌≡◌, ◌≢◌, ◌↔◌, ℕ, ◌+◌, ◌<◌, ◌≤◌, Bool, true, false, List, [], ◌++◌, length, slice_get, Option, Some, None}
 use Rattle.sh_base.specs.declared.event.Event.{Event}
 use Rattle.sh_base.specs.Memory.{found_by}
 use Rattle.sh_base.specs.Setting.{all_seats}
@@ -15,6 +15,7 @@ use Rattle.sh_core.specs.Moments.{IsMoment}
 use Rattle.sh_core.specs.Rest.{AreAtRest}
 use Rattle.sh_core.specs.Senses.{is_senseless}
 use Rattle.sh_world.specs.declared.turn.Turn.TheVariants as turn
+use Rattle.sh_world.specs.declared.state.Given.{Given}
 use Rattle.sh_world.specs.States.{Place, State, dones_of, HasActor, IsLeft}
 use Rattle.sh_world.specs.Turning.{answer_of, asked, is_idle_at, turn_of}
 use Rattle.sh_world.specs.Lines.{AreLines}
@@ -33,7 +34,7 @@ AllIdle s = (seat : ℕ) (q : Place) → slice_get s.seats seat ≡ Some q → i
 -- There are as many seats as the setting has. At each moment the standing words hold a lawful tree with the log's map, and
 -- each lock has at most one holder. The book is lawful; an entry that is no ended call's own is that of its seat's call
 -- under way. Each refusal has its cause, and each call is answered at its point. No client comes to a senseless case. The
--- ticket lines agree. Where every seat is idle the words themselves hold the tree, the book is closed, and as many nodes
+-- ticket lines agree. Where every seat is idle each call has ended, the words themselves hold the tree, the book is closed, and as many nodes
 -- aren't posted as were skipped.
 pub record IsLawful (s : State) : Type 0 where
   pub seats : length s.seats ≡ all_seats s.setting
@@ -44,6 +45,7 @@ pub record IsLawful (s : State) : Type 0 where
   pub senses : (seat : ℕ) (a : Actor) (e : Event) → Clients s seat a → want_of a.client ≡ want.Event e → is_senseless a.client (found_by s.words e) ≡ false
   pub lines : AreLines s.setting s.seats s.lines
   pub few : length s.log ≤ length s.calls
+  pub ended : AllIdle s → (place : ℕ) (g : Given) → slice_get s.calls place ≡ Some g → g.reply ≢ None
   pub rest : AllIdle s → AreAtRest s.setting s.words s.log (Clients s)
 
 -- the entries that a turn makes: those of the event that is wanted, and none on a line

@@ -92,12 +92,12 @@ fn take(world: &mut World, seat: u32) -> Turn {
 
 // Asks each seat in turn until all are idle, for a million rounds at most. How many turns were made comes back.
 fn finish(world: &mut World) -> u64 {
-    let mut made = 0;
+    let mut made = 0u64;
     for _ in 0..1_000_000 {
         let mut idle = true;
         for seat in 0..world.seats() {
             if take(world, seat) != Turn::Idle {
-                made += 1;
+                made = made.saturating_add(1);
                 idle = false;
             }
         }

@@ -1,5 +1,5 @@
 -- What holds of a world after any turns, by the core's laws.
-use Rattle.std.proofs.Common.{◌≡◌, ◌≢◌, ◌⊎◌, ℕ, zero, suc, ◌+◌, ◌-◌, ◌<◌, ◌≤◌, inl, inr, Bool, true, false, List, [], ◌∷◌, ◌++◌, length, get_or, set, Option, Some, None, refl, sym, ap, ◌∙◌, subst, arith, append-nil, eq-eqb, eqb-true}
+use Rattle.std.proofs.Common.{◌≡◌, ◌≢◌, ℕ, zero, suc, ◌+◌, ◌-◌, ◌<◌, ◌≤◌, inl, inr, Bool, true, false, List, [], ◌∷◌, ◌++◌, length, Option, Some, None, refl, sym, ap, ◌∙◌, subst, arith, append-nil, eq-eqb, eqb-true}
 use Rattle.std.specs.Prelude.{◌==◌, ◌&&◌, if◌then◌else◌, slice_get, map, All, AllPairs}
 use Rattle.std.specs.List.{AllByRecursion}
 use Rattle.std.proofs.lemmas.Bool.{and_parts}
@@ -7,10 +7,6 @@ use Rattle.std.proofs.lemmas.Option.{slice_get_cases, slice_get_past}
 use Rattle.std.proofs.lemmas.List.{length-append}
 use Rattle.std.proofs.lemmas.List.Elements.{filter-append}
 use Rattle.std.proofs.lemmas.List.Kept.{AllPairs-cons}
-use Rattle.sh_base.specs.declared.config.ConfigParts.{ConfigParts}
-use Rattle.sh_base.specs.declared.event.Event.{Event}
-use Rattle.sh_base.specs.Setting.{all_seats}
-use Rattle.sh_base.specs.Layout.{compute_of}
 use Rattle.sh_map.specs.declared.call.Reply.{Reply}
 use Rattle.sh_map.specs.declared.book.Done.{Done}
 use Rattle.sh_map.specs.declared.log.Entry.{Entry}
@@ -33,9 +29,9 @@ use Rattle.sh_core.proofs.Moments.{each_moment}
 use Rattle.sh_core.proofs.Refusals.{refusals_have_causes}
 use Rattle.sh_core.proofs.Senses.{never_senseless}
 use Rattle.sh_world.specs.declared.state.Given.{Given}
-use Rattle.sh_world.specs.States.{Place, State, actor_of, done_in, dones_by, dones_from, dones_of, HasActor}
+use Rattle.sh_world.specs.States.{Place, State, actor_of, done_in, dones_by, dones_from, dones_of}
 use Rattle.sh_world.specs.Turning.{answer_at, answer_in, answer_of, asked, asked_in, is_done, is_idle, is_idle_at, started, starts, starts_next, took, turn_at}
-use Rattle.sh_world.specs.Lines.{Away, stand_in, stand_of, IsIn}
+use Rattle.sh_world.specs.Lines.{stand_in, IsIn}
 use Rattle.sh_world.specs.Running.{numbers_from, IsRunning}
 use Rattle.sh_world.specs.Laws.{entries_at, entries_in, AllIdle, Clients, Extends, IdlesRight, Rights, IsLawful}
 use Rattle.sh_world.specs.declared.turn.Turn.TheVariants as turn

@@ -1,5 +1,5 @@
 -- What holds of a world whose pool is laid, after any calls were given and any turns were taken.
-use Rattle.std.specs.Prelude.{◌≡◌, ◌≢◌, ◌↔◌, ℕ, ◌+◌, ◌<◌, ◌≤◌, Bool, true, false, List, [], ◌++◌, length, slice_get, Option, Some, None}
+use Rattle.std.specs.Prelude.{◌≡◌, ◌≢◌, ◌↔◌, ℕ, ◌≤◌, true, false, List, [], ◌++◌, length, slice_get, Option, Some, None}
 use Rattle.sh_base.specs.declared.event.Event.{Event}
 use Rattle.sh_base.specs.Memory.{found_by}
 use Rattle.sh_base.specs.Setting.{all_seats}

@@ -1,4 +1,4 @@
-use Rattle.std.proofs.Common.{ℕ, ◌<◌, length, subst}
+use Rattle.std.proofs.Common.{subst}
 use Rattle.sh_world.specs.States.{State}
 use Rattle.sh_world.specs.Laws.{IdlesRight, IsLawful}
 use Rattle.sh_world.specs.contracts.state.World.{the_view}

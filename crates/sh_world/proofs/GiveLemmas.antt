@@ -1,20 +1,17 @@
 -- A seat is given a call.
-use Rattle.std.proofs.Common.{◌≡◌, ◌≢◌, ◌⊎◌, ℕ, zero, suc, ◌+◌, ◌-◌, ◌^◌, ◌<◌, ◌≤◌, inl, inr, Bool, true, false, List, [], ◌∷◌, ◌++◌, length, set, Option, Some, None, refl, sym, ap, ◌∙◌, subst, arith, append-nil, eq-eqb, ne_eqb}
+use Rattle.std.proofs.Common.{◌≡◌, ◌≢◌, ◌⊎◌, ℕ, suc, ◌+◌, ◌-◌, ◌^◌, ◌<◌, ◌≤◌, inl, inr, Bool, true, false, List, [], ◌∷◌, ◌++◌, length, set, Option, Some, None, refl, sym, ap, ◌∙◌, subst, arith, append-nil, eq-eqb, ne_eqb}
 use Rattle.std.specs.Prelude.{◌==◌, if◌then◌else◌, slice_get}
 use Rattle.std.proofs.lemmas.Bool.{cases_eq}
 use Rattle.std.proofs.lemmas.Option.{slice_get_within}
-use Rattle.std.proofs.lemmas.List.{length-append, length-set, length_push}
-use Rattle.sh_base.specs.declared.config.ConfigParts.{ConfigParts}
+use Rattle.std.proofs.lemmas.List.{length-set, length_push}
 use Rattle.sh_base.specs.Setting.{all_seats}
 use Rattle.sh_map.specs.declared.call.Call.{Call}
 use Rattle.sh_map.specs.declared.book.Done.{Done}
 use Rattle.sh_map.specs.declared.log.Entry.{Entry}
 use Rattle.sh_map.specs.Calls.{IsInRange}
 use Rattle.sh_map.proofs.BookLemmas.{slice_get-append_left, slice_get-push_back}
-use Rattle.sh_client.specs.Rests.{is_resting}
 use Rattle.sh_client.specs.Sound.{IsPointCall}
-use Rattle.sh_core.specs.Actors.{Actor}
-use Rattle.sh_core.specs.Core.{Inv, AreSame}
+use Rattle.sh_core.specs.Core.{AreSame}
 use Rattle.sh_core.proofs.Calls.{same_keeps}
 use Rattle.sh_world.specs.declared.state.Given.{Given}
 use Rattle.sh_world.specs.States.{Place, State, actor_of, dones_by, dones_of, HasActor, IsLeft}

@@ -16,3 +16,4 @@ pub mod LaidLemmas
 pub mod NodeLemmas
 pub mod GiveLemmas
 pub mod OpenLemmas
+pub mod LawLemmas

@@ -1,5 +1,5 @@
 -- One seat's actor changes and the others stay: what the core's laws ask of a world.
-use Rattle.std.proofs.Common.{◌≡◌, ◌≢◌, ◌⊎◌, ℕ, zero, suc, ◌+◌, ◌-◌, ◌<◌, ◌≤◌, inl, inr, Bool, true, false, List, [], ◌∷◌, ◌++◌, length, set, Option, Some, None, refl, sym, ap, ◌∙◌, subst, arith}
+use Rattle.std.proofs.Common.{◌≡◌, ◌≢◌, ◌⊎◌, ℕ, zero, suc, ◌+◌, ◌-◌, ◌<◌, ◌≤◌, inl, inr, Bool, true, false, List, [], ◌∷◌, ◌++◌, length, set, Some, None, refl, sym, ap, ◌∙◌, subst, arith}
 use Rattle.std.specs.Prelude.{if◌then◌else◌, slice_get}
 use Rattle.std.proofs.lemmas.Bool.{cases_eq}
 use Rattle.sh_base.specs.declared.config.ConfigParts.{ConfigParts}
@@ -7,9 +7,8 @@ use Rattle.sh_map.specs.declared.book.Done.{Done}
 use Rattle.sh_map.specs.declared.log.Entry.{Entry}
 use Rattle.sh_client.specs.declared.state.Phase.TheVariants.{Ended}
 use Rattle.sh_client.specs.declared.state.Phase.{Phase}
-use Rattle.sh_client.specs.declared.state.Phase.TheVariants as phase
 use Rattle.sh_client.specs.Machine.{Machine}
-use Rattle.sh_core.specs.Actors.{Actor, becomes, done_of, ending, going as actor_going, has_ended, point_of, rested}
+use Rattle.sh_core.specs.Actors.{Actor, becomes, ending, going as actor_going, has_ended, point_of, rested}
 use Rattle.sh_core.specs.Core.{Inv, Moves, RestKeeps}
 use Rattle.sh_world.specs.declared.state.Given.{Given}
 use Rattle.sh_world.specs.States.{Place, actor_of, answered, dones_by, dones_of, HasActor}

@@ -1,24 +1,21 @@
 -- A seat's numbers are those of its calls, and its next call is the first that isn't answered.
-use Rattle.std.proofs.Common.{◌≡◌, ◌≢◌, ◌⊎◌, ℕ, zero, suc, ◌+◌, ◌-◌, ◌<◌, ◌≤◌, inl, inr, Bool, true, false, List, [], ◌∷◌, ◌++◌, length, Option, Some, None, refl, sym, ap, ◌∙◌, subst, arith, eqb, eq-eqb, ne_eqb}
+use Rattle.std.proofs.Common.{◌≡◌, ◌≢◌, ◌⊎◌, ℕ, zero, suc, ◌+◌, ◌-◌, ◌<◌, ◌≤◌, inl, inr, Bool, true, false, List, [], ◌∷◌, length, Some, refl, sym, ap, ◌∙◌, arith, eq-eqb, ne_eqb}
 use Rattle.std.specs.Prelude.{◌==◌, if◌then◌else◌, slice_get}
 use Rattle.std.proofs.lemmas.Bool.{cases_eq}
 use Rattle.std.proofs.lemmas.Option.{slice_get_within}
 use Rattle.std.proofs.lemmas.List.{length_push}
-use Rattle.sh_map.specs.declared.call.Call.{Call}
 use Rattle.sh_map.specs.declared.call.Reply.{Reply}
-use Rattle.sh_map.specs.declared.book.Done.{Done}
 use Rattle.sh_map.specs.declared.log.Entry.{Entry}
-use Rattle.sh_map.proofs.BookLemmas.{slice_get-push_back}
 use Rattle.sh_client.specs.declared.state.Phase.{Phase}
 use Rattle.sh_client.specs.declared.state.Phase.TheVariants.{Idle, Ended}
 use Rattle.sh_client.specs.Machine.{Machine}
 use Rattle.sh_client.specs.Rests.{is_resting, rests}
 use Rattle.sh_core.specs.Actors.{has_ended, point_of}
 use Rattle.sh_world.specs.declared.state.Given.{Given}
-use Rattle.sh_world.specs.States.{Place, answered, dones_by, dones_from, dones_of}
-use Rattle.sh_world.specs.Turning.{calls_after, going, place_after, queued, resting, started}
+use Rattle.sh_world.specs.States.{Place, answered, dones_by, dones_of}
+use Rattle.sh_world.specs.Turning.{calls_after, going, place_after, resting, started}
 use Rattle.sh_world.specs.Running.{numbers_from, IsPlace}
-use Rattle.sh_world.proofs.DoneLemmas.{by_own, dones_waits, told}
+use Rattle.sh_world.proofs.DoneLemmas.{by_own, told}
 use Rattle.sh_world.proofs.MoveLemmas.{AgreeBut, IsNext}
 
 some_is : {X : Type 0} {x y : X} → Some x ≡ Some y → x ≡ y

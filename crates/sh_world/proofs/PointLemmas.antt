@@ -1,11 +1,10 @@
 -- The walk over the entries that were made during a call finds the least point of its reply.
-use Rattle.std.proofs.Common.{◌≡◌, ◌≢◌, ℕ, zero, suc, ◌+◌, ◌-◌, ◌<◌, ◌≤◌, ◌⊎◌, inl, inr, List, [], ◌∷◌, length, get_or, Option, refl, sym, ap, ◌∙◌, subst, arith}
+use Rattle.std.proofs.Common.{◌≡◌, ◌≢◌, ℕ, ◌+◌, ◌<◌, ◌≤◌, inl, inr, List, length, get_or, Option, refl, sym, ap, ◌∙◌, arith}
 use Rattle.std.proofs.lemmas.Bool.{cases_eq, cases_lt}
 use Rattle.sh_map.specs.declared.log.Entry.{Entry}
 use Rattle.sh_map.specs.Map.{get}
 use Rattle.sh_map.specs.Log.{key_of, changed, map_at, IsLegal}
 use Rattle.sh_map.specs.Points.{IsLeastPoint}
-use Rattle.std.specs.Prelude.{slice_get, Some}
 use Rattle.std.proofs.lemmas.Option.{slice_get_read}
 use Rattle.sh_map.proofs.LogLemmas.{changed_other, map_more, IsLegal-at}
 use Rattle.sh_core.specs.Actors.{least_point}

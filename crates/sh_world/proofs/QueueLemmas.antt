@@ -1,19 +1,18 @@
 -- The turns of a line keep it a line.
-use Rattle.std.proofs.Common.{◌≡◌, ◌≢◌, ◌⊎◌, ℕ, zero, suc, ◌+◌, ◌-◌, ◌^◌, ◌<◌, ◌≤◌, inl, inr, Bool, true, false, List, length, set, Option, Some, None, refl, sym, ap, ◌∙◌, subst, arith}
+use Rattle.std.proofs.Common.{◌≡◌, ◌≢◌, ◌⊎◌, ℕ, suc, ◌+◌, ◌-◌, ◌^◌, ◌<◌, ◌≤◌, inl, inr, List, length, set, Option, Some, None, refl, sym, ap, ◌∙◌, subst, arith}
 use Rattle.std.specs.Prelude.{slice_get}
 use Rattle.std.proofs.lemmas.Bool.{cases_eq, cases_lt}
 use Rattle.std.proofs.lemmas.Option.{slice_get_within}
 use Rattle.sh_base.specs.declared.config.ConfigParts.{ConfigParts}
-use Rattle.sh_base.specs.Setting.{all_locks, all_seats, IsSetting}
+use Rattle.sh_base.specs.Setting.{all_seats, IsSetting}
 use Rattle.sh_base.specs.Layout.{compute_of}
 use Rattle.sh_scene.proofs.Pigeons.{at_most}
 use Rattle.sh_world.specs.declared.state.Line.{Line}
-use Rattle.sh_world.specs.States.{Place, line_at}
-use Rattle.sh_world.specs.Turning.{behind, drawn, left_line, minus, next_ticket}
-use Rattle.sh_world.specs.Lines.{Stand, Away, Waits, Served, is_some, stand_of, IsIn, HasTurn, WillHand, StandsIn, IsAtPlace, IsLine, AreLines}
-use Rattle.sh_world.proofs.LineLemmas.{count_down, count_up, line_apart, minus_one, minus_self, minus_small, minus_zero, next_small}
+use Rattle.sh_world.specs.States.{Place}
+use Rattle.sh_world.specs.Turning.{drawn, left_line, minus, next_ticket}
+use Rattle.sh_world.specs.Lines.{Stand, Away, Waits, Served, is_some, stand_of, IsIn, HasTurn, WillHand, StandsIn, IsLine}
+use Rattle.sh_world.proofs.LineLemmas.{count_down, count_up, minus_self, minus_zero, next_small}
 use Rattle.sh_world.proofs.MoveLemmas.{set_here, set_else}
-use Rattle.sh_world.proofs.StandLemmas.{MayHand}
 
 some_is : {X : Type 0} {x y : X} → Some x ≡ Some y → x ≡ y
 some_is e = cc

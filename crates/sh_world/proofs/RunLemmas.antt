@@ -1,33 +1,34 @@
 -- A turn keeps all that holds of a world.
-use Rattle.std.proofs.Common.{◌≡◌, ◌≢◌, ◌⊎◌, ℕ, zero, suc, ◌+◌, ◌-◌, ◌^◌, ◌<◌, ◌≤◌, inl, inr, Bool, true, false, List, [], ◌∷◌, ◌++◌, length, set, Option, Some, None, refl, sym, ap, ◌∙◌, subst, arith, append-nil}
+use Rattle.std.proofs.Common.{◌≡◌, ◌≢◌, ◌⊎◌, ℕ, zero, suc, ◌+◌, ◌-◌, ◌<◌, ◌≤◌, inl, inr, Bool, true, false, List, [], ◌∷◌, ◌++◌, length, set, Some, refl, sym, ap, ◌∙◌, subst, arith, append-nil}
 use Rattle.std.specs.Prelude.{if◌then◌else◌, slice_get}
 use Rattle.std.proofs.lemmas.Bool.{cases_eq}
 use Rattle.std.proofs.lemmas.Option.{slice_get_within}
 use Rattle.std.proofs.lemmas.List.{length-append, length-set}
 use Rattle.sh_base.specs.declared.config.ConfigParts.{ConfigParts}
-use Rattle.sh_base.specs.Setting.{all_locks, all_seats, IsSetting}
+use Rattle.sh_base.specs.Setting.{all_seats}
 use Rattle.sh_map.specs.declared.call.Call.{Call}
-use Rattle.sh_map.specs.declared.call.Call.TheVariants.{Get, Put, Del, Range}
+use Rattle.sh_map.specs.declared.call.Call.TheVariants.{Get, Del}
 use Rattle.sh_map.specs.declared.call.Reply.{Reply}
 use Rattle.sh_map.specs.declared.call.Reply.TheVariants as reply
 use Rattle.sh_map.specs.declared.log.Entry.{Entry}
 use Rattle.sh_map.specs.declared.book.Done.{Done}
 use Rattle.sh_map.specs.Log.{IsLegal}
-use Rattle.sh_client.specs.declared.state.Phase.{Phase}
-use Rattle.sh_client.specs.declared.state.Phase.TheVariants.{Ended}
 use Rattle.sh_client.specs.Machine.{Machine}
 use Rattle.sh_client.specs.Rests.{is_resting}
 use Rattle.sh_core.specs.Actors.{Actor, becomes, done_of, ending, going as actor_going, has_ended, point_of, point_after, AreAnswered, IsAnswered, IsLeast, made_by, updates}
 use Rattle.sh_core.specs.Keeps.{Keeps, pending}
 use Rattle.sh_core.specs.Core.{Inv, Moves}
+<<<<<<< HEAD
 use Rattle.sh_core_books.specs.Rest.{sum_below}
+=======
+>>>>>>> a9eda50a67c29a97d668279fb143011b0ae5fd73
 use Rattle.sh_core.proofs.Calls.{rest_keeps}
 use Rattle.sh_world.specs.declared.state.Given.{Given}
 use Rattle.sh_world.specs.declared.state.Line.{Line}
 use Rattle.sh_world.specs.States.{Place, State, actor_of, answered, dones_by, dones_of, HasActor, IsLeft}
 use Rattle.sh_world.specs.Turning.{calls_after, going, place_after, resting, with_ticket}
 use Rattle.sh_world.specs.Lines.{AreLines}
-use Rattle.sh_world.specs.Running.{HadAt, HasPoint, IsGiven, IsPlace, IsRunning, numbers_from}
+use Rattle.sh_world.specs.Running.{HasPoint, IsGiven, IsPlace, IsRunning, numbers_from}
 use Rattle.sh_world.specs.Seats.{CanEnd}
 use Rattle.sh_world.proofs.CountLemmas.{call_sum, log_sum, numbers_few, pending_none, pending_one, sum_less, updates_few}
 use Rattle.sh_world.proofs.DoneLemmas.{length_answered}
@@ -62,7 +63,7 @@ module _ (s : State) (run : IsRunning s) where
         by_rest true e mine few h all = omega (arith, mine, few, h.count, h.ended, all, pending_none j q.client q.client.phase e)
         by_rest false e mine few h all = omega (arith, mine, few, h.count, all, pending_one j q.client q.client.phase, slice_get_within q.numbers q.ended q.number (h.busy e))
 
-  seat_at : (j : ℕ) → j < length s.seats → (q : Place) × (slice_get s.seats j ≡ Some q)
+  pub seat_at : (j : ℕ) → j < length s.seats → (q : Place) × (slice_get s.seats j ≡ Some q)
   seat_at j lt = there s.seats j lt where
     there : (xs : List Place) (j : ℕ) → j < length xs → (q : Place) × (slice_get xs j ≡ Some q)
     there [] j lt = absurd (omega (arith, lt))

@@ -1,5 +1,5 @@
 -- Where clients stand in lines, turn by turn.
-use Rattle.std.proofs.Common.{◌≡◌, ℕ, ◌+◌, ◌==◌, Bool, true, false, cond, Option, Some, None, length, refl, ◌∙◌, sym, ap, subst, ◌-◌, ◌≤◌, ◌<◌, suc, zero, arith}
+use Rattle.std.proofs.Common.{◌≡◌, ℕ, ◌+◌, ◌==◌, Bool, true, false, cond, Option, Some, None, length, refl, ◌∙◌, sym, ap, subst, suc, zero}
 use Rattle.sh_base.specs.Setting.{node_size}
 use Rattle.sh_alloc.specs.declared.state.ChunkWant.{ChunkWant}
 use Rattle.sh_alloc.specs.declared.state.ChunkWant.TheVariants as chunk
@@ -27,10 +27,10 @@ use Rattle.sh_client.specs.declared.state.Write.{Write}
 use Rattle.sh_client.specs.declared.state.Write.TheVariants.{Nothing, Entry, Leaf, LeftLeaf, Inner, LeftInner}
 use Rattle.sh_decide.specs.Aims.{is_node}
 use Rattle.sh_decide.specs.Deciding.{decision_of}
-use Rattle.sh_client.specs.Feeds.{arrived, did, fed_by, fed_in, held_by, hold_by, loaded, read_by, reading, turned, turned_by, turned_in, went}
+use Rattle.sh_client.specs.Feeds.{arrived, did, fed_in, held_by, hold_by, loaded, read_by, reading, turned_in, went}
 use Rattle.sh_client.specs.Giving.{carried, counted, followed, left, released, writing}
 use Rattle.sh_client.specs.Machine.{Machine, handed_over, rewrite_done, sparing, split_done, to}
-use Rattle.sh_client.specs.Splitting.{all_spent, chunk_taken, growing, grown, halved, halved_by, raised, sought_by, splitting, topped_by, walked}
+use Rattle.sh_client.specs.Splitting.{all_spent, chunk_taken, growing, grown, halved, halved_by, sought_by, splitting, topped_by, walked}
 use Rattle.sh_decide.specs.Ways.{way_of}
 use Rattle.sh_client.specs.declared.state.Want.{Want}
 use Rattle.sh_client.specs.declared.state.Want.TheVariants as want

@@ -1,15 +1,13 @@
 -- A seat that is asked begins its next call, and a call that ends can be answered.
-use Rattle.std.proofs.Common.{◌≡◌, ◌≢◌, ◌⊎◌, ℕ, zero, suc, ◌+◌, ◌-◌, ◌^◌, ◌<◌, ◌≤◌, inl, inr, Bool, true, false, List, [], ◌∷◌, ◌++◌, length, set, Option, Some, None, refl, sym, ap, ◌∙◌, subst, arith}
+use Rattle.std.proofs.Common.{◌≡◌, ◌≢◌, ℕ, ◌+◌, ◌-◌, ◌<◌, inr, Bool, true, false, List, [], length, set, Option, Some, None, refl, sym, ap, ◌∙◌, subst, arith}
 use Rattle.std.specs.Prelude.{◌==◌, if◌then◌else◌, nat_lt, slice_get}
-use Rattle.std.proofs.lemmas.Bool.{cases_eq}
 use Rattle.std.proofs.lemmas.Option.{slice_get_within}
 use Rattle.sh_base.specs.declared.config.ConfigParts.{ConfigParts}
 use Rattle.sh_base.specs.declared.event.Event.{Event}
-use Rattle.sh_base.specs.Setting.{all_locks, all_seats, node_size, IsSetting}
+use Rattle.sh_base.specs.Setting.{all_locks, node_size}
 use Rattle.sh_base.specs.Layout.{node_word}
 use Rattle.sh_base.specs.Memory.{apply, found_by}
 use Rattle.sh_edit.proofs.PairLemmas.{less_test}
-use Rattle.sh_map.specs.declared.log.Entry.{Entry}
 use Rattle.sh_map.specs.Calls.{IsInRange}
 use Rattle.sh_alloc.specs.declared.state.ChunkWant.{ChunkWant}
 use Rattle.sh_alloc.specs.declared.state.ChunkWant.TheVariants as chunk
@@ -20,28 +18,27 @@ use Rattle.sh_scene.specs.Scene.{Scene}
 use Rattle.sh_decide.specs.declared.state.Post.{Post}
 use Rattle.sh_client.specs.declared.state.Then.{Then}
 use Rattle.sh_client.specs.declared.state.Phase.{Phase}
-use Rattle.sh_client.specs.declared.state.Phase.TheVariants.{Idle, Root, Read, Draw, Look, Grab, Hold, Seek, Fill, Waiting, Body, Unlock, Leave, Top, Raise, Swap, Ended}
+use Rattle.sh_client.specs.declared.state.Phase.TheVariants.{Idle, Read, Hold, Seek, Body, Top, Ended}
 use Rattle.sh_client.specs.declared.state.Want.{Want}
 use Rattle.sh_client.specs.declared.state.Want.TheVariants as want
 use Rattle.sh_client.specs.declared.state.Write.{Write}
 use Rattle.sh_client.specs.Machine.{Machine, to}
-use Rattle.sh_client.specs.Feeds.{begun as machine_begun, fed_by, fed_in}
+use Rattle.sh_client.specs.Feeds.{fed_by, fed_in}
 use Rattle.sh_client.specs.Giving.{counted, made_in, makes, released}
 use Rattle.sh_client.specs.Rests.{is_resting, rests}
 use Rattle.sh_client.specs.Wants.{count_of, load_of, want_in, want_of}
 use Rattle.sh_core.specs.Actors.{Actor, begun, has_ended}
 use Rattle.sh_core.specs.Fits.{Fits}
 use Rattle.sh_core.specs.Keeps.{Keeps}
-use Rattle.sh_core.specs.Core.{Inv}
 use Rattle.sh_core.proofs.Calls.{begin_keeps}
 use Rattle.sh_client.proofs.KeptLemmas.{fed_keeps}
 use Rattle.sh_world.specs.declared.state.Given.{Given}
 use Rattle.sh_world.specs.States.{Place, State, actor_of, HasActor, IsLeft}
 use Rattle.sh_world.specs.Turning.{asked, asked_in, started, starts, starts_next}
-use Rattle.sh_world.specs.Lines.{Away, stand_in, stand_of}
+use Rattle.sh_world.specs.Lines.{stand_in}
 use Rattle.sh_world.specs.Running.{IsRunning}
-use Rattle.sh_world.specs.Seats.{CanAsk, CanSettle, CanStart}
-use Rattle.sh_world.proofs.MoveLemmas.{moves_seats, set_here, set_same}
+use Rattle.sh_world.specs.Seats.{CanAsk, CanSettle}
+use Rattle.sh_world.proofs.MoveLemmas.{moves_seats, set_same}
 use Rattle.sh_world.proofs.PlaceLemmas.{number_in, place_started}
 use Rattle.sh_world.proofs.RunLemmas.{can_end, placed}
 use Rattle.sh_world.proofs.WantLemmas.{lines_still}

@@ -1,5 +1,5 @@
 -- The world after a turn of a seat, want by want.
-use Rattle.std.proofs.Common.{◌≡◌, ◌≢◌, ◌⊎◌, ℕ, zero, suc, ◌+◌, ◌-◌, ◌^◌, ◌<◌, ◌≤◌, inl, inr, Bool, true, false, List, [], ◌∷◌, ◌++◌, length, get_or, set, Option, Some, None, refl, sym, ap, ◌∙◌, subst, arith, append-nil, eq-eqb}
+use Rattle.std.proofs.Common.{◌≡◌, ℕ, zero, suc, ◌<◌, ◌≤◌, inl, inr, Bool, true, false, List, [], ◌++◌, length, get_or, set, Option, Some, None, refl, sym, ap, ◌∙◌, subst, arith, append-nil}
 use Rattle.std.specs.Prelude.{◌==◌, if◌then◌else◌, slice_get}
 use Rattle.std.proofs.lemmas.Bool.{cases_eq, eqb-true}
 use Rattle.std.proofs.lemmas.Option.{slice_get_within, slice_get-get_or}
@@ -9,10 +9,8 @@ use Rattle.sh_base.specs.Setting.{all_locks, all_seats, IsSetting}
 use Rattle.sh_base.specs.Layout.{compute_of, lock_of}
 use Rattle.sh_base.specs.Memory.{apply, found_by}
 use Rattle.sh_map.specs.declared.log.Entry.{Entry}
-use Rattle.sh_scene.specs.Scene.{Owner, Right, Hold, Held}
-use Rattle.sh_client.specs.declared.state.Phase.{Phase}
+use Rattle.sh_scene.specs.Scene.{Right, Held}
 use Rattle.sh_client.specs.declared.state.Phase.TheVariants.{Leave}
-use Rattle.sh_client.specs.declared.state.Want.{Want}
 use Rattle.sh_client.specs.declared.state.Want.TheVariants as want
 use Rattle.sh_client.specs.Machine.{Machine}
 use Rattle.sh_client.specs.Feeds.{fed_by, turned_by}
@@ -27,12 +25,11 @@ use Rattle.sh_core.specs.Core.{Inv, Moves, IsLocal, HasSeen, AreSame}
 use Rattle.sh_core_turns.proofs.Turns.{turn_keeps}
 use Rattle.sh_core.proofs.LocalLaws.{local_keeps, look_keeps, take_keeps, part_keeps}
 use Rattle.sh_core.proofs.Calls.{same_keeps}
-use Rattle.sh_world.specs.declared.state.Given.{Given}
 use Rattle.sh_world.specs.declared.state.Line.{Line}
 use Rattle.sh_world.specs.States.{Place, State, actor_of, line_at, HasActor, IsLeft}
 use Rattle.sh_world.specs.Turning.{behind, calls_after, counted, drawn, drew, left, left_line, line_of, looked, looked_client, looked_line, made, minus, or_free, place_after, with_ticket}
 use Rattle.sh_world.specs.Lines.{Stand, Away, Waits, Served, is_some, stand_of, IsIn, HasTurn, WillHand, IsLine, AreLines}
-use Rattle.sh_world.specs.Running.{IsPlace, IsRunning}
+use Rattle.sh_world.specs.Running.{IsRunning}
 use Rattle.sh_world.proofs.CountLemmas.{made_of_seat}
 use Rattle.sh_world.proofs.LineLemmas.{compute_within, line_apart, line_within, minus_one, minus_small}
 use Rattle.sh_world.proofs.MoveLemmas.{set_again, set_else, set_here, set_same}

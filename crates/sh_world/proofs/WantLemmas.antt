@@ -1,31 +1,26 @@
 -- Each turn that a client wants keeps all that holds of a world.
-use Rattle.std.proofs.Common.{◌≡◌, ◌≢◌, ◌⊎◌, ℕ, zero, suc, ◌+◌, ◌-◌, ◌^◌, ◌<◌, ◌≤◌, inl, inr, Bool, true, false, List, [], ◌∷◌, ◌++◌, length, set, Option, Some, None, refl, sym, ap, ◌∙◌, subst, arith, append-nil, eq-eqb, ne_eqb}
-use Rattle.std.specs.Prelude.{◌==◌, if◌then◌else◌, slice_get}
+use Rattle.std.proofs.Common.{◌≡◌, ◌≢◌, ◌⊎◌, ℕ, ◌<◌, inl, inr, Bool, true, false, List, [], set, Option, Some, refl, sym, ap, ◌∙◌, subst, arith}
+use Rattle.std.specs.Prelude.{if◌then◌else◌, slice_get}
 use Rattle.std.proofs.lemmas.Bool.{cases_eq}
 use Rattle.std.proofs.lemmas.Option.{slice_get_within}
 use Rattle.std.proofs.lemmas.List.{length-set}
 use Rattle.sh_base.specs.declared.config.ConfigParts.{ConfigParts}
-use Rattle.sh_base.specs.declared.event.Event.{Event}
-use Rattle.sh_base.specs.Setting.{all_locks, all_seats, IsSetting}
+use Rattle.sh_base.specs.Setting.{all_locks, IsSetting}
 use Rattle.sh_base.specs.Layout.{compute_of, lock_of}
-use Rattle.sh_base.specs.Memory.{apply, found_by}
 use Rattle.sh_map.specs.declared.log.Entry.{Entry}
-use Rattle.sh_scene.specs.Scene.{Right, Held}
-use Rattle.sh_alloc.specs.declared.state.ChunkWant.{ChunkWant}
-use Rattle.sh_alloc.specs.declared.state.ChunkWant.TheVariants as chunk
 use Rattle.sh_alloc.specs.Walks.{want_of as walk_wants}
 use Rattle.sh_read.specs.Reads.{wanted}
 use Rattle.sh_decide.specs.declared.state.Aim.{Aim}
 use Rattle.sh_client.specs.declared.state.Then.{Then}
 use Rattle.sh_client.specs.declared.state.Phase.{Phase}
-use Rattle.sh_client.specs.declared.state.Phase.TheVariants.{Idle, Root, Read, Draw, Look, Grab, Hold, Seek, Fill, Waiting, Body, Unlock, Leave, Top, Raise, Swap, Ended}
+use Rattle.sh_client.specs.declared.state.Phase.TheVariants.{Idle, Read, Look, Hold, Seek, Body, Leave, Top, Ended}
 use Rattle.sh_client.specs.declared.state.Want.{Want}
 use Rattle.sh_client.specs.declared.state.Want.TheVariants as want
 use Rattle.sh_client.specs.Machine.{Machine}
-use Rattle.sh_client.specs.Feeds.{fed_by, turned_by}
 use Rattle.sh_client.specs.Giving.{made_in, makes}
 use Rattle.sh_client.specs.Rests.{is_resting, rests}
 use Rattle.sh_client.specs.Wants.{count_of, load_of, want_in, want_of}
+<<<<<<< HEAD
 use Rattle.sh_client.proofs.KeptLemmas.{fed_keeps, turned_keeps}
 use Rattle.sh_core.specs.Actors.{Actor, becomes, has_ended, turned}
 use Rattle.sh_core.specs.Core.{Inv, Moves, IsLocal, HasSeen}
@@ -33,17 +28,18 @@ use Rattle.sh_core_turns.proofs.Turns.{turn_keeps}
 use Rattle.sh_core.proofs.LocalLaws.{local_keeps, look_keeps, take_keeps, part_keeps}
 use Rattle.sh_core.proofs.Calls.{same_keeps}
 use Rattle.sh_world.specs.declared.state.Given.{Given}
+=======
+use Rattle.sh_core.specs.Actors.{Actor, has_ended}
+use Rattle.sh_core.specs.Core.{Inv}
+>>>>>>> a9eda50a67c29a97d668279fb143011b0ae5fd73
 use Rattle.sh_world.specs.declared.state.Line.{Line}
-use Rattle.sh_world.specs.States.{Place, State, actor_of, line_at, HasActor, IsLeft}
-use Rattle.sh_world.specs.Turning.{calls_after, going, place_after, resting, with_ticket}
-use Rattle.sh_world.specs.Lines.{Stand, Away, Waits, Served, is_some, stand_in, stand_of, IsIn, IsLine, AreLines}
-use Rattle.sh_world.specs.Running.{IsPlace, IsRunning}
-use Rattle.sh_world.proofs.CountLemmas.{made_of_seat}
-use Rattle.sh_world.proofs.LineLemmas.{compute_within, line_apart, line_within}
+use Rattle.sh_world.specs.States.{Place, line_at, IsLeft}
+use Rattle.sh_world.specs.Turning.{going, place_after, resting}
+use Rattle.sh_world.specs.Lines.{Away, stand_in, stand_of, IsIn, IsLine, AreLines}
+use Rattle.sh_world.proofs.LineLemmas.{line_apart}
 use Rattle.sh_world.proofs.MoveLemmas.{set_else, set_here}
 use Rattle.sh_world.proofs.QueueLemmas.{line_still, IsStill}
-use Rattle.sh_world.proofs.StandLemmas.{fed_stands, load_is, count_is, not_elsewhere, Elsewhere, IsEvent}
-use Rattle.sh_world.proofs.RunLemmas.{settled_runs}
+use Rattle.sh_world.proofs.StandLemmas.{load_is, count_is, not_elsewhere, Elsewhere}
 
 some_is : {X : Type 0} {x y : X} → Some x ≡ Some y → x ≡ y
 some_is e = cc

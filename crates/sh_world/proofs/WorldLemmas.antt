@@ -1,12 +1,11 @@
 -- The world's turn as what its parts do.
-use Rattle.std.proofs.Common.{◌≡◌, ◌≢◌, ◌⊎◌, ℕ, zero, suc, ◌+◌, ◌-◌, ◌^◌, ◌<◌, ◌≤◌, inl, inr, Bool, true, false, List, [], ◌∷◌, ◌++◌, length, get_or, set, take, drop, Option, Some, None, refl, sym, ap, ◌∙◌, subst, arith}
+use Rattle.std.proofs.Common.{◌≡◌, ◌≢◌, ℕ, ◌-◌, ◌<◌, ◌≤◌, inl, inr, Bool, true, false, List, [], ◌++◌, length, get_or, set, take, Option, Some, None, refl, sym, ap, ◌∙◌, subst, arith}
 use Rattle.std.specs.Prelude.{◌==◌, if◌then◌else◌, slice_get, IfSome}
 use Rattle.std.proofs.lemmas.Option.{slice_get_within, slice_get_read}
 use Rattle.std.proofs.lemmas.List.{append-nil, length-set, take_at}
 use Rattle.sh_base.specs.declared.config.ConfigParts.{ConfigParts}
 use Rattle.sh_base.specs.declared.event.Event.{Event}
 use Rattle.sh_base.specs.declared.event.Event.TheVariants.{Load, Store, Exchange, Add}
-use Rattle.sh_base.specs.Setting.{all_locks, all_seats, IsSetting}
 use Rattle.sh_base.specs.Layout.{compute_of}
 use Rattle.sh_base.specs.Memory.{apply, found_by}
 use Rattle.sh_map.specs.declared.log.Entry.{Entry}
@@ -20,7 +19,7 @@ use Rattle.sh_core.specs.Actors.{has_ended, point_of}
 use Rattle.sh_world.specs.declared.state.Given.{Given}
 use Rattle.sh_world.specs.declared.state.Line.{Line}
 use Rattle.sh_world.specs.declared.turn.Turn.{Turn}
-use Rattle.sh_world.specs.States.{Place, State, actor_of, answered, line_at, IsBlank}
+use Rattle.sh_world.specs.States.{Place, State, actor_of, answered, line_at}
 use Rattle.sh_world.specs.Turning.{answer_at, answer_in, answer_of, asked, behind, calls_after, drawn, left_line, line_of, looked_client, looked_line, or_free, place_after, took, turn_at, turn_of, with_ticket}
 use Rattle.sh_world.specs.Running.{IsRunning, IsWorld}
 use Rattle.sh_world.specs.Seats.{CanSettle}

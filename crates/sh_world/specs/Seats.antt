@@ -1,10 +1,9 @@
 -- What the parts of a turn need.
-use Rattle.std.specs.Prelude.{◌≡◌, ◌≢◌, ℕ, ◌+◌, ◌-◌, ◌^◌, ◌<◌, ◌≤◌, List, length, slice_get, Some, true, false}
-use Rattle.sh_map.specs.declared.call.Reply.{Reply}
+use Rattle.std.specs.Prelude.{◌≡◌, ℕ, ◌-◌, ◌^◌, ◌<◌, ◌≤◌, List, length, slice_get, Some, true}
 use Rattle.sh_map.specs.declared.log.Entry.{Entry}
 use Rattle.sh_map.specs.Calls.{IsInRange}
 use Rattle.sh_client.specs.declared.state.Want.TheVariants as want
-use Rattle.sh_client.specs.declared.state.Phase.TheVariants.{Idle, Ended}
+use Rattle.sh_client.specs.declared.state.Phase.TheVariants.{Idle}
 use Rattle.sh_client.specs.Machine.{Machine}
 use Rattle.sh_client.specs.Sound.{IsPointCall}
 use Rattle.sh_client.specs.Wants.{want_of}

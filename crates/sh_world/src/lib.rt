@@ -7,6 +7,7 @@
 #![tactic(auto)]
 
 mod laid;
+mod laws;
 mod lines;
 mod node;
 mod points;

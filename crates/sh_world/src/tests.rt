@@ -1,6 +1,6 @@
 // Schedules of several seats, turn by turn.
 use crate::{Given, Turn, World};
-use sh_base::{Config, ConfigParts, Value};
+use sh_base::{Config, ConfigParts, Event, Value};
 use sh_map::{Call, Reply, judge};
 use std::alloc::{AllocError, Global};
 use std::test::Fail;
@@ -92,12 +92,12 @@ fn take(world: &mut World, seat: u32) -> Turn {
 
 // Asks each seat in turn until all are idle, for a million rounds at most. How many turns were made comes back.
 fn finish(world: &mut World) -> u64 {
-    let mut made = 0;
+    let mut made = 0u64;
     for _ in 0..1_000_000 {
         let mut idle = true;
         for seat in 0..world.seats() {
             if take(world, seat) != Turn::Idle {
-                made += 1;
+                made = made.saturating_add(1);
                 idle = false;
             }
         }
@@ -265,6 +265,171 @@ fn schedules_are_answered(rt: HostRuntime) -> Result<(), Fail> {
         assert!(rt; are_told(&world, told), "{name}");
         let book = world.book(alloc)?;
         assert!(rt; judge(alloc, &book.log, &book.dones)?.is_none(), "{name}");
+    }
+    Ok(())
+}
+
+// So many puts of one seat, with keys and values from 1 up.
+fn rising(alloc: Global, count: u64) -> Result<Vec<Asked>, AllocError> {
+    let mut calls = Vec::new(alloc);
+    for k in 0..count {
+        calls.push((0, 'p', k.saturating_add(1), k.saturating_add(1)))?;
+    }
+    Ok(calls)
+}
+
+// The word at an address, or 0 where there is none.
+fn word(world: &World, at: usize) -> u64 {
+    match world.words().get(at) {
+        Some(word) => *word,
+        None => 0,
+    }
+}
+
+// The seat's tally: again, splits, handed, skipped for want of nodes, rewritten.
+fn counted(world: &World, seat: u32) -> (u64, u64, u64, u64, u64) {
+    if seat < world.seats() {
+        let tally = world.tally(seat);
+        (
+            tally.again,
+            tally.splits,
+            tally.handed,
+            tally.skipped_spent,
+            tally.rewritten,
+        )
+    } else {
+        (0, 0, 0, 0, 0)
+    }
+}
+
+#[test]
+fn puts_split_leaves_and_grow_the_tree(rt: HostRuntime) -> Result<(), Fail> {
+    let alloc = rt.alloc();
+    let five = [
+        (0, 'p', 10, 1),
+        (0, 'p', 20, 2),
+        (0, 'p', 30, 3),
+        (0, 'p', 40, 4),
+        (0, 'p', 50, 5),
+    ];
+    let world = run(alloc, small(), &five, &[])?;
+    assert_eq!(rt; counted(&world, 0), (0, 1, 0, 0, 0));
+    assert_eq!(rt; word(&world, 1), 10);
+    // node 10 begins at word 67 + 9 * 23, with its pairs (0, 1) and (30, 9)
+    assert_eq!(rt;
+        [
+            word(&world, 280),
+            word(&world, 281),
+            word(&world, 282),
+            word(&world, 283)
+        ],
+        [0, 1, 30, 9]
+    );
+    let narrow = ConfigParts {
+        chunks: 2,
+        chunk_nodes: 1,
+        ..small()
+    };
+    let world = run(alloc, narrow, &five, &[])?;
+    assert_eq!(rt; (counted(&world, 0), word(&world, 1)), ((0, 1, 0, 1, 0), 1));
+    let full = ConfigParts {
+        chunks: 1,
+        ..small()
+    };
+    let more = [
+        (0, 'p', 10, 1),
+        (0, 'p', 20, 2),
+        (0, 'p', 30, 3),
+        (0, 'p', 40, 4),
+        (0, 'p', 50, 5),
+        (0, 'p', 10, 9),
+    ];
+    let world = run(alloc, full, &more, &[])?;
+    assert!(rt;
+        are_told(
+            &world,
+            &[
+                ('n', 0, 0),
+                ('n', 0, 1),
+                ('n', 0, 2),
+                ('n', 0, 3),
+                ('f', 0, 0),
+                ('s', 1, 4)
+            ]
+        )
+    );
+    assert_eq!(rt; word(&world, 2), 1);
+    let large = ConfigParts {
+        chunks: 64,
+        ..small()
+    };
+    let calls = rising(alloc, 100)?;
+    let world = run(alloc, large, &calls, &[])?;
+    assert_eq!(rt; (world.log().len(), word(&world, 2)), (100, 9));
+    Ok(())
+}
+
+#[test]
+fn locks_are_handed_over_up_to_the_bound(rt: HostRuntime) -> Result<(), Fail> {
+    let alloc = rt.alloc();
+    let cfg = Config::new(ConfigParts {
+        leaf: 8,
+        computes: 2,
+        bound: 1,
+        ..small()
+    })
+    .unwrap_or_default();
+    let mut world = World::blank(alloc);
+    world.lay(alloc, &cfg)?;
+    for seat in 0..6 {
+        let call = (seat, 'p', u64::from(seat) + 10, u64::from(seat) + 1);
+        give(&mut world, seat, &call_of(&call))?;
+    }
+    let mut words = vec![in alloc; word(&world, 3)]?;
+    for _ in 0..320 {
+        for seat in 0..6 {
+            take(&mut world, seat);
+            let now = word(&world, 3);
+            if words.last() != Some(&now) {
+                words.push(now)?;
+            }
+        }
+    }
+    assert_eq!(rt; words.as_slice(), [0, 1, 0, 2, 0, 1, 0, 2, 0].as_slice());
+    assert!(rt;
+        are_told(
+            &world,
+            &[
+                ('n', 0, 0),
+                ('n', 0, 1),
+                ('n', 0, 4),
+                ('n', 0, 2),
+                ('n', 0, 3),
+                ('n', 0, 5)
+            ]
+        )
+    );
+    assert_eq!(rt; (counted(&world, 0).2, counted(&world, 3).2), (1, 1));
+    Ok(())
+}
+
+#[test]
+fn idle_seats_and_blank_worlds(rt: HostRuntime) -> Result<(), Fail> {
+    let alloc = rt.alloc();
+    let mut world = World::blank(alloc);
+    assert_eq!(rt; (world.seats(), world.words().len()), (0, 0));
+    let cfg = Config::new(small()).unwrap_or_default();
+    world.lay(alloc, &cfg)?;
+    assert_eq!(rt; (world.seats(), world.words().len()), (3, 803));
+    assert_eq!(rt; take(&mut world, 0), Turn::Idle);
+    give(&mut world, 0, &Call::Get { key: 5 })?;
+    assert_eq!(rt; take(&mut world, 0), Turn::Event(Event::Load { at: 1 }, 1));
+    for _ in 0..23 {
+        assert!(rt; take(&mut world, 0) != Turn::Idle);
+    }
+    assert_eq!(rt; take(&mut world, 0), Turn::Idle);
+    if 0 < world.seats() {
+        assert!(rt; world.is_idle(0) && world.done_calls(0) == 1);
     }
     Ok(())
 }

@@ -143,9 +143,9 @@ impl World {
         let number = self.calls.len() + 1;
         self.log.reserve(number + 1 - self.log.len())?;
         self.calls.reserve(1)?;
-        let place = &mut self.seats[seat as usize];
-        place.numbers.reserve(1)?;
-        place.numbers.push_reserved(number as u32);
+        let given = &mut self.seats[seat as usize];
+        given.numbers.reserve(1)?;
+        given.numbers.push_reserved(number as u32);
         self.calls.push_reserved(Given {
             seat,
             call,

@@ -1,4 +1,4 @@
-use Rattle.std.proofs.Common.{◌≡◌, ◌≢◌, sym, arith}
+use Rattle.std.proofs.Common.{◌≡◌, ◌≢◌, arith}
 use Rattle.sh_map.specs.Log.{key_of}
 use Rattle.sh_world.proofs.PointLemmas.{ends, finds, other, passes}
 use Rattle.sh_world.proofs.points.least_point.Goals as goal

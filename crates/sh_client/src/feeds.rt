@@ -53,6 +53,7 @@ impl Client {
     }
 
     // The image of a READ without a lock is there.
+    #[inline(never)]
     fn arrive(&mut self, aim: Aim, top: bool)
         requires aim { IsAim self.old.setting aim }
         requires image { accepted self.old.setting self.old.reads ≢ None }
@@ -142,6 +143,7 @@ impl Client {
     }
 
     // The image of a READ under the lock is there.
+    #[inline(never)]
     fn decide(&mut self, aim: Aim, depth: u32)
         requires aim { IsAim self.old.setting aim }
         requires depth { depth ≤ self.old.setting.bound }

@@ -29,6 +29,7 @@ use sh_map::{Call, Reply};
 
 impl Client {
     // Splits the node that was READ under its lock, once there is a fresh node.
+    #[inline(never)]
     pub(crate) fn split(&mut self, aim: Aim, depth: u32)
         requires aim { IsAim self.old.setting aim }
         requires depth { depth ≤ self.old.setting.bound }
@@ -45,6 +46,7 @@ impl Client {
     }
 
     // A counter's word is there, for a split.
+    #[inline(never)]
     pub(crate) fn fed_seek(&mut self, aim: Aim, depth: u32, word: u64)
         requires { Stands self.old (phase.Seek aim depth) }
         ensures { self.new ≡ fed_in self.old word (phase.Seek aim depth) }
@@ -190,6 +192,7 @@ impl Client {
     }
 
     // The root is a level too low for the post.
+    #[inline(never)]
     pub(crate) fn grow(&mut self, aim: Aim)
         requires aim { IsAim self.old.setting aim }
         ensures { self.new ≡ grown self.old aim self.old.reads.node }
@@ -218,6 +221,7 @@ impl Client {
     }
 
     // A counter's word is there, for a new root.
+    #[inline(never)]
     pub(crate) fn fed_top(&mut self, post: Post, root: u32, word: u64)
         requires { Stands self.old (phase.Top post root) }
         ensures { self.new ≡ fed_in self.old word (phase.Top post root) }

@@ -18,10 +18,6 @@ use Rattle.sh_client.specs.Rests.{is_resting}
 use Rattle.sh_core.specs.Actors.{Actor, becomes, done_of, ending, going as actor_going, has_ended, point_of, point_after, AreAnswered, IsAnswered, IsLeast, made_by, updates}
 use Rattle.sh_core.specs.Keeps.{Keeps, pending}
 use Rattle.sh_core.specs.Core.{Inv, Moves}
-<<<<<<< HEAD
-use Rattle.sh_core_books.specs.Rest.{sum_below}
-=======
->>>>>>> a9eda50a67c29a97d668279fb143011b0ae5fd73
 use Rattle.sh_core.proofs.Calls.{rest_keeps}
 use Rattle.sh_world.specs.declared.state.Given.{Given}
 use Rattle.sh_world.specs.declared.state.Line.{Line}

@@ -20,18 +20,8 @@ use Rattle.sh_client.specs.Machine.{Machine}
 use Rattle.sh_client.specs.Giving.{made_in, makes}
 use Rattle.sh_client.specs.Rests.{is_resting, rests}
 use Rattle.sh_client.specs.Wants.{count_of, load_of, want_in, want_of}
-<<<<<<< HEAD
-use Rattle.sh_client.proofs.KeptLemmas.{fed_keeps, turned_keeps}
-use Rattle.sh_core.specs.Actors.{Actor, becomes, has_ended, turned}
-use Rattle.sh_core.specs.Core.{Inv, Moves, IsLocal, HasSeen}
-use Rattle.sh_core_turns.proofs.Turns.{turn_keeps}
-use Rattle.sh_core.proofs.LocalLaws.{local_keeps, look_keeps, take_keeps, part_keeps}
-use Rattle.sh_core.proofs.Calls.{same_keeps}
-use Rattle.sh_world.specs.declared.state.Given.{Given}
-=======
 use Rattle.sh_core.specs.Actors.{Actor, has_ended}
 use Rattle.sh_core.specs.Core.{Inv}
->>>>>>> a9eda50a67c29a97d668279fb143011b0ae5fd73
 use Rattle.sh_world.specs.declared.state.Line.{Line}
 use Rattle.sh_world.specs.States.{Place, line_at, IsLeft}
 use Rattle.sh_world.specs.Turning.{going, place_after, resting}

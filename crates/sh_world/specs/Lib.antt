@@ -1,0 +1,6 @@
+pub mod States
+pub mod Turning
+pub mod Lines
+pub mod Running
+pub mod Seats
+pub mod Laid

@@ -1,0 +1,196 @@
+-- What a turn of a seat makes of a world, and what it answers; and what it is to give a seat a call.
+use Rattle.std.specs.Prelude.{ℕ, ◌+◌, ◌-◌, ◌^◌, ◌%◌, ◌==◌, ◌&&◌, if◌then◌else◌, Bool, true, false, List, [], ◌∷◌, ◌++◌, length, slice_get, slice_set, Option, None, Some}
+use Rattle.sh_base.specs.declared.event.Event.{Event}
+use Rattle.sh_base.specs.Layout.{compute_of}
+use Rattle.sh_base.specs.Memory.{apply, found_by}
+use Rattle.sh_map.specs.declared.call.Call.{Call}
+use Rattle.sh_map.specs.declared.log.Entry.{Entry}
+use Rattle.sh_client.specs.declared.state.Want.{Want}
+use Rattle.sh_client.specs.declared.state.Want.TheVariants as want
+use Rattle.sh_client.specs.declared.state.Phase.TheVariants.{Idle}
+use Rattle.sh_client.specs.declared.state.Tally.{Tally}
+use Rattle.sh_client.specs.Machine.{Machine, no_tally, to}
+use Rattle.sh_client.specs.Feeds.{fed_by, turned_by, begun}
+use Rattle.sh_client.specs.Giving.{makes}
+use Rattle.sh_client.specs.Wants.{want_of}
+use Rattle.sh_core.specs.Actors.{has_ended, point_after, point_of, seen_after}
+use Rattle.sh_world.specs.declared.state.Given.{Given}
+use Rattle.sh_world.specs.declared.state.Line.{Line}
+use Rattle.sh_world.specs.declared.turn.Turn.{Turn}
+use Rattle.sh_world.specs.declared.turn.Turn.TheVariants as turn
+use Rattle.sh_world.specs.States.{Place, State, answered, free_line, line_at}
+
+-- ---- a call begins
+
+-- the seat begins the call of this number, with a log of this length
+abbrev pub started : Place → (number : ℕ) → Call → (seen : ℕ) → Place
+started q number call seen = record q { client = begun q.client call; number = number; seen = seen; first = seen; point = 0 }
+
+abbrev pub starts : List Given → Place → (number seen : ℕ) → Option Given → Place
+starts calls q number seen None = q
+starts calls q number seen (Some g) = started q number g.call seen
+
+abbrev pub starts_next : List Given → Place → (seen : ℕ) → Option ℕ → Place
+starts_next calls q seen None = q
+starts_next calls q seen (Some number) = starts calls q number seen (slice_get calls (number - 1))
+
+-- a seat that is asked begins its next call, where its client wants nothing and a call is left
+abbrev pub asked_in : List Given → Place → (seen : ℕ) → Want → Place
+asked_in calls q seen want.Done = starts_next calls q seen (slice_get q.numbers q.ended)
+asked_in calls q seen (want.Event e) = q
+asked_in calls q seen (want.Draw lock) = q
+asked_in calls q seen (want.Look lock) = q
+asked_in calls q seen (want.Waiting lock) = q
+asked_in calls q seen (want.Leave lock carry) = q
+
+abbrev pub asked : List Given → Place → (seen : ℕ) → Place
+asked calls q seen = asked_in calls q seen (want_of q.client)
+
+-- ---- its client was fed
+
+-- The client has become m, and has made the entries, with this log before. Where its call has ended it is taken away.
+abbrev pub going : Place → List Entry → (more : List Entry) → Machine → Place
+going q log more m = record q { client = m; seen = seen_after more (length log); point = point_after more q.point (length log) }
+
+abbrev pub resting : Place → List Entry → Machine → Place
+resting q log m = record q { client = to m Idle; ended = q.ended + 1; seen = length log; first = length log }
+
+abbrev pub place_after : Place → List Entry → (more : List Entry) → Machine → Place
+place_after q log more m = if has_ended m.phase then resting q log m else going q log more m
+
+-- the calls then: the one that has ended is answered
+abbrev pub calls_after : List Given → Place → List Entry → Machine → List Given
+calls_after calls q log m = if has_ended m.phase then answered calls (q.number - 1) m.reply q.first (point_of log q.first q.point m.call m.reply) else calls
+
+-- the world then
+abbrev pub settled : State → (seat : ℕ) → Place → (more : List Entry) → Machine → State
+settled s seat q more m = record s { log = s.log ++ more; seats = slice_set s.seats seat (place_after q s.log more m); calls = calls_after s.calls q s.log m }
+
+-- ---- the lines
+
+abbrev pub or_free : Option Line → Line
+or_free None = free_line
+or_free (Some line) = line
+
+-- the line of a lock at a seat's compute server
+abbrev pub line_of : State → (seat lock : ℕ) → Line
+line_of s seat lock = or_free (slice_get s.lines (line_at s.setting lock (compute_of s.setting seat)))
+
+abbrev pub with_line : State → (seat lock : ℕ) → Line → State
+with_line s seat lock line = record s { lines = slice_set s.lines (line_at s.setting lock (compute_of s.setting seat)) line }
+
+-- numbers of tickets are words, and after the last word comes 0
+abbrev pub next_ticket : ℕ → ℕ
+next_ticket n = (n + 1) % 2 ^ 64
+
+-- how many tickets were drawn behind this one
+abbrev pub behind : Line → (ticket : ℕ) → ℕ
+behind line ticket = (line.next + 2 ^ 64 - ticket - 1) % 2 ^ 64
+
+-- ---- the turns
+
+-- an event is made on the words, and an update's entry goes into the log with its last store
+abbrev pub made : State → (seat : ℕ) → Place → Event → State
+made s seat q e = settled (record s { words = apply s.words e }) seat q (makes q.client) (fed_by q.client (found_by s.words e))
+
+-- a ticket is drawn
+abbrev pub drawn : Line → Line
+drawn line = record line { next = next_ticket line.next }
+
+abbrev pub with_ticket : Place → (ticket : ℕ) → Place
+with_ticket q ticket = record q { ticket = ticket }
+
+abbrev pub drew : State → (seat lock : ℕ) → Place → Line → State
+drew s seat lock q line = settled (with_line s seat lock (drawn line)) seat (with_ticket q line.next) [] (fed_by q.client line.next)
+
+-- A look: where the seat's ticket is served it takes what was left in the line.
+abbrev pub looked_client : Place → Line → Machine
+looked_client q line = if line.served == q.ticket then turned_by q.client line.left else fed_by q.client line.served
+
+abbrev pub looked_line : Place → Line → Line
+looked_line q line = if line.served == q.ticket then record line { left = None } else line
+
+abbrev pub looked : State → (seat lock : ℕ) → Place → Line → State
+looked s seat lock q line = settled (with_line s seat lock (looked_line q line)) seat q [] (looked_client q line)
+
+-- the count of later tickets
+abbrev pub counted : State → (seat : ℕ) → Place → Line → State
+counted s seat q line = settled s seat q [] (fed_by q.client (behind line q.ticket))
+
+-- the line is left, with a right for the next or without
+abbrev pub left_line : Line → (carry : Option ℕ) → Line
+left_line line carry = record line { served = next_ticket line.served; left = carry }
+
+abbrev pub left : State → (seat lock : ℕ) → Place → Line → (carry : Option ℕ) → State
+left s seat lock q line carry = settled (with_line s seat lock (left_line line carry)) seat q [] (fed_by q.client 0)
+
+-- the turn that the client wants
+abbrev pub took : State → (seat : ℕ) → Place → Want → State
+took s seat q (want.Event e) = made s seat q e
+took s seat q (want.Draw lock) = drew s seat lock q (line_of s seat lock)
+took s seat q (want.Look lock) = looked s seat lock q (line_of s seat lock)
+took s seat q (want.Waiting lock) = counted s seat q (line_of s seat lock)
+took s seat q (want.Leave lock carry) = left s seat lock q (line_of s seat lock) carry
+took s seat q want.Done = record s { seats = slice_set s.seats seat q }
+
+abbrev pub turn_at : State → (seat : ℕ) → Option Place → State
+turn_at s seat None = s
+turn_at s seat (Some q) = let r = asked s.calls q (length s.log) in took s seat r (want_of r.client)
+
+-- The world after a turn of the seat: the one that its client wants. A seat at rest with a call left begins it with this
+-- turn; where none is left nothing changes.
+abbrev pub turn_of : State → (seat : ℕ) → State
+turn_of s seat = turn_at s seat (slice_get s.seats seat)
+
+-- ---- what a turn answers
+
+abbrev pub answer_in : List ℕ → Want → Turn
+answer_in words (want.Event e) = turn.Event e (found_by words e)
+answer_in words (want.Draw lock) = turn.Local
+answer_in words (want.Look lock) = turn.Local
+answer_in words (want.Waiting lock) = turn.Local
+answer_in words (want.Leave lock carry) = turn.Local
+answer_in words want.Done = turn.Idle
+
+abbrev pub answer_at : State → Option Place → Turn
+answer_at s None = turn.Idle
+answer_at s (Some q) = answer_in s.words (want_of (asked s.calls q (length s.log)).client)
+
+-- the event with the word that it found; or that the turn was a call on a line; or that there was nothing to do
+abbrev pub answer_of : State → (seat : ℕ) → Turn
+answer_of s seat = answer_at s (slice_get s.seats seat)
+
+-- the seat has no call under way, and none left
+abbrev pub is_done : Want → Bool
+is_done want.Done = true
+is_done (want.Event e) = false
+is_done (want.Draw lock) = false
+is_done (want.Look lock) = false
+is_done (want.Waiting lock) = false
+is_done (want.Leave lock carry) = false
+
+abbrev pub is_idle : Place → Bool
+is_idle q = is_done (want_of q.client) && (q.ended == length q.numbers)
+
+abbrev pub is_idle_at : Option Place → Bool
+is_idle_at None = true
+is_idle_at (Some q) = is_idle q
+
+-- ---- what a client has counted
+
+abbrev pub tally_at : Option Place → Tally
+tally_at None = no_tally
+tally_at (Some q) = q.client.tally
+
+-- ---- a call is given
+
+abbrev pub queued : Place → (number : ℕ) → Place
+queued q number = record q { numbers = q.numbers ++ number ∷ [] }
+
+abbrev pub give_at : State → (seat : ℕ) → Call → Option Place → State
+give_at s seat call None = s
+give_at s seat call (Some q) = record s { seats = slice_set s.seats seat (queued q (length s.calls + 1)); calls = s.calls ++ record { seat = seat; call = call; reply = None; first = 0; point = 0 } ∷ [] }
+
+-- the world after a seat was given a call: it is the last of all calls, and of the seat's
+abbrev pub give_of : State → (seat : ℕ) → Call → State
+give_of s seat call = give_at s seat call (slice_get s.seats seat)

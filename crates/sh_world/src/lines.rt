@@ -1,0 +1,19 @@
+// The place of a ticket line.
+ghost use Rattle.std.specs.Prelude.{◌≡◌, ◌*◌, ◌<◌};
+ghost use Rattle.sh_base.specs.Parts.{parts_of};
+ghost use Rattle.sh_base.specs.Setting.{all_locks, all_seats};
+ghost use Rattle.sh_base.specs.Layout.{compute_of};
+ghost use Rattle.sh_world.specs.States.{line_at};
+
+use sh_base::Config;
+
+/// The place of the line of a lock at a seat's compute server. Conditions: a lock and a seat of the setting.
+#[tactic(auto, unfolding(crate::specs::States::line_at))]
+pub(crate) fn line_at(cfg: &Config, lock: u32, seat: u32) -> usize
+    requires lock { lock < all_locks (parts_of cfg.now) }
+    requires seat { seat < all_seats (parts_of cfg.now) }
+    ensures at { result ≡ line_at (parts_of cfg.now) lock (compute_of (parts_of cfg.now) seat) }
+    ensures within { result < all_locks (parts_of cfg.now) * (parts_of cfg.now).computes }
+{
+    lock as usize * cfg.parts().computes as usize + cfg.compute_of(seat) as usize
+}

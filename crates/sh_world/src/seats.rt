@@ -1,0 +1,195 @@
+// A seat's turns, each on the parts of the world that it needs.
+ghost use Rattle.std.specs.Prelude.{◌≡◌, ◌+◌, ◌-◌, ◌^◌, ◌<◌, ◌≤◌, ◌++◌, ℕ, [], IfSome, Some, length, slice_get, take, drop, vec_len};
+ghost use Rattle.std.specs.Vec.{vec_capacity};
+ghost use Rattle.sh_base.specs.Memory.{apply, at_of, found_by};
+ghost use Rattle.sh_map.specs.Calls.{IsInRange};
+ghost use Rattle.sh_client.specs.declared.state.Phase.TheVariants.{Idle};
+ghost use Rattle.sh_client.specs.Feeds.{fed_by, turned_by};
+ghost use Rattle.sh_client.specs.Giving.{makes};
+ghost use Rattle.sh_client.specs.Sound.{IsPointCall};
+ghost use Rattle.sh_client.specs.Wants.{want_of};
+ghost use Rattle.sh_world.specs.States.{answered};
+ghost use Rattle.sh_world.specs.Turning.{asked, behind, calls_after, drawn, is_idle, left_line, looked_client, looked_line, place_after, started, starts_next, with_ticket};
+ghost use Rattle.sh_world.specs.Seats.{CanAsk, CanSettle, CanStart};
+
+use crate::points::point_of;
+use crate::{Given, Line, Seat};
+use sh_base::Event;
+use sh_client::Want;
+use sh_map::{Call, Entry, Log, Reply};
+
+// Answers the call at this place.
+fn answer(calls: &mut [Given], place: usize, reply: Reply, first: u32, point: u32)
+    requires { place < length calls.old }
+    ensures { calls.new ≡ answered calls.old place reply first point }
+{
+    let given = &mut calls[place];
+    given.reply = Some(reply);
+    given.first = first;
+    given.point = point;
+}
+
+impl Seat {
+    // The turn that it wants. At rest it begins its next call with it, where one is left.
+    pub(crate) fn ask(&mut self, calls: &[Given], seen: u64) -> Want
+        requires { CanAsk calls.now self.old }
+        ensures seat { self.new ≡ asked calls.now self.old seen }
+        ensures want { result ≡ want_of self.new.client }
+    {
+        match self.client.want() {
+            Want::Done => {
+                self.start_next(calls, seen);
+                self.client.want()
+            }
+            want => want,
+        }
+    }
+
+    // It begins its next call, where one is left.
+    fn start_next(&mut self, calls: &[Given], seen: u64)
+        requires { (number : ℕ) → slice_get self.old.numbers self.old.ended ≡ Some number → CanStart calls.now self.old number }
+        ensures { self.new ≡ starts_next calls.now self.old seen (slice_get self.old.numbers self.old.ended) }
+    {
+        if let Some(number) = self.numbers.get(self.ended as usize) {
+            let number = *number;
+            self.start(number, calls[(number - 1) as usize].call, seen);
+        }
+    }
+
+    // It begins a call.
+    fn start(&mut self, number: u32, call: Call, seen: u64)
+        requires idle { self.old.client.phase ≡ Idle }
+        requires in_range { IsInRange self.old.client.setting call }
+        requires point { IsPointCall call }
+        ensures { self.new ≡ started self.old number call seen }
+    {
+        self.client.begin(call);
+        self.number = number;
+        self.seen = seen;
+        self.first = seen;
+        self.point = 0;
+    }
+
+    // Whether its client has nothing to do and no call is left.
+    pub(crate) fn is_idle(&self) -> bool
+        ensures { result ≡ is_idle self.now }
+    {
+        match self.client.want() {
+            Want::Done => self.ended as usize == self.numbers.len(),
+            _ => false,
+        }
+    }
+
+    // It makes an event. The word that it found comes back.
+    pub(crate) fn make(
+        &mut self,
+        event: Event,
+        words: &mut [u64],
+        log: &mut Log,
+        calls: &mut [Given],
+    ) -> u64
+        requires at { at_of event < length words.old }
+        requires room { vec_len log.old < vec_capacity log.old }
+        requires settles { CanSettle log.old.items calls.old self.old (fed_by self.old.client (found_by words.old event)) }
+        ensures found { result ≡ found_by words.old event }
+        ensures words { words.new ≡ apply words.old event }
+        ensures log { log.new.items ≡ log.old.items ++ makes self.old.client }
+        ensures seat { self.new ≡ place_after self.old log.old.items (makes self.old.client) (fed_by self.old.client (found_by words.old event)) }
+        ensures calls { calls.new ≡ calls_after calls.old self.old log.old.items (fed_by self.old.client (found_by words.old event)) }
+    {
+        let seen = log.len() as u64;
+        let found = event.apply(words);
+        self.client.log_made(log);
+        self.client.fed(found);
+        self.settle(log, seen, calls);
+        found
+    }
+
+    // It draws a ticket of a line.
+    pub(crate) fn draw(&mut self, line: &mut Line, log: &[Entry], calls: &mut [Given])
+        requires settles { CanSettle log.now calls.old self.old (fed_by self.old.client line.old.next) }
+        ensures line { line.new ≡ drawn line.old }
+        ensures seat { self.new ≡ place_after (with_ticket self.old line.old.next) log.now [] (fed_by self.old.client line.old.next) }
+        ensures calls { calls.new ≡ calls_after calls.old self.old log.now (fed_by self.old.client line.old.next) }
+    {
+        self.ticket = line.next;
+        line.next = line.next.wrapping_add(1);
+        self.client.fed(self.ticket);
+        self.settle(log, log.len() as u64, calls);
+    }
+
+    // It looks whether its ticket is served, and then takes what was left.
+    pub(crate) fn look(&mut self, line: &mut Line, log: &[Entry], calls: &mut [Given])
+        requires bound { IfSome line.old.left (λ d. d ≤ self.old.client.setting.bound) }
+        requires settles { CanSettle log.now calls.old self.old (looked_client self.old line.old) }
+        ensures line { line.new ≡ looked_line self.old line.old }
+        ensures seat { self.new ≡ place_after self.old log.now [] (looked_client self.old line.old) }
+        ensures calls { calls.new ≡ calls_after calls.old self.old log.now (looked_client self.old line.old) }
+    {
+        if line.served == self.ticket {
+            self.client.fed_turn(line.left);
+            line.left = None;
+        } else {
+            self.client.fed(line.served);
+        }
+        self.settle(log, log.len() as u64, calls);
+    }
+
+    // It counts the later tickets.
+    pub(crate) fn count(&mut self, line: &Line, log: &[Entry], calls: &mut [Given])
+        requires settles { CanSettle log.now calls.old self.old (fed_by self.old.client (behind line.now self.old.ticket)) }
+        ensures seat { self.new ≡ place_after self.old log.now [] (fed_by self.old.client (behind line.now self.old.ticket)) }
+        ensures calls { calls.new ≡ calls_after calls.old self.old log.now (fed_by self.old.client (behind line.now self.old.ticket)) }
+    {
+        let behind = line.next.wrapping_sub(self.ticket).wrapping_sub(1);
+        self.client.fed(behind);
+        self.settle(log, log.len() as u64, calls);
+    }
+
+    // It leaves a line, with this for the next ticket.
+    pub(crate) fn leave(
+        &mut self,
+        line: &mut Line,
+        carry: Option<u32>,
+        log: &[Entry],
+        calls: &mut [Given],
+    )
+        requires settles { CanSettle log.now calls.old self.old (fed_by self.old.client 0) }
+        ensures line { line.new ≡ left_line line.old carry }
+        ensures seat { self.new ≡ place_after self.old log.now [] (fed_by self.old.client 0) }
+        ensures calls { calls.new ≡ calls_after calls.old self.old log.now (fed_by self.old.client 0) }
+    {
+        line.served = line.served.wrapping_add(1);
+        line.left = carry;
+        self.client.fed(0);
+        self.settle(log, log.len() as u64, calls);
+    }
+
+    // Its client was fed; before, the log was so long. A call that has ended is answered and taken away.
+    fn settle(&mut self, log: &[Entry], seen: u64, calls: &mut [Given])
+        requires seen { seen ≤ length log.now }
+        requires one { length log.now ≤ seen + 1 }
+        requires settles { CanSettle (take seen log.now) calls.old self.old self.old.client }
+        ensures seat { self.new ≡ place_after self.old (take seen log.now) (drop seen log.now) self.old.client }
+        ensures calls { calls.new ≡ calls_after calls.old self.old (take seen log.now) self.old.client }
+    {
+        match self.client.reply() {
+            Some(reply) => {
+                let before = &log[..seen as usize];
+                let place = (self.number - 1) as usize;
+                let point = point_of(before, self.first, self.point, &calls[place].call, &reply);
+                answer(calls, place, reply, self.first as u32, point as u32);
+                self.client.finish();
+                self.ended += 1;
+                self.seen = seen;
+                self.first = seen;
+            }
+            None => {
+                if seen < log.len() as u64 {
+                    self.point = seen;
+                }
+                self.seen = log.len() as u64;
+            }
+        }
+    }
+}

@@ -1,0 +1,179 @@
+// The world: it is laid, its seats are given calls, and take turns.
+ghost use Rattle.std.specs.Prelude.{◌≡◌, ◌+◌, ◌-◌, ◌^◌, ◌<◌, ◌≤◌, OnOk, OnErr, IfOk, length, slice_get};
+ghost use Rattle.sh_base.specs.Parts.{parts_of};
+ghost use Rattle.sh_base.specs.Setting.{all_seats};
+ghost use Rattle.sh_map.specs.Calls.{IsInRange};
+ghost use Rattle.sh_client.specs.Sound.{IsPointCall};
+ghost use Rattle.sh_world.specs.Laid.{AreLaid};
+ghost use Rattle.sh_world.specs.States.{dones_by, dones_of, fresh_state, IsBlank, IsLaid};
+ghost use Rattle.sh_world.specs.Turning.{answer_of, give_of, is_idle_at, tally_at, turn_of};
+
+use crate::laid::{ended_calls, free_lines, fresh_seats, laid_words};
+use crate::lines::line_at;
+use crate::{Given, Turn, World};
+use sh_base::Config;
+use sh_client::{Tally, Want};
+use sh_map::{Book, Call, Entry};
+use std::alloc::{AllocError, Global};
+
+impl World {
+    /// A world where nothing is laid. It takes no memory.
+    pub fn blank(alloc: Global) -> World
+        ensures { IsBlank result }
+    {
+        World {
+            cfg: Config::default(),
+            words: Vec::new(alloc),
+            log: Vec::new(alloc),
+            seats: Vec::new(alloc),
+            calls: Vec::new(alloc),
+            lines: Vec::new(alloc),
+        }
+    }
+
+    /// Whether the seat has no call under way and none left: then a turn of it changes nothing. Conditions: laid, and
+    /// the seat is one of the setting.
+    pub fn is_idle(&self, seat: u32) -> bool
+        requires laid { IsLaid self.now }
+        requires seat { seat < all_seats self.now.setting }
+        ensures { result ≡ is_idle_at (slice_get self.now.seats seat) }
+    {
+        self.seats[seat as usize].is_idle()
+    }
+
+    /// How many calls of the seat have ended. Conditions: laid, and the seat is one of the setting.
+    pub fn done_calls(&self, seat: u32) -> u32
+        requires laid { IsLaid self.now }
+        requires seat { seat < all_seats self.now.setting }
+        ensures { result ≡ length (dones_by seat (dones_of self.now.calls)) }
+    {
+        self.seats[seat as usize].ended
+    }
+
+    /// What the seat's client has counted since the world was laid. Conditions: laid, and the seat is one of the setting.
+    pub fn tally(&self, seat: u32) -> Tally
+        requires laid { IsLaid self.now }
+        requires seat { seat < all_seats self.now.setting }
+        ensures { result ≡ tally_at (slice_get self.now.seats seat) }
+    {
+        self.seats[seat as usize].client.tally()
+    }
+
+    /// The words of its pool.
+    pub fn words(&self) -> &[u64]
+        ensures { result.now ≡ self.now.words }
+    {
+        &self.words
+    }
+
+    /// The puts and deletes that were made, in their order.
+    pub fn log(&self) -> &[Entry]
+        ensures { result.now ≡ self.now.log }
+    {
+        &self.log
+    }
+
+    /// The calls in the order in which they were given, numbered from 1, and how those that have ended were answered.
+    pub fn calls(&self) -> &[Given]
+        ensures { result.now ≡ self.now.calls }
+    {
+        &self.calls
+    }
+
+    /// One turn of the seat: the one that its client wants. An event comes back with the word that it found, a call on a
+    /// ticket line as `Local`. A seat that rests begins its next call with it, and a turn that ends a call leaves the
+    /// seat ready for the next. `Idle` comes exactly where the seat has no call under way and none left; then nothing
+    /// changes. It takes no memory. Conditions: laid, and the seat is one of the setting.
+    pub fn turn(&mut self, seat: u32) -> Turn
+        requires laid { IsLaid self.old }
+        requires seat { seat < all_seats self.old.setting }
+        ensures world { self.new ≡ turn_of self.old seat }
+        ensures answer { result ≡ answer_of self.old seat }
+    {
+        let place = &mut self.seats[seat as usize];
+        match place.ask(&self.calls, self.log.len() as u64) {
+            Want::Event(event) => {
+                let found = place.make(event, &mut self.words, &mut self.log, &mut self.calls);
+                Turn::Event(event, found)
+            }
+            Want::Draw { lock } => {
+                let line = &mut self.lines[line_at(&self.cfg, lock, seat)];
+                place.draw(line, &self.log, &mut self.calls);
+                Turn::Local
+            }
+            Want::Look { lock } => {
+                let line = &mut self.lines[line_at(&self.cfg, lock, seat)];
+                place.look(line, &self.log, &mut self.calls);
+                Turn::Local
+            }
+            Want::Waiting { lock } => {
+                let line = &self.lines[line_at(&self.cfg, lock, seat)];
+                place.count(line, &self.log, &mut self.calls);
+                Turn::Local
+            }
+            Want::Leave { lock, carry } => {
+                let line = &mut self.lines[line_at(&self.cfg, lock, seat)];
+                place.leave(line, carry, &self.log, &mut self.calls);
+                Turn::Local
+            }
+            Want::Done => Turn::Idle,
+        }
+    }
+
+    /// Gives the seat a call: it joins the seat's calls as the last. The places of its log entry and of its answer are
+    /// reserved. After want of memory nothing has changed. Conditions: laid, the seat is one of the setting, the call is
+    /// in range and no range, and fewer than 2^32 - 1 calls were given.
+    pub fn give(&mut self, seat: u32, call: Call) -> Result<(), AllocError>
+        requires laid { IsLaid self.old }
+        requires seat { seat < all_seats self.old.setting }
+        requires in_range { IsInRange self.old.setting call }
+        requires point { IsPointCall call }
+        requires few { length self.old.calls < 2 ^ 32 - 1 }
+        ensures ok { OnOk result (self.new ≡ give_of self.old seat call) }
+        ensures err { OnErr result (self.new ≡ self.old) }
+    {
+        let number = self.calls.len() + 1;
+        self.log.reserve(number - self.log.len())?;
+        self.calls.reserve(1)?;
+        let place = &mut self.seats[seat as usize];
+        place.numbers.reserve(1)?;
+        place.numbers.push_reserved(number as u32);
+        self.calls.push_reserved(Given {
+            seat,
+            call,
+            reply: None,
+            first: 0,
+            point: 0,
+        });
+        Ok(())
+    }
+
+    /// Lays the pool of a setting: node 1 is the root and the empty leaf of all keys, the log is empty, and each seat has
+    /// a client that has no call. After want of memory nothing has changed. Condition: blank.
+    pub fn lay(&mut self, alloc: Global, cfg: &Config) -> Result<(), AllocError>
+        requires { IsBlank self.old }
+        ensures ok { OnOk result (self.new ≡ fresh_state (parts_of cfg.now) self.new.words) }
+        ensures laid { OnOk result (AreLaid (parts_of cfg.now) self.new.words) }
+        ensures err { OnErr result (self.new ≡ self.old) }
+    {
+        let words = laid_words(alloc, cfg)?;
+        let seats = fresh_seats(alloc, cfg)?;
+        let lines = free_lines(alloc, cfg)?;
+        self.cfg = *cfg;
+        self.words = words;
+        self.seats = seats;
+        self.lines = lines;
+        Ok(())
+    }
+
+    /// The log, and the calls that have ended, in the order in which they were given.
+    pub fn book(&self, alloc: Global) -> Result<Book, AllocError>
+        ensures log { IfOk result (λ b. b.log.items ≡ self.now.log) }
+        ensures dones { IfOk result (λ b. b.dones.items ≡ dones_of self.now.calls) }
+    {
+        Ok(Book {
+            log: Vec::from_slice(alloc, &self.log)?,
+            dones: ended_calls(alloc, &self.calls)?,
+        })
+    }
+}

@@ -1,6 +1,6 @@
 -- A world as plain data: its words, its log, its seats with their clients, the calls that were given, and the ticket
 -- lines of its compute servers.
-use Rattle.std.specs.Prelude.{◌≡◌, ◌≢◌, ℕ, zero, suc, ◌+◌, ◌-◌, ◌*◌, ◌<◌, ◌==◌, List, [], ◌∷◌, ◌++◌, length, filter, replicate, slice_get, Option, None, Some}
+use Rattle.std.specs.Prelude.{◌≡◌, ℕ, zero, suc, ◌+◌, ◌-◌, ◌*◌, ◌<◌, ◌==◌, List, [], ◌∷◌, ◌++◌, length, filter, replicate, slice_get, Option, None, Some}
 use Rattle.sh_base.specs.declared.config.ConfigParts.{ConfigParts}
 use Rattle.sh_base.specs.Setting.{all_locks, all_seats}
 use Rattle.sh_map.specs.declared.call.Reply.{Reply}
@@ -111,7 +111,3 @@ pub record IsBlank (s : State) : Type 0 where
   pub seats : s.seats ≡ []
   pub calls : s.calls ≡ []
   pub lines : s.lines ≡ []
-
--- the pool is laid
-abbrev pub IsLaid : State → Type 0
-IsLaid s = s.seats ≢ []

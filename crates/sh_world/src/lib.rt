@@ -18,3 +18,6 @@ pub use sh_client::Tally;
 pub use state::{Given, World};
 pub(crate) use state::{Line, Seat};
 pub use turn::Turn;
+
+#[cfg(test)]
+mod tests;

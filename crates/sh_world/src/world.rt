@@ -1,11 +1,10 @@
 // The world: it is laid, its seats are given calls, and take turns.
 ghost use Rattle.std.specs.Prelude.{◌≡◌, ◌+◌, ◌-◌, ◌^◌, ◌<◌, ◌≤◌, OnOk, OnErr, IfOk, length, slice_get};
 ghost use Rattle.sh_base.specs.Parts.{parts_of};
-ghost use Rattle.sh_base.specs.Setting.{all_seats};
 ghost use Rattle.sh_map.specs.Calls.{IsInRange};
 ghost use Rattle.sh_client.specs.Sound.{IsPointCall};
 ghost use Rattle.sh_world.specs.Laid.{AreLaid};
-ghost use Rattle.sh_world.specs.States.{dones_by, dones_of, fresh_state, IsBlank, IsLaid};
+ghost use Rattle.sh_world.specs.States.{dones_by, dones_of, fresh_state, IsBlank};
 ghost use Rattle.sh_world.specs.Turning.{answer_of, give_of, is_idle_at, tally_at, turn_of};
 
 use crate::laid::{ended_calls, free_lines, fresh_seats, laid_words};
@@ -31,32 +30,43 @@ impl World {
         }
     }
 
-    /// Whether the seat has no call under way and none left: then a turn of it changes nothing. Conditions: laid, and
-    /// the seat is one of the setting.
+    /// Whether the seat has no call under way and none left: then a turn of it changes nothing. Condition: it is
+    /// laid, and the seat is one of its setting.
     pub fn is_idle(&self, seat: u32) -> bool
-        requires laid { IsLaid self.now }
-        requires seat { seat < all_seats self.now.setting }
+        requires { seat < length self.now.seats }
         ensures { result ≡ is_idle_at (slice_get self.now.seats seat) }
     {
         self.seats[seat as usize].is_idle()
     }
 
-    /// How many calls of the seat have ended. Conditions: laid, and the seat is one of the setting.
+    /// How many calls of the seat have ended. Condition: it is laid, and the seat is one of its setting.
     pub fn done_calls(&self, seat: u32) -> u32
-        requires laid { IsLaid self.now }
-        requires seat { seat < all_seats self.now.setting }
+        requires { seat < length self.now.seats }
         ensures { result ≡ length (dones_by seat (dones_of self.now.calls)) }
     {
         self.seats[seat as usize].ended
     }
 
-    /// What the seat's client has counted since the world was laid. Conditions: laid, and the seat is one of the setting.
+    /// What the seat's client has counted since the world was laid. Condition: it is laid, and the seat is one of its setting.
     pub fn tally(&self, seat: u32) -> Tally
-        requires laid { IsLaid self.now }
-        requires seat { seat < all_seats self.now.setting }
+        requires { seat < length self.now.seats }
         ensures { result ≡ tally_at (slice_get self.now.seats seat) }
     {
         self.seats[seat as usize].client.tally()
+    }
+
+    /// The setting that it was laid with; a blank one has the default setting.
+    pub fn setting(&self) -> &Config
+        ensures { parts_of result.now ≡ self.now.setting }
+    {
+        &self.cfg
+    }
+
+    /// How many seats it has: those of its setting, and none while it's blank.
+    pub fn seats(&self) -> u32
+        ensures { result ≡ length self.now.seats }
+    {
+        self.seats.len() as u32
     }
 
     /// The words of its pool.
@@ -83,10 +93,9 @@ impl World {
     /// One turn of the seat: the one that its client wants. An event comes back with the word that it found, a call on a
     /// ticket line as `Local`. A seat that rests begins its next call with it, and a turn that ends a call leaves the
     /// seat ready for the next. `Idle` comes exactly where the seat has no call under way and none left; then nothing
-    /// changes. It takes no memory. Conditions: laid, and the seat is one of the setting.
+    /// changes. It takes no memory. Condition: it is laid, and the seat is one of its setting.
     pub fn turn(&mut self, seat: u32) -> Turn
-        requires laid { IsLaid self.old }
-        requires seat { seat < all_seats self.old.setting }
+        requires { seat < length self.old.seats }
         ensures world { self.new ≡ turn_of self.old seat }
         ensures answer { result ≡ answer_of self.old seat }
     {
@@ -121,11 +130,10 @@ impl World {
     }
 
     /// Gives the seat a call: it joins the seat's calls as the last. The places of its log entry and of its answer are
-    /// reserved. After want of memory nothing has changed. Conditions: laid, the seat is one of the setting, the call is
-    /// in range and no range, and fewer than 2^32 - 1 calls were given.
+    /// reserved. After want of memory nothing has changed. Conditions: it is laid, the seat is one of its setting, the call
+    /// is in range and no range, and fewer than 2^32 - 1 calls were given.
     pub fn give(&mut self, seat: u32, call: Call) -> Result<(), AllocError>
-        requires laid { IsLaid self.old }
-        requires seat { seat < all_seats self.old.setting }
+        requires seat { seat < length self.old.seats }
         requires in_range { IsInRange self.old.setting call }
         requires point { IsPointCall call }
         requires few { length self.old.calls < 2 ^ 32 - 1 }

@@ -90,9 +90,6 @@ module _ (p : ConfigParts) (lawful : IsSetting p) (items sheet : List Item) (lai
   pub given_laid : 0 < length given.seats
   given_laid = omega (arith, ap (λ (s : State). length s.seats) so, given_seats items laid, seats_are, some_seats p lawful)
 
-  pub given_items : All (IsServable given.setting) sheet
-  given_items = subst (λ (q : ConfigParts). All (IsServable q) sheet) (sym setting_is) can
-
   given_all : map item_of given.calls ≡ filter is_call sheet
   given_all = ap (λ (s : State). map item_of s.calls) so ∙ all_given p items laid (subst (All (IsServable p)) (sym same) can) seats_are ∙ ap (λ (s : State). map item_of s.calls ++ filter is_call items) is ∙ ap (filter is_call) same
 
@@ -120,7 +117,7 @@ module _ (p : ConfigParts) (lawful : IsSetting p) (items sheet : List Item) (lai
           laid = laid.words;
           are_laid = are_laid;
           last = last ∙ ap (λ (r : Rounds). r.world) on_course;
-          finish_is = subst (λ (r : Rounds). HasFinished (budget_of (sum_by calls_of sheet)) r finish) on_course (subst (λ n. HasFinished n (finished given sheet budget) finish) budget_same ends);
+          end_is = subst (λ (r : Rounds). HasFinished (budget_of (sum_by calls_of sheet)) r finish) on_course (subst (λ n. HasFinished n (finished given sheet budget) finish) budget_same ends);
           setting = ap (λ (s : State). s.setting) last ∙ (finished_same sheet given budget).1 ∙ setting_is;
           calls = same_items ∙ given_all;
           lawful = sound.lawful;

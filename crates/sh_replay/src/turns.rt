@@ -1,10 +1,8 @@
 // The turns of a replay: those that the sheet's rows name, and then the finishing rounds.
 ghost use Rattle.std.specs.Prelude.{◌≡◌, ◌≢◌, ◌≤◌, ◌<◌, ◌+◌, ℕ, [], All, length, take};
 ghost use Rattle.std.specs.List.{fold, range_with_len};
-ghost use Rattle.sh_base.specs.Setting.{all_seats};
 ghost use Rattle.sh_world.specs.Sound.{AllIdle};
 ghost use Rattle.sh_replay.specs.Course.{ask, finished, have_ended, last_round, turned_by, turns_by, HasFinished};
-ghost use Rattle.sh_replay.specs.Serving.{IsServable};
 ghost use Rattle.sh_replay.specs.Thinning.{Thins};
 
 use crate::Finish;
@@ -18,11 +16,13 @@ struct Left {
     turns: u64,
 }
 
-// The seat takes so many turns. Once it is idle the rest is left out.
+// The seat takes so many turns, where there is one. Once it is idle the rest is left out.
 fn take_turns(world: &mut World, seat: u32, count: u64)
-    requires { seat < length world.old.seats }
     ensures { world.new ≡ turns_by world.old seat count }
 {
+    if seat >= world.seats() {
+        return;
+    }
     for _ in 0..count {
         if let Turn::Idle = world.turn(seat) {
             return;
@@ -32,8 +32,6 @@ fn take_turns(world: &mut World, seat: u32, count: u64)
 
 // The turns of the sheet's rows, in their order.
 fn take_rows(world: &mut World, items: &[Item])
-    requires seats { length world.old.seats ≡ all_seats world.old.setting }
-    requires items { All (IsServable world.old.setting) items.now }
     ensures { world.new ≡ fold turned_by world.old items.now }
 {
     for item in items {
@@ -114,14 +112,12 @@ pub fn have_ended(calls: &[Given]) -> bool
     calls.iter().all(|given| given.reply.is_some())
 }
 
-/// Serves the sheet's calls, which the world was given: first come the turns of its rows, in their order, then rounds of
+/// Serves the calls that the world was given: first come the turns of the sheet's rows, in their order, then rounds of
 /// all seats, rising, in which each seat that isn't idle takes one turn. `Done` comes exactly where every call has ended,
 /// and `Spent` exactly where `budget` turns were made in the rounds and a call hasn't ended. It takes no memory.
-/// Conditions: the world is laid, it was given the sheet's calls, and each row is a get, a put, a delete or turns by a
-/// seat of the world's setting.
+/// A row of turns by a seat that the world hasn't changes nothing. Condition: the world is laid.
 pub fn finish(world: &mut World, sheet: &Sheet, budget: u64) -> Finish
-    requires laid { 0 < length world.old.seats }
-    requires items { All (IsServable world.old.setting) sheet.now.items }
+    requires { 0 < length world.old.seats }
     ensures course { world.new ≡ (finished world.old sheet.now.items budget).world }
     ensures finish { HasFinished budget (finished world.old sheet.now.items budget) result }
 {

@@ -1,5 +1,5 @@
 use Rattle.std.proofs.Common.{length, refl, ap, arith}
-use Rattle.sh_replay.proofs.ServeLemmas.{after_ended, after_laid, given_count, given_items, given_laid, has_served, laid_seats}
+use Rattle.sh_replay.proofs.ServeLemmas.{after_ended, after_laid, given_count, given_laid, has_served, laid_seats}
 use Rattle.sh_replay.proofs.serve.serve.Goals as goal
 
 pub give_all-requires-clause-seats : goal.give_all-requires-clause-seats
@@ -8,11 +8,8 @@ give_all-requires-clause-seats c = laid_seats c.args.cfg.now.parts c.args.cfg.no
 pub budget_of-budget-requires : goal.budget_of-budget-requires
 budget_of-budget-requires c = omega (arith, ap length c.calls.ensures, given_count c.args.cfg.now.parts c.args.cfg.now.lawful c.as_slice.result.now c.args.sheet.now.items c.lay.new.self c.give_all.new.world c.in_ok-lay.ensures.ok c.as_slice.ensures c.in_ok-give_all.ensures c.requires.items, c.requires.few)
 
-pub finish-finish-requires-clause-laid : goal.finish-finish-requires-clause-laid
-finish-finish-requires-clause-laid c = given_laid c.args.cfg.now.parts c.args.cfg.now.lawful c.as_slice.result.now c.args.sheet.now.items c.lay.new.self c.give_all.new.world c.in_ok-lay.ensures.ok c.as_slice.ensures c.in_ok-give_all.ensures c.requires.items
-
-pub finish-finish-requires-clause-items : goal.finish-finish-requires-clause-items
-finish-finish-requires-clause-items c = given_items c.args.cfg.now.parts c.args.cfg.now.lawful c.as_slice.result.now c.args.sheet.now.items c.lay.new.self c.give_all.new.world c.in_ok-lay.ensures.ok c.as_slice.ensures c.in_ok-give_all.ensures c.requires.items
+pub finish-finish-requires : goal.finish-finish-requires
+finish-finish-requires c = given_laid c.args.cfg.now.parts c.args.cfg.now.lawful c.as_slice.result.now c.args.sheet.now.items c.lay.new.self c.give_all.new.world c.in_ok-lay.ensures.ok c.as_slice.ensures c.in_ok-give_all.ensures c.requires.items
 
 pub stands-requires : goal.stands-requires
 stands-requires c = after_laid c.args.cfg.now.parts c.args.cfg.now.lawful c.as_slice.result.now c.args.sheet.now.items c.lay.new.self c.give_all.new.world c.in_ok-lay.ensures.ok c.as_slice.ensures c.in_ok-give_all.ensures c.requires.items

@@ -12,7 +12,7 @@ rounds-requires c =
     omega (arith, ap (λ w. length w.seats) c.take_rows.ensures, turned_seats c.as_slice.result.now c.args.world.now, running.seats, few_seats c.args.world.now.setting running.setting)
 
 pub stands-requires-2 : goal.stands-requires-2
-stands-requires-2 c = omega (arith, ap (λ (r : Rounds). length r.world.seats) c.rounds.ensures.rounds, last_seats c.take_rows.new.world c.args.budget, ap (λ w. length w.seats) c.take_rows.ensures, turned_seats c.as_slice.result.now c.args.world.now, c.requires.laid)
+stands-requires-2 c = omega (arith, ap (λ (r : Rounds). length r.world.seats) c.rounds.ensures.rounds, last_seats c.take_rows.new.world c.args.budget, ap (λ w. length w.seats) c.take_rows.ensures, turned_seats c.as_slice.result.now c.args.world.now, c.requires)
 
 pub returns-else-have_ended-clause-finish : goal.returns-else-have_ended-clause-finish
 returns-else-have_ended-clause-finish c =

@@ -1,13 +1,8 @@
 use Rattle.std.proofs.Common.{length, take, sym, ap, ◌∙◌, arith}
 use Rattle.sh_replay.specs.Course.{turned_by}
-use Rattle.sh_replay.proofs.ItemLemmas.{item_more, no_turns, served_at, turned_seats}
+use Rattle.sh_replay.proofs.ItemLemmas.{item_more, no_turns}
 use Rattle.sh_replay.proofs.turns.take_rows.Goals.{in-Turn, in_default}
 use Rattle.sh_replay.proofs.turns.take_rows.Goals as goal
-
-pub take_turns-requires : goal.take_turns-requires
-take_turns-requires c =
-    let turn = served_at c.args.world.now.setting c.args.items.now c.loop-item.item-index c.item-item.result _ c.requires.items c.loop-item-test.true c.item-item.is c.in-Turn.is in
-    omega (arith, turn, c.requires.seats, ap (λ w. length w.seats) c.loop-item.invariant, turned_seats (take c.loop-item.item-index c.args.items.now) c.args.world.now)
 
 pub loop-item-preserved : goal.loop-item-preserved
 loop-item-preserved c = elim c.match-item.branch [

@@ -1,10 +1,15 @@
 use Rattle.std.proofs.Common.{◌≡◌, ◌+◌, ◌-◌, length, sym, ap, ◌∙◌, arith}
+use Rattle.std.proofs.lemmas.Option.{slice_get_past}
+use Rattle.sh_world.specs.Turning.{is_idle_at}
 use Rattle.sh_replay.specs.Course.{turns_by}
 use Rattle.sh_replay.proofs.TurnLemmas.{turn_idle, turn_seats, turns_idle, turns_more}
 use Rattle.sh_replay.proofs.turns.take_turns.Goals as goal
 
+pub returns-then-seat-seats : goal.returns-then-seat-seats
+returns-then-seat-seats c = sym (turns_idle c.args.world.now c.args.seat c.args.count (ap is_idle_at (slice_get_past c.args.world.now.seats c.args.seat (omega (arith, c.seats.ensures, c.if-seat-seats.true)))))
+
 pub turn-requires : goal.turn-requires
-turn-requires c = omega (arith, c.requires, c.loop.invariant.1)
+turn-requires c = omega (arith, c.seats.ensures, c.if-seat-seats.false, c.loop.invariant.1)
 
 pub returns-in-Idle : goal.returns-in-Idle
 returns-in-Idle c =

@@ -351,3 +351,326 @@ fn a_split_leaves_two_leaves_and_a_root(rt: HostRuntime) -> Result<(), Fail> {
     assert_eq!(rt; unposted_in(alloc, &world)?, Some(0));
     Ok(())
 }
+
+// Rows of puts by one seat, of keys that rise by `step`; put i has the value i.
+fn rising_puts(alloc: Global, seat: u32, count: u64, step: u64) -> Result<String, AllocError> {
+    let mut text = String::new(alloc);
+    for i in 1..count + 1 {
+        let key = i.wrapping_mul(step);
+        write!(text, "put,{seat},{key},{i}\n")?;
+    }
+    Ok(text)
+}
+
+#[test]
+fn the_pool_is_spent_and_a_post_is_skipped(rt: HostRuntime) -> Result<(), Fail> {
+    let alloc = rt.alloc();
+    let spent = [SMALL.as_slice(), &["--map"]].concat(alloc)?;
+    let mut words = spent.to_vec(alloc)?;
+    words.truncate(14);
+    words[3] = "1";
+    let mut input = rising_puts(alloc, 0, 5, 10)?;
+    write!(input, "put,0,10,9\n")?;
+    let ended = replay(alloc, &words, input.as_bytes())?;
+    assert!(rt;
+        is(
+            &ended,
+            Status::Ok,
+            b"1,0,put,10,1,none,,0\n2,0,put,20,2,none,,1\n3,0,put,30,3,none,,2\n4,0,put,40,4,none,,3\n5,0,put,50,5,full,,\n6,0,put,10,9,some,1,4\nend,6,4,18\n",
+            false
+        )
+    );
+    words[3] = "2";
+    words[5] = "1";
+    let mut input = rising_puts(alloc, 0, 5, 10)?;
+    write!(input, "get,0,40,\n")?;
+    let ended = replay(alloc, &words, input.as_bytes())?;
+    assert!(rt;
+        ended
+            .1
+            .as_slice()
+            .ends_with(b"6,0,get,40,,some,4,5\nend,6,5,15\n")
+    );
+    let world = world_of(alloc, &words, input.as_bytes())?;
+    assert_eq!(rt; unposted_in(alloc, &world)?, Some(1));
+    assert_eq!(rt; world.words().get(1), Some(&1));
+    assert!(rt; world.seats() > 0);
+    Ok(())
+}
+
+#[test]
+fn a_leaf_is_worn_at_the_last_version(rt: HostRuntime) -> Result<(), Fail> {
+    let alloc = rt.alloc();
+    let words = [SMALL.as_slice(), &["--bits=4"]].concat(alloc)?;
+    let mut input = String::new(alloc);
+    let mut output = String::new(alloc);
+    for i in 1..257u64 {
+        write!(input, "put,0,5,{i}\n")?;
+        if i == 1 {
+            write!(output, "1,0,put,5,1,none,,0\n")?;
+        } else if i < 256 {
+            let before = i.wrapping_sub(1);
+            write!(output, "{i},0,put,5,{i},some,{before},{before}\n")?;
+        }
+    }
+    write!(input, "get,0,5,\n")?;
+    write!(
+        output,
+        "256,0,put,5,256,worn,15,\n257,0,get,5,,some,255,255\nend,257,1,255\n"
+    )?;
+    let ended = replay(alloc, &words, input.as_bytes())?;
+    assert!(rt; is(&ended, Status::Ok, output.as_bytes(), false));
+    Ok(())
+}
+
+#[test]
+fn a_hundred_rising_keys_grow_the_tree(rt: HostRuntime) -> Result<(), Fail> {
+    let alloc = rt.alloc();
+    let mut words = SMALL.to_vec(alloc)?;
+    words[3] = "64";
+    let input = rising_puts(alloc, 0, 100, 1)?;
+    let ended = replay(alloc, &words, input.as_bytes())?;
+    assert!(rt;
+        ended
+            .1
+            .as_slice()
+            .ends_with(b"100,0,put,100,100,none,,99\nend,100,100,5050\n")
+    );
+    let world = world_of(alloc, &words, input.as_bytes())?;
+    assert_eq!(rt; unposted_in(alloc, &world)?, Some(0));
+    assert_eq!(rt; world.words().get(2), Some(&9));
+    Ok(())
+}
+
+#[test]
+fn six_puts_are_handed_over_by_turns(rt: HostRuntime) -> Result<(), Fail> {
+    let alloc = rt.alloc();
+    let words = [
+        "--servers",
+        "1",
+        "--chunks",
+        "4",
+        "--chunk-nodes",
+        "8",
+        "--leaf",
+        "8",
+        "--computes",
+        "2",
+        "--seats",
+        "3",
+        "--bound",
+        "1",
+        "--cached",
+        "0",
+    ];
+    let ended = replay(
+        alloc,
+        &words,
+        b"put,0,10,1\nput,1,11,2\nput,2,12,3\nput,3,13,4\nput,4,14,5\nput,5,15,6\n",
+    )?;
+    assert!(rt;
+        is(
+            &ended,
+            Status::Ok,
+            b"1,0,put,10,1,none,,0\n2,1,put,11,2,none,,1\n3,2,put,12,3,none,,4\n4,3,put,13,4,none,,2\n5,4,put,14,5,none,,3\n6,5,put,15,6,none,,5\nend,6,6,21\n",
+            false
+        )
+    );
+    for k in 0..46u64 {
+        let mut input = String::new(alloc);
+        write!(
+            input,
+            "put,0,10,1\nput,1,11,2\nput,3,13,3\nturn,0,43,\nturn,1,43,\nturn,0,{k},\nturn,3,1000,\n"
+        )?;
+        let ended = replay(alloc, &words, input.as_bytes())?;
+        assert!(rt;
+            is(
+                &ended,
+                Status::Ok,
+                b"1,0,put,10,1,none,,0\n2,1,put,11,2,none,,1\n3,3,put,13,3,none,,2\nend,3,3,6\n",
+                false
+            )
+        );
+        assert!(rt; is_lawful(alloc, &world_of(alloc, &words, input.as_bytes())?)?);
+    }
+    Ok(())
+}
+
+#[test]
+fn two_puts_meet_at_every_turn(rt: HostRuntime) -> Result<(), Fail> {
+    let alloc = rt.alloc();
+    for k in 0..58u64 {
+        let mut input = String::new(alloc);
+        write!(input, "put,0,5,50\nput,1,5,51\nturn,0,{k},\nturn,1,1000,\n")?;
+        let output = if k < 25 {
+            b"1,0,put,5,50,some,51,1\n2,1,put,5,51,none,,0\nend,2,1,50\n"
+        } else {
+            b"1,0,put,5,50,none,,0\n2,1,put,5,51,some,50,1\nend,2,1,51\n"
+        };
+        let ended = replay(alloc, &SMALL, input.as_bytes())?;
+        assert!(rt; is(&ended, Status::Ok, output.as_slice(), false), "{k}");
+        assert!(rt; is_lawful(alloc, &world_of(alloc, &SMALL, input.as_bytes())?)?);
+    }
+    Ok(())
+}
+
+#[test]
+fn a_get_meets_a_split_at_every_turn(rt: HostRuntime) -> Result<(), Fail> {
+    let alloc = rt.alloc();
+    for k in 0..150u64 {
+        let mut rest = String::new(alloc);
+        write!(
+            rest,
+            "put,0,50,5\nget,1,40,\nturn,2,1000,\nturn,0,{k},\nturn,1,1000,\n"
+        )?;
+        let point = if k < 99 { 4u64 } else { 5 };
+        let mut more = String::new(alloc);
+        write!(
+            more,
+            "5,0,put,50,5,none,,4\n6,1,get,40,,some,4,{point}\nend,6,5,15\n"
+        )?;
+        assert!(rt;
+            answers(
+                alloc,
+                &SMALL,
+                FOUR,
+                rest.as_str(),
+                FOUR_LINES,
+                more.as_str()
+            )?,
+            "{k}"
+        );
+    }
+    Ok(())
+}
+
+#[test]
+fn turns_of_an_idle_seat_are_left_out(rt: HostRuntime) -> Result<(), Fail> {
+    let alloc = rt.alloc();
+    let ended = replay(alloc, &[], b"turn,0,50000000,\n")?;
+    assert!(rt; is(&ended, Status::Ok, b"end,0,0,0\n", false));
+    let ended = replay(alloc, &[], b"put,0,5,50\nturn,0,49999999,\nturn,7,1,\n")?;
+    assert!(rt;
+        is(
+            &ended,
+            Status::Ok,
+            b"1,0,put,5,50,none,,0\nend,1,1,50\n",
+            false
+        )
+    );
+    let ended = replay(alloc, &[], b"turn,0,50000000,\nturn,1,1,\n")?;
+    assert!(rt; is(&ended, Status::TooMany, b"", true));
+    Ok(())
+}
+
+// How the rounds end that make so many turns, over one put and over the small setting, and what is then written.
+fn ends_with(alloc: Global, budget: u64) -> Result<Option<(Finish, Vec<u8>)>, AllocError> {
+    let parts = ConfigParts {
+        servers: 1,
+        chunks: 4,
+        chunk_nodes: 8,
+        leaf: 4,
+        computes: 1,
+        seats: 3,
+        cached: 0,
+        ..ConfigParts::default()
+    };
+    let Ok(cfg) = Config::new(parts) else {
+        return Ok(None);
+    };
+    let Ok(sheet) = read_sheet(alloc, b"put,0,5,50\n", Mode::Replay, &cfg) else {
+        return Ok(None);
+    };
+    let value = sh_base::Value::of(&[50]);
+    let call = sh_map::Call::Put { key: 5, value };
+    let mut world = World::blank(alloc);
+    world.lay(alloc, &cfg)?;
+    if world.seats() == 0 || world.calls().len() > 9 || !call.in_range(world.setting()) {
+        return Ok(None);
+    }
+    world.give(0, sh_map::Call::Put { key: 5, value })?;
+    if world.seats() == 0 {
+        return Ok(None);
+    }
+    let end = finish(&mut world, &sheet, budget);
+    let mut sink = ListSink::new(alloc, 1024, 64, Vec::new(alloc))?;
+    if world.calls().len() > 9
+        || output::write_lines(alloc, &mut sink, false, world.calls(), &[]).is_err()
+    {
+        return Ok(None);
+    }
+    Ok(Some((end, sink.bytes().to_vec(alloc)?)))
+}
+
+fn is_end(found: &Option<(Finish, Vec<u8>)>, end: &Finish, lines: &[u8]) -> bool {
+    match found {
+        Some(found) => found.0 == *end && found.1.as_slice() == lines,
+        None => false,
+    }
+}
+
+#[test]
+fn rounds_end_where_every_call_has_ended_or_the_turns_are_spent(
+    rt: HostRuntime,
+) -> Result<(), Fail> {
+    let alloc = rt.alloc();
+    for (budget, end, lines) in [
+        (
+            0,
+            Finish::Spent(0),
+            b"1,0,put,5,50,pending,,\nunfinished,1,0\n".as_slice(),
+        ),
+        (
+            10,
+            Finish::Spent(10),
+            b"1,0,put,5,50,pending,,\nunfinished,1,0\n",
+        ),
+        (
+            56,
+            Finish::Spent(56),
+            b"1,0,put,5,50,pending,,\nunfinished,1,0\n",
+        ),
+        (57, Finish::Done(57), b"1,0,put,5,50,none,,0\nend,1,0,0\n"),
+        (1000, Finish::Done(57), b"1,0,put,5,50,none,,0\nend,1,0,0\n"),
+    ] {
+        let found = ends_with(alloc, budget)?;
+        assert!(rt; is_end(&found, &end, lines), "{budget}");
+    }
+    Ok(())
+}
+
+// The number behind this one, of a generator by multiplication.
+fn next_number(x: u64) -> u64 {
+    x.wrapping_mul(6_364_136_223_846_793_005)
+        .wrapping_add(1_442_695_040_888_963_407)
+}
+
+#[test]
+fn random_schedules_are_lawful(rt: HostRuntime) -> Result<(), Fail> {
+    let alloc = rt.alloc();
+    let mut x = 7u64;
+    for schedule in 0..48u64 {
+        let mut input = String::new(alloc);
+        for i in 0..60u64 {
+            x = next_number(x);
+            let (op, seat, key) = (x >> 61, (x >> 50) % 3, (x >> 33) % 12 + 1);
+            if op < 4 {
+                write!(input, "put,{seat},{key},{i}\n")?;
+            } else if op < 6 {
+                write!(input, "get,{seat},{key},\n")?;
+            } else {
+                write!(input, "del,{seat},{key},\n")?;
+            }
+            let turns = (x >> 20) % 90;
+            let other = (x >> 10) % 3;
+            write!(input, "turn,{other},{turns},\n")?;
+        }
+        let ended = replay(alloc, &SMALL, input.as_bytes())?;
+        assert_eq!(rt; ended.0, Status::Ok, "{schedule}");
+        assert!(rt;
+            is_lawful(alloc, &world_of(alloc, &SMALL, input.as_bytes())?)?,
+            "{schedule}"
+        );
+    }
+    Ok(())
+}

@@ -3,3 +3,4 @@ pub mod ReadLemmas
 pub mod GiveLemmas
 pub mod KeptLemmas
 pub mod BackLemmas
+pub mod WithinLemmas

@@ -1,7 +1,9 @@
 -- The turn that a client wants, by what it is at.
-use Rattle.std.specs.Prelude.{ℕ, ◌+◌, Option, Some, None, slice_index}
+use Rattle.std.specs.Prelude.{ℕ, ◌+◌, ◌<◌, Option, Some, None, slice_index}
 use Rattle.sh_base.specs.declared.config.ConfigParts.{ConfigParts}
 use Rattle.sh_base.specs.declared.event.Event.TheVariants.{Load, Store, Exchange}
+use Rattle.sh_base.specs.Memory.{at_of}
+use Rattle.sh_base.specs.Setting.{all_locks, pool_words}
 use Rattle.sh_base.specs.Layout.{root_word, node_word, lock_of, lock_word, entry_at}
 use Rattle.sh_alloc.specs.declared.state.ChunkWant.{ChunkWant}
 use Rattle.sh_alloc.specs.declared.state.ChunkWant.TheVariants as chunk
@@ -61,3 +63,12 @@ want_in m Ended = want.Done
 
 abbrev pub want_of : Machine → Want
 want_of m = want_in m m.phase
+
+-- an event on a word of the pool, or a lock of the setting
+abbrev pub IsWithin : ConfigParts → Want → Type 0
+IsWithin p (want.Event e) = at_of e < pool_words p
+IsWithin p (want.Draw lock) = lock < all_locks p
+IsWithin p (want.Look lock) = lock < all_locks p
+IsWithin p (want.Waiting lock) = lock < all_locks p
+IsWithin p (want.Leave lock carry) = lock < all_locks p
+IsWithin p want.Done = Unit {0}

@@ -163,7 +163,8 @@ impl Client {
     /// its left half, and nothing at any other. Condition: there is room for one entry more.
     pub fn log_made(&self, log: &mut Log)
         requires { vec_len log.old < vec_capacity log.old }
-        ensures { log.new.items ≡ log.old.items ++ makes self.now }
+        ensures items { log.new.items ≡ log.old.items ++ makes self.now }
+        ensures room { vec_capacity log.new ≡ vec_capacity log.old }
     {
         match self.phase {
             Phase::Body { done, write, .. } => self.log_stored(log, done, write),
@@ -190,7 +191,8 @@ impl Client {
     fn log_stored(&self, log: &mut Log, done: u32, write: Write)
         requires room { vec_len log.old < vec_capacity log.old }
         requires done { done < length self.now.body }
-        ensures { log.new.items ≡ log.old.items ++ stored_entries self.now done write }
+        ensures items { log.new.items ≡ log.old.items ++ stored_entries self.now done write }
+        ensures room { vec_capacity log.new ≡ vec_capacity log.old }
     {
         let count = self.body.count();
         if done + 1 != count {

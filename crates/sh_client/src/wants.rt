@@ -3,13 +3,13 @@ ghost use Rattle.std.specs.Prelude.{◌≡◌, ◌+◌, ◌<◌, ◌≤◌, leng
 ghost use Rattle.sh_alloc.specs.Walks.{want_of as walk_wants};
 ghost use Rattle.sh_base.specs.Parts.{parts_of};
 ghost use Rattle.sh_base.specs.Layout.{lock_of, node_word};
-ghost use Rattle.sh_base.specs.Setting.{node_size, IsNode};
+ghost use Rattle.sh_base.specs.Setting.{node_size, pool_words, IsNode};
 ghost use Rattle.sh_lock.specs.Locks.{grab_of};
 ghost use Rattle.sh_read.specs.Reads.{wanted};
 ghost use Rattle.sh_client.specs.declared.state.Want.TheVariants as want;
 ghost use Rattle.sh_base.specs.declared.event.Event.TheVariants.{Store};
 ghost use Rattle.sh_client.specs.Sound.{IsFilled};
-ghost use Rattle.sh_client.specs.Wants.{count_of, load_of, lock_word_of, offset_of, want_of};
+ghost use Rattle.sh_client.specs.Wants.{count_of, load_of, lock_word_of, offset_of, want_of, IsWithin};
 
 use crate::{Client, Phase, Want, Write};
 use sh_alloc::ChunkWant;
@@ -17,9 +17,11 @@ use sh_base::{Config, Event};
 use sh_lock::Grab;
 
 impl Client {
-    /// The turn that it wants. `Done` exactly where it has no call, or its call has ended.
+    /// The turn that it wants: an event on a word of the pool, or a call on the line of a lock of the setting. `Done`
+    /// exactly where it has no call, or its call has ended.
     pub fn want(&self) -> Want
-        ensures { result ≡ want_of self.now }
+        ensures here { result ≡ want_of self.now }
+        ensures within { IsWithin self.now.setting result }
     {
         match self.phase {
             Phase::Idle | Phase::Ended => Want::Done,
@@ -59,7 +61,8 @@ impl Client {
 
     // The READ's next word.
     fn want_load(&self) -> Want
-        ensures { result ≡ load_of (wanted self.now.setting self.now.reads) }
+        ensures here { result ≡ load_of (wanted self.now.setting self.now.reads) }
+        ensures within { IsWithin self.now.setting result }
     {
         match self.reading.want() {
             Some(at) => Want::Event(Event::Load { at }),
@@ -69,7 +72,8 @@ impl Client {
 
     // The walk's next event.
     fn want_count(&self) -> Want
-        ensures { result ≡ count_of (walk_wants self.now.setting self.now.walk) }
+        ensures here { result ≡ count_of (walk_wants self.now.setting self.now.walk) }
+        ensures within { IsWithin self.now.setting result }
     {
         match self.chunks.want() {
             ChunkWant::Event(event) => Want::Event(event),
@@ -81,7 +85,8 @@ impl Client {
     // The exchange of a lock word.
     fn want_grab(&self, node: u32) -> Want
         requires { IsNode self.now.setting node }
-        ensures { result ≡ want.Event (grab_of self.now.setting (lock_of self.now.setting node) self.now.seat) }
+        ensures here { result ≡ want.Event (grab_of self.now.setting (lock_of self.now.setting node) self.now.seat) }
+        ensures within { IsWithin self.now.setting result }
     {
         let lock = self.cfg.lock_of(node);
         Want::Event(Grab::new(&self.cfg, lock, self.seat).event())
@@ -92,7 +97,8 @@ impl Client {
         requires node { IsNode self.now.setting fresh }
         requires done { done < length self.now.right }
         requires size { length self.now.right ≡ node_size self.now.setting }
-        ensures { result ≡ want.Event (Store (node_word self.now.setting fresh + done) (slice_index self.now.right done)) }
+        ensures here { result ≡ want.Event (Store (node_word self.now.setting fresh + done) (slice_index self.now.right done)) }
+        ensures within { IsWithin self.now.setting result }
     {
         let word = self.right.word(done);
         let at = address(&self.cfg, fresh, done);
@@ -105,7 +111,8 @@ impl Client {
         requires node { IsNode self.now.setting node }
         requires filled { IsFilled self.now.setting write self.now.body }
         requires done { done < length self.now.body }
-        ensures { result ≡ want.Event (Store (node_word self.now.setting node + (offset_of self.now.setting write + done)) (slice_index self.now.body done)) }
+        ensures here { result ≡ want.Event (Store (node_word self.now.setting node + (offset_of self.now.setting write + done)) (slice_index self.now.body done)) }
+        ensures within { IsWithin self.now.setting result }
     {
         let word = self.body.word(done);
         let at = address(&self.cfg, node, self.offset(write) + done);
@@ -132,7 +139,8 @@ impl Client {
     // The store of 0 to a lock word.
     fn want_unlock(&self, node: u32) -> Want
         requires { IsNode self.now.setting node }
-        ensures { result ≡ want.Event (Store (lock_word_of self.now.setting node) 0) }
+        ensures here { result ≡ want.Event (Store (lock_word_of self.now.setting node) 0) }
+        ensures within { IsWithin self.now.setting result }
     {
         let lock = self.cfg.lock_of(node);
         Want::Event(Event::Store {
@@ -143,10 +151,12 @@ impl Client {
 }
 
 // The address of a node's word.
+#[tactic(auto, using(sh_base::proofs::LayoutLemmas::node_word_high))]
 fn address(cfg: &Config, node: u32, offset: u32) -> u32
     requires node { IsNode (parts_of cfg.now) node }
     requires offset { offset < node_size (parts_of cfg.now) }
-    ensures { result ≡ node_word (parts_of cfg.now) node + offset }
+    ensures here { result ≡ node_word (parts_of cfg.now) node + offset }
+    ensures within { result < pool_words (parts_of cfg.now) }
 {
     cfg.node_word(node) + offset
 }

@@ -32,18 +32,18 @@ use Rattle.sh_decide.specs.Aims.{post_of}
 use Rattle.sh_client.specs.declared.state.Then.{Then}
 use Rattle.sh_client.specs.declared.state.Then.TheVariants.{Ends}
 use Rattle.sh_client.specs.declared.state.Write.{Write}
-use Rattle.sh_client.specs.declared.state.Write.TheVariants.{Nothing, Entry, Leaf as WholeLeaf, LeftLeaf}
+use Rattle.sh_client.specs.declared.state.Write.TheVariants.{Entry, Leaf as WholeLeaf, LeftLeaf}
 use Rattle.sh_client.specs.declared.state.Phase.{Phase}
 use Rattle.sh_client.specs.declared.state.Phase.TheVariants.{Body, Unlock, Leave}
 use Rattle.sh_client.specs.Machine.{Machine, up}
-use Rattle.sh_client.specs.Giving.{released}
-use Rattle.sh_core.specs.Actors.{Actor, becomes, going, AreAnswered, made_by, updates}
-use Rattle.sh_core.specs.Fits.{HasEntry, Fits, Follows, IsHolding, Carries, storing_hold, write_of}
+use Rattle.sh_core.specs.Actors.{Actor, AreAnswered, made_by, updates}
+use Rattle.sh_core.specs.Fits.{Fits, Follows, IsHolding, Carries, storing_hold, write_of}
 use Rattle.sh_core.specs.Keeps.{holding, pending, pending_then, Hands, Waits, Skips, IsAtWork, Keeps}
 use Rattle.sh_core.specs.Core.{Inv, Moves}
 use Rattle.sh_core.proofs.Logs.{made_by-append, made_by_here, answered_longer}
 use Rattle.sh_core.proofs.Frame.{me, at, with, skips_on, IsCalm, Before, moves_to}
-use Rattle.sh_core.proofs.Roots.{decided_entry}
+use Rattle.sh_core.proofs.Causes.{causes_on}
+use Rattle.sh_core.proofs.Roots.{pending_skipped, posted_skipped, decided_entry}
 
 -- the lock is given back next
 abbrev pub rel : ℕ → Option ℕ → Then → Phase
@@ -66,11 +66,6 @@ pub rel_fits : (p : ConfigParts) (t : Scene) (i f q e : ℕ) (m : Machine) (duty
 rel_fits p t i f q e m duty n None after h w = (h, w)
 rel_fits p t i f q e m duty n (Some d) after h w = (h, w)
 
-pub rel_becomes : (i : ℕ) (a : Actor) (log more : List LogEntry) (p : ConfigParts) (m : Machine) (tally : Tally) (n : ℕ) (carry : Option ℕ) (after : Then)
-    → becomes i a log more (released (with p i m tally m.reads m.walk m.body m.right (Body n carry 0 Nothing after)) n carry after) ≡ going a log more (with p i m tally m.reads m.walk m.body m.right (rel n carry after))
-rel_becomes i a log more p m tally n None after = refl
-rel_becomes i a log more p m tally n (Some d) after = refl
-
 -- at a body's last store but one a WRITE is under way
 pub storing_at : (i d n : ℕ) (write : Write) (body : List ℕ) (done k : ℕ) → done ≡ k → 0 < k → storing_hold i d n write body done ≡ Writes i d n (write_of write body k)
 storing_at i d n write body zero k e lt = absurd (omega (arith, e, lt))
@@ -79,12 +74,6 @@ storing_at i d n write body (suc done) k e lt = ap (λ (z : ℕ). Writes i d n (
 -- the entry that came last
 pub at_last : (log : List LogEntry) (e : LogEntry) → slice_get (log ++ e ∷ []) (length log) ≡ Some e
 at_last log e = slice_get-get_or (log ++ e ∷ []) (length log) e (omega (arith, length-append log (e ∷ []))) ∙ ap Some (get_or-append_seam log e [] e)
-
-posted_skipped : (i : ℕ) → Posted ≡ Skipped i → ⊥
-posted_skipped i e = cc
-
-pending_skipped : (i : ℕ) → Pending i ≡ Skipped i → ⊥
-pending_skipped i e = cc
 
 -- a node that wasn't skipped is to be posted
 pub skips_pending : (s t : Scene) (i count r : ℕ) → ((n : ℕ) → t.post n ≡ put s.post r (Pending i) n) → (s.post r ≡ Skipped i → ⊥) → Skips s i count → Skips t i count
@@ -116,13 +105,10 @@ module _ (p : ConfigParts) (ok : IsSetting p) (words : List ℕ) (Has Now : ℕ 
         seen = omega (arith, more);
         first = omega (arith, k.first, k.seen);
         answered = subst (λ (es : List LogEntry). AreAnswered es i a.dones) (sym log) (answered_longer i a.dones s.log (entry ∷ []) k.answered);
+        causes = causes_on p s.counter t.counter (λ server lt. omega (arith, count server)) s.log (entry ∷ []) t.log log i a.dones k.answered k.causes;
         ordered = k.ordered;
         mine = ap (made_by i) log ∙ made_by-append i s.log (entry ∷ []) ∙ ap (λ (es : List LogEntry). made_by i s.log ++ es) (made_by_here i entry by) ∙ ap (λ (es : List LogEntry). es ++ entry ∷ []) (k.mine ∙ ap (λ (es : List LogEntry). updates a.dones ++ es) was ∙ append-nil (updates a.dones)) ∙ ap (λ (es : List LogEntry). updates a.dones ++ es) (sym is);
       } count calm mv)
-
-  -- what its entry is then
-  pub has_entry : (t : Scene) (entry : LogEntry) (k : Keeps p s i a) → t.log ≡ s.log ++ entry ∷ [] → entries_by i m.call m.reply ≡ entry ∷ [] → HasEntry t.log i a.first N (N + 1) m.call m.reply
-  has_entry t entry k log is = record { entry = entry; is = is; stands = subst (λ (es : List LogEntry). slice_get es N ≡ Some entry) (sym log) (at_last s.log entry); from = omega (arith, k.first, k.seen); below = omega arith }
 
   pub keeps_hands : (t : Scene) (l : ℕ) (x : Hold) → t.hold ≡ put s.hold l x → Hands s i (Some l) → Hands t i (Some l)
   keeps_hands t l x e h k ne o = h k ne (subst (λ (z : Hold). Owns z (Seat i)) (ap (λ (f : ℕ → Hold). f k) e ∙ put_else s.hold l x k ne) o)
@@ -138,7 +124,7 @@ module _ (p : ConfigParts) (ok : IsSetting p) (words : List ℕ) (Has Now : ℕ 
         seated = k.work.seated;
         duty = None;
         fits = rel_fits p t i a.first N (N + 1) q None n carry Ends record { real = real; depth = depth; held = put_here s.hold (lock_of p n) (Held (Seat i) depth); carries = carries }
-            (refl, decided_entry p t.log i a.first N (N + 1) m.call m.reply record { entry = entry; is = made; stands = at_last s.log entry; from = omega (arith, k.first, k.seen); below = omega arith });
+            (refl, decided_entry p t i a.first N (N + 1) m.call m.reply record { entry = entry; is = made; stands = at_last s.log entry; from = omega (arith, k.first, k.seen); below = omega arith });
         owes = tt;
         hands = subst (Hands t i) (sym (rel_holding p q n carry Ends)) (keeps_hands t (lock_of p n) (Held (Seat i) depth) refl k.work.hands);
         waits = subst (Waits s i) none k.work.waits;

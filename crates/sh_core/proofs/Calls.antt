@@ -1,5 +1,5 @@
 -- A call begins, or is taken away when it has ended; and what there is where all clients rest.
-use Rattle.std.proofs.Common.{◌≡◌, ◌≢◌, ℕ, true, List, [], ◌++◌, length, Option, None, refl, sym, ap, ◌∙◌, subst, arith}
+use Rattle.std.proofs.Common.{◌≡◌, ◌≢◌, ℕ, false, true, List, [], ◌++◌, length, Option, None, refl, sym, ap, ◌∙◌, subst, arith}
 use Rattle.sh_base.specs.declared.config.ConfigParts.{ConfigParts}
 use Rattle.sh_base.specs.Setting.{IsSetting}
 use Rattle.sh_map.specs.declared.log.Entry.{Entry as LogEntry}
@@ -7,40 +7,29 @@ use Rattle.sh_scene.specs.Scene.{Pending, Seat, Right, Hold, Nobody, Held, Write
 use Rattle.sh_scene.proofs.Joins.{nothing_done}
 use Rattle.sh_decide.specs.declared.state.Post.{Post}
 use Rattle.sh_client.specs.declared.state.Phase.{Phase}
-use Rattle.sh_client.specs.declared.state.Phase.TheVariants.{Idle, Root, Read, Draw, Look, Grab, Hold as Holds, Seek, Fill, Waiting, Body, Unlock, Leave, Top, Raise, Swap, Ended}
+use Rattle.sh_client.specs.declared.state.Phase.TheVariants.{Idle, Ended}
 use Rattle.sh_client.specs.Machine.{Machine}
-use Rattle.sh_client.specs.Rests.{rests}
+use Rattle.sh_client.specs.Rests.{is_resting, rests}
 use Rattle.sh_core.specs.Actors.{Actor, begun, rested, updates}
 use Rattle.sh_core.specs.Fits.{Fits}
 use Rattle.sh_core.specs.Keeps.{holding, Hands, Waits, pending}
-use Rattle.sh_core.specs.Core.{Inv, BeginKeeps, RestKeeps, SameKeeps, AtRest, SomeAdds}
+use Rattle.sh_core.specs.Core.{AllRest, Inv, BeginKeeps, RestKeeps, SameKeeps, SomeAdds}
 use Rattle.sh_core.proofs.Logs.{in_order_later}
 use Rattle.sh_core.proofs.Others.{bounded_less}
 use Rattle.sh_core.proofs.Frame.{Before, moves_to}
 
 -- the parts of the invariant
 pub before : (p : ConfigParts) (words : List ℕ) (log : List LogEntry) (Has : ℕ → Actor → Type 0) (Out : ℕ → ℕ → ℕ → Type 0) (inv : Inv p words log Has Out) → Before p words Has Out inv.scene
-before p words log Has Out inv = record { ground = inv.ground; bounded = inv.bounded; kept = inv.kept; held = inv.held; pends = inv.pends; skips = inv.skips; given = inv.given; out = inv.out }
+before p words log Has Out inv = record { ground = inv.ground; bounded = inv.bounded; kept = inv.kept; held = inv.held; pends = inv.pends; skips = inv.skips; makes = inv.makes; given = inv.given; out = inv.out }
 
 -- a client at rest has nothing to post, holds no lock, and has no entry of a call under way
 pub nothing : (p : ConfigParts) (s : Scene) (i f q e : ℕ) (m : Machine) (duty : Option Post) (ph : Phase) → rests ph ≡ true → Fits p s i f q e m duty ph → (duty ≡ None) × (holding p m ph ≡ None) × (pending i m ph ≡ [])
 nothing p s i f q e m duty Idle r h = (h, refl, refl)
 nothing p s i f q e m duty Ended r h = (h, refl, refl)
-nothing p s i f q e m duty (Root aim) r h = cc
-nothing p s i f q e m duty (Read aim top) r h = cc
-nothing p s i f q e m duty (Draw aim n) r h = cc
-nothing p s i f q e m duty (Look aim n) r h = cc
-nothing p s i f q e m duty (Grab aim n) r h = cc
-nothing p s i f q e m duty (Holds aim d) r h = cc
-nothing p s i f q e m duty (Seek aim d) r h = cc
-nothing p s i f q e m duty (Fill n d fresh done write after) r h = cc
-nothing p s i f q e m duty (Waiting n d write after) r h = cc
-nothing p s i f q e m duty (Body n carry done write after) r h = cc
-nothing p s i f q e m duty (Unlock n after) r h = cc
-nothing p s i f q e m duty (Leave n carry after) r h = cc
-nothing p s i f q e m duty (Top post root) r h = cc
-nothing p s i f q e m duty (Raise post root fresh done) r h = cc
-nothing p s i f q e m duty (Swap post root fresh) r h = cc
+nothing p s i f q e m duty ph r h = absurd (busy r)
+  where
+    busy : false ≡ true → ⊥
+    busy e = cc
 
 module _ (p : ConfigParts) (ok : IsSetting p) where
   pub begin_keeps : BeginKeeps p
@@ -64,6 +53,7 @@ module _ (p : ConfigParts) (ok : IsSetting p) where
         seen = omega (arith, ap length inv.log_is, within);
         first = omega arith;
         answered = k.answered;
+        causes = k.causes;
         ordered = in_order_later 0 a.dones a.first n k.ordered (omega (arith, k.first, past));
         mine = k.mine ∙ ap (λ (es : List LogEntry). updates a.dones ++ es) no.2;
       } (λ server. refl) tt mv)
@@ -89,6 +79,7 @@ module _ (p : ConfigParts) (ok : IsSetting p) where
         seen = k.seen;
         first = k.first;
         answered = k.answered;
+        causes = k.causes;
         ordered = k.ordered;
         mine = k.mine ∙ ap (λ (es : List LogEntry). updates a.dones ++ es) no.2;
       } (λ server. refl) tt mv)
@@ -103,12 +94,13 @@ module _ (p : ConfigParts) (ok : IsSetting p) where
     held = λ j l o. let h = inv.held j l o in (h.0, same.on j h.0 h.1);
     pends = λ j n e. let h = inv.pends j n e in (h.0, same.on j h.0 h.1);
     skips = λ j n e. let h = inv.skips j n e in (h.0, same.on j h.0 h.1);
+    makes = λ j e. let h = inv.makes j e in (h.0, same.on j h.0 h.1);
     given = inv.given;
     out = inv.out;
   }
 
-  pub at_rest : AtRest p
-  at_rest words log Has Out inv rest none = record { free = λ l. free (inv.scene.hold l) l refl; posted = posted }
+  pub all_rest : (words : List ℕ) (log : List LogEntry) (Has : ℕ → Actor → Type 0) (Out : ℕ → ℕ → ℕ → Type 0) (inv : Inv p words log Has Out) → ((j : ℕ) (b : Actor) → Has j b → is_resting b.client ≡ true) → ((l c d : ℕ) → Out l c d → ⊥) → AllRest p inv.scene log
+  all_rest words log Has Out inv rest none = record { free = λ l. free (inv.scene.hold l) l refl; posted = posted }
     where
       resting : (j : ℕ) → (b : Actor) × Has j b → (Hands inv.scene j None) × (Waits inv.scene j None)
       resting j h =

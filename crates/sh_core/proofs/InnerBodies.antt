@@ -41,19 +41,13 @@ use Rattle.sh_core.specs.Keeps.{pending_then, Hands, Waits}
 use Rattle.sh_core.specs.Core.{Inv, Moves}
 use Rattle.sh_core.proofs.Others.{entry_on}
 use Rattle.sh_core.proofs.Frame.{next, me, at, with, goes_on, same_here, same_grows, Before, moves_to, one_log}
-use Rattle.sh_core.proofs.Roots.{decided_entry, skips_posted, waits_posted}
+use Rattle.sh_core.proofs.Roots.{posted_skipped, decided_entry, skips_posted, waits_posted}
 use Rattle.sh_core.proofs.BodyEnds.{rel, rel_holding, rel_pending, rel_calm, rel_fits, storing_at, keeps_hands, maker, entry_last, leaf_last, left_leaf_last, rewrote, splitted, skips_pending}
 use Rattle.sh_core.proofs.Bodies.{store_more}
 use Rattle.sh_core.proofs.Locks.{Claim}
 
 none_before : (n : ℕ) → n ≡ 0 + n
 none_before n = omega arith
-
-pending_skipped : (i : ℕ) → Pending i ≡ Skipped i → ⊥
-pending_skipped i e = cc
-
-posted_skipped : (i : ℕ) → Posted ≡ Skipped i → ⊥
-posted_skipped i e = cc
 
 module _ (p : ConfigParts) (ok : IsSetting p) (words : List ℕ) (Has Now : ℕ → Actor → Type 0) (Out : ℕ → ℕ → ℕ → Type 0) (i : ℕ) (s : Scene) (b : Before p words Has Out s) (a : Actor) (m : Machine) where
   abbrev N : ℕ
@@ -94,11 +88,11 @@ module _ (p : ConfigParts) (ok : IsSetting p) (words : List ℕ) (Has Now : ℕ 
       let w = subst (Owes s i a.first a.point a.seen m.call m.reply) z.plan.duty_is k.work.owes in
       one_log p ok words Has Now Out i s b now t log
       (moves_to p ok words Has Now Out i s b now t (next a N q) ch
-      (goes_on p s t i N (me p i a m (Body n carry done WholeInner Ends)) q k log k.seen (omega arith) record {
+      (goes_on p s t i N (me p i a m (Body n carry done WholeInner Ends)) q k log (λ server. omega arith) k.seen (omega arith) record {
         seated = k.work.seated;
         duty = None;
         fits = rel_fits p t i a.first a.point N q None n carry Ends record { real = u.real; depth = u.depth; held = put_here s.hold (lock_of p n) (Held (Seat i) u.depth); carries = u.carries }
-            (refl, decided_entry p t.log i a.first a.point N m.call m.reply (entry_now t a.seen log k.seen w.entry));
+            (refl, decided_entry p t i a.first a.point N m.call m.reply (entry_now t a.seen log k.seen w.entry));
         owes = tt;
         hands = subst (Hands t i) (sym (rel_holding p q n carry Ends)) (keeps_hands p ok words Has Now Out i s b a m t (lock_of p n) (Held (Seat i) u.depth) refl k.work.hands);
         waits = waits_posted s i post (subst (Waits s i) z.plan.duty_is k.work.waits);
@@ -152,7 +146,7 @@ module _ (p : ConfigParts) (ok : IsSetting p) (words : List ℕ) (Has Now : ℕ 
       let not_skipped : put s.post y.child Posted r ≡ Skipped i → ⊥ = put_case (λ v. v ≡ Skipped i → ⊥) s.post y.child Posted r (λ c v. posted_skipped i v) (λ c v. posted_skipped i (sym is_posted ∙ v)) in
       one_log p ok words Has Now Out i s b now t log
       (moves_to p ok words Has Now Out i s b now t (next a N q) ch
-      (goes_on p s t i N (me p i a m (Body n carry done LeftInner after)) q k log k.seen (omega arith) record {
+      (goes_on p s t i N (me p i a m (Body n carry done LeftInner after)) q k log (λ server. omega arith) k.seen (omega arith) record {
         seated = k.work.seated;
         duty = Some post;
         fits = rel_fits p t i a.first a.point N q (Some post) n carry after record { real = u.real; depth = u.depth; held = put_here s.hold (lock_of p n) (Held (Seat i) u.depth); carries = u.carries }

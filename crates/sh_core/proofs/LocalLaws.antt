@@ -1,6 +1,5 @@
 -- The laws of the turns that a compute server answers, and of rights.
-use Rattle.std.proofs.Common.{◌≡◌, ◌≢◌, ◌⊎◌, ℕ, ◌≤◌, Bool, true, false, List, [], ◌∷◌, ◌++◌, length, Option, Some, None, refl, sym, ap, ◌∙◌, subst}
-use Rattle.std.specs.Prelude.{if◌then◌else◌, nat_lt, ◌+◌, ◌-◌}
+use Rattle.std.proofs.Common.{◌≡◌, ◌≢◌, ◌⊎◌, ℕ, List, ◌++◌, Option, Some, None, refl, ◌∙◌, subst}
 use Rattle.sh_base.specs.declared.config.ConfigParts.{ConfigParts}
 use Rattle.sh_base.specs.Setting.{IsSetting}
 use Rattle.sh_base.specs.Layout.{lock_of, compute_of}
@@ -9,12 +8,10 @@ use Rattle.sh_alloc.specs.declared.state.ChunkWant.{ChunkWant}
 use Rattle.sh_alloc.specs.declared.state.ChunkWant.TheVariants as chunk
 use Rattle.sh_alloc.specs.Walks.{want_of as walk_wants}
 use Rattle.sh_read.specs.Reads.{wanted}
-use Rattle.sh_scene.specs.Scene.{Scene}
 use Rattle.sh_decide.specs.declared.state.Aim.{Aim}
 use Rattle.sh_client.specs.declared.state.Then.{Then}
 use Rattle.sh_client.specs.declared.state.Phase.{Phase}
-use Rattle.sh_client.specs.declared.state.Phase.TheVariants.{Idle, Root, Read, Draw, Look, Grab, Hold, Seek, Fill, Waiting, Body, Unlock, Leave, Top, Raise, Swap, Ended}
-use Rattle.sh_client.specs.Machine.{Machine}
+use Rattle.sh_client.specs.declared.state.Phase.TheVariants.{Read, Draw, Look, Hold, Seek, Waiting, Leave, Top}
 use Rattle.sh_client.specs.Wants.{count_of, load_of, want_in, want_of}
 use Rattle.sh_core.specs.Actors.{Actor, stepped, turned}
 use Rattle.sh_core.specs.Keeps.{IsSeated}
@@ -58,20 +55,11 @@ module _ (p : ConfigParts) (ok : IsSetting p) (words : List ℕ) (log seen : Lis
   locals (Look aim n) word l = look p ok words Has Now Out i inv.scene B a a.client seen saw.rest whole saw.more aim n word
   locals (Waiting n d write after) word l = waiting p ok words Has Now Out i inv.scene B a a.client seen saw.rest whole saw.more n d word write after
   locals (Leave n None after) word l = leave p ok words Has Now Out i inv.scene B a a.client seen saw.rest whole saw.more n word after
-  locals (Leave n (Some d) after) word l = absurd l
-  locals Idle word l = absurd l
-  locals (Root aim) word l = absurd l
   locals (Read aim top) word l = absurd (not_local_load (wanted p a.client.reads) l)
-  locals (Grab aim n) word l = absurd l
   locals (Hold aim d) word l = absurd (not_local_load (wanted p a.client.reads) l)
   locals (Seek aim d) word l = absurd (not_local_count (walk_wants p a.client.walk) l)
-  locals (Fill n d r done write after) word l = absurd l
-  locals (Body n carry done write after) word l = absurd l
-  locals (Unlock n after) word l = absurd l
   locals (Top post node) word l = absurd (not_local_count (walk_wants p a.client.walk) l)
-  locals (Raise post node r done) word l = absurd l
-  locals (Swap post node r) word l = absurd l
-  locals Ended word l = absurd l
+  locals ph word l = absurd l
 
   pub local_turn : (word : ℕ) → IsLocal (want_of a.client) → Moves Has i (stepped i a seen word) Now → Inv p words log Now Out
   local_turn word l mv =

@@ -27,6 +27,7 @@ use Rattle.sh_core.specs.Actors.{Actor, becomes, ending, stepped, turned}
 use Rattle.sh_core.specs.Fits.{Carries, Fits, Follows, Plans}
 use Rattle.sh_core.specs.Keeps.{holding, Hands, pending, Keeps}
 use Rattle.sh_core.specs.Core.{Inv, Moves}
+use Rattle.sh_core.proofs.Causes.{decided_cause}
 use Rattle.sh_core.proofs.Others.{follows_on}
 use Rattle.sh_core.proofs.Frame.{next, me, at, goes_on, ends_now, decided_ends, work_with, work_ended, same_here, same_grows, IsCalm, Before, stays}
 
@@ -58,7 +59,7 @@ module _ (p : ConfigParts) (ok : IsSetting p) (words : List ℕ) (Has Now : ℕ 
   goes ph to k fits hands same calm mv =
       let n : Machine = at p i m to in
       stays p ok words Has Now Out i s b (next a N n)
-      (goes_on p s s i N (me p i a m ph) n k refl more short (work_with p s s i a.first a.point a.seen N m ph k.work (same_here s) more m.tally m.reads m.walk m.body m.right to refl fits hands) same) calm mv
+      (goes_on p s s i N (me p i a m ph) n k refl (λ server. omega arith) more short (work_with p s s i a.first a.point a.seen N m ph k.work (same_here s) more m.tally m.reads m.walk m.body m.right to refl fits hands) same) calm mv
 
   on : (c : Call) (r : Reply) (duty : Option Post) (after : Then) → a.seen ≤ length s.log → Follows p s i a.first a.point a.seen c r duty after → Follows p s i a.first a.point N c r duty after
   on c r duty after le h = follows_on p s s i a.first a.point a.seen N (same_grows s s i a.seen N (same_here s) more) c r duty after le h
@@ -116,9 +117,9 @@ module _ (p : ConfigParts) (ok : IsSetting p) (words : List ℕ) (Has Now : ℕ 
   follows n Ends h mv =
       let k = b.kept i (me p i a m (Leave n None Ends)) h in
       let f = k.work.fits.1 in
-      let end = decided_ends p s.log sn rest i a m whole more k.first m.call m.reply f.1 in
+      let end = decided_ends p s sn rest i a m whole more k.first m.call m.reply f.1 in
       stays p ok words Has Now Out i s b (ending i (me p i a m (Leave n None Ends)) sn (at p i m Ended))
-      (ends_now p s s i (me p i a m (Leave n None Ends)) (at p i m Ended) sn k refl short more (work_ended p s s i a.first a.point a.seen N m (Leave n None Ends) k.work (same_here s) more m.tally m.reply m.reads m.walk m.body m.right refl f.0 k.work.hands) end.answered end.from end.past refl refl) tt mv
+      (ends_now p s s i (me p i a m (Leave n None Ends)) (at p i m Ended) sn k refl (λ server. omega arith) short more (work_ended p s s i a.first a.point a.seen N m (Leave n None Ends) k.work (same_here s) more m.tally m.reply m.reads m.walk m.body m.right refl f.0 k.work.hands) end.answered (decided_cause p s sn i a more m.call m.reply f.1) end.from end.past refl refl) tt mv
   follows n (Starts aim) h mv = let k = b.kept i (me p i a m (Leave n None (Starts aim))) h in goes (Leave n None (Starts aim)) (Root aim) k k.work.fits.1 k.work.hands refl tt mv
   follows n (Takes aim node) h mv = let k = b.kept i (me p i a m (Leave n None (Takes aim node))) h in goes (Leave n None (Takes aim node)) (Draw aim node) k k.work.fits.1 k.work.hands refl tt mv
 

@@ -1,5 +1,5 @@
 -- The turns on lock words and the load of the root word.
-use Rattle.std.proofs.Common.{◌≡◌, ℕ, ◌+◌, ◌-◌, ◌≤◌, Bool, true, false, List, [], ◌++◌, length, get_or, set, Option, Some, None, refl, ap, ◌∙◌, subst, arith, drop_of_length-le, eqb-true}
+use Rattle.std.proofs.Common.{◌≡◌, ℕ, ◌+◌, ◌-◌, ◌≤◌, Bool, true, false, List, [], ◌++◌, length, get_or, set, Option, Some, None, refl, ap, ◌∙◌, subst, arith, drop_of_length-le, eqb-true, ◌≢◌}
 use Rattle.std.specs.Prelude.{◌==◌, if◌then◌else◌}
 use Rattle.sh_base.specs.declared.config.ConfigParts.{ConfigParts}
 use Rattle.sh_base.specs.declared.event.Event.{Event}
@@ -29,16 +29,20 @@ use Rattle.sh_client.specs.declared.state.Phase.TheVariants.{Root, Read, Grab, H
 use Rattle.sh_client.specs.Machine.{Machine}
 use Rattle.sh_decide.specs.Aims.{is_node, key_of, target}
 use Rattle.sh_client.specs.Giving.{makes}
+use Rattle.sh_alloc.specs.declared.state.NodeRange.{NodeRange}
+use Rattle.sh_alloc.specs.declared.state.Walk.{Walk}
+use Rattle.sh_map.specs.declared.call.Reply.{Reply}
+use Rattle.sh_scene.proofs.Joins.{nothing_done}
 use Rattle.sh_core.specs.Actors.{Actor, becomes, stepped}
-use Rattle.sh_core.specs.Fits.{duty_of, Fits, Owes, Reaches}
+use Rattle.sh_core.specs.Fits.{duty_of, Fits, Owes, Reaches, AreSpares}
 use Rattle.sh_core.specs.Keeps.{holding, Hands, pending, Keeps}
-use Rattle.sh_core.specs.Core.{Inv, Moves}
-use Rattle.sh_core.proofs.Others.{named_on, follows_on}
-use Rattle.sh_core.proofs.Frame.{next, me, at, with, goes_on, work_with, SameNodes, same_here, same_grows, IsCalm, Before, moves_to, stays, one_log}
+use Rattle.sh_core.specs.Core.{Inv, Moves, WantsAdd}
+use Rattle.sh_core.proofs.Others.{named_on, follows_on, owes_on}
+use Rattle.sh_core.proofs.Frame.{next, me, at, with, goes_on, work_with, SameNodes, same_here, same_grows, IsCalm, Before, moves_to, one_log, no_add, anew, work_anew, moves_by}
 
 -- another hold of a lock
 pub same_hold : (s : Scene) (l : ℕ) (x : Hold) → SameNodes s (with_hold s l x)
-same_hold s l x = record { log = refl; class = λ n. refl; post = λ n. refl }
+same_hold s l x = record { log = refl; class = λ n. refl; post = λ n. refl; counts = λ server. omega arith }
 
 -- the seat's locks after a change of the one that it has
 pub hands_take : (s : Scene) (i l : ℕ) (x : Hold) → Hands s i None → Hands (with_hold s l x) i (Some l)
@@ -65,16 +69,31 @@ module _ (p : ConfigParts) (ok : IsSetting p) (words : List ℕ) (Has Now : ℕ 
       let n : Machine = with p i m tally reads m.walk m.body m.right to in
       one_log p ok words Has Now Out i s b now t same.log
       (moves_to p ok words Has Now Out i s b now t (next a N n) ch
-      (goes_on p s t i N (me p i a m ph) n k same.log k.seen (omega arith) (work_with p s t i a.first a.point a.seen N m ph k.work same k.seen tally reads m.walk m.body m.right to sum fits hands) pend) count calm mv)
+      (goes_on p s t i N (me p i a m ph) n k same.log same.counts k.seen (omega arith) (work_with p s t i a.first a.point a.seen N m ph k.work same k.seen tally reads m.walk m.body m.right to sum fits hands) pend) count calm mv)
+
+  -- The scene stays, and no counter is to be counted on now: the log and the posts are those of before, so the reply may be
+  -- a new one where there is no duty.
+  pub quiet_by : (ph to : Phase) (spare : NodeRange) (tally : Tally) (reply : Reply) (reads : Reads) (walk : Walk) (body right : List ℕ) (k : Keeps p s i (me p i a m ph)) → let x : Machine = anew p i m spare tally reply reads walk body right to in
+      tally.skipped_spent + tally.skipped_worn ≡ m.tally.skipped_spent + m.tally.skipped_worn → Fits p s i a.first a.point N x k.work.duty to → Owes s i a.first a.point N m.call reply k.work.duty → AreSpares s i spare → Hands s i (holding p x to) → pending i x to ≡ pending i (at p i m ph) ph
+      → ((server : ℕ) → WantsAdd p server x → ⊥) → Moves Has i (next a N x) Now → Inv p words (s.log ++ []) Now Out
+  quiet_by ph to spare tally reply reads walk body right k sum fits owes spares hands pend calm mv =
+      let x : Machine = anew p i m spare tally reply reads walk body right to in
+      one_log p ok words Has Now Out i s b words s refl
+      (moves_by p ok words Has Now Out i s b words s (next a N x) (nothing_done p (λ o. o ≢ Seat i) s, b.ground)
+      (goes_on p s s i N (me p i a m ph) x k refl (λ server. omega arith) k.seen (omega arith) (work_anew p s s i a.first a.point a.seen N m ph k.work (λ r. refl) spare tally reply reads walk body right to sum fits owes spares hands) pend) (λ server. refl) calm mv)
+
+  -- the same, in a phase that counts on no counter
+  pub quiet_with : (ph to : Phase) (spare : NodeRange) (tally : Tally) (reply : Reply) (reads : Reads) (walk : Walk) (body right : List ℕ) (k : Keeps p s i (me p i a m ph)) → let x : Machine = anew p i m spare tally reply reads walk body right to in
+      tally.skipped_spent + tally.skipped_worn ≡ m.tally.skipped_spent + m.tally.skipped_worn → Fits p s i a.first a.point N x k.work.duty to → Owes s i a.first a.point N m.call reply k.work.duty → AreSpares s i spare → Hands s i (holding p x to) → pending i x to ≡ pending i (at p i m ph) ph
+      → IsCalm to → Moves Has i (next a N x) Now → Inv p words (s.log ++ []) Now Out
+  quiet_with ph to spare tally reply reads walk body right k sum fits owes spares hands pend calm mv =
+      let x : Machine = anew p i m spare tally reply reads walk body right to in
+      quiet_by ph to spare tally reply reads walk body right k sum fits owes spares hands pend (λ server q. no_add p server x to calm q) mv
 
   -- nothing but the client has changed
   pub quiet : (ph to : Phase) (tally : Tally) (reads : Reads) (k : Keeps p s i (me p i a m ph)) → let n : Machine = with p i m tally reads m.walk m.body m.right to in
       tally.skipped_spent + tally.skipped_worn ≡ m.tally.skipped_spent + m.tally.skipped_worn → Fits p s i a.first a.point N n k.work.duty to → Hands s i (holding p n to) → pending i n to ≡ pending i (at p i m ph) ph → IsCalm to → Moves Has i (next a N n) Now → Inv p words (s.log ++ []) Now Out
-  quiet ph to tally reads k sum fits hands pend calm mv =
-      let n : Machine = with p i m tally reads m.walk m.body m.right to in
-      one_log p ok words Has Now Out i s b words s refl
-      (stays p ok words Has Now Out i s b (next a N n)
-      (goes_on p s s i N (me p i a m ph) n k refl k.seen (omega arith) (work_with p s s i a.first a.point a.seen N m ph k.work (same_here s) k.seen tally reads m.walk m.body m.right to sum fits hands) pend) calm mv)
+  quiet ph to tally reads k sum fits hands pend calm mv = quiet_with ph to m.spare tally m.reply reads m.walk m.body m.right k sum fits (owes_on p s s i a.first a.point a.seen N (same_grows s s i a.seen N (same_here s) k.seen) m.call m.reply k.work.duty k.work.owes) k.work.spares hands pend calm mv
 
   -- ---- the lock is taken, or it isn't free
   takes : (aim : Aim) (n : ℕ) (t : Bool) → (get_or words (lock_word p (lock_of p n)) 0 == 0) ≡ t → Has i (me p i a m (Grab aim n))

@@ -1,5 +1,5 @@
 -- READs without a lock.
-use Rattle.std.proofs.Common.{◌≡◌, ◌≢◌, ℕ, ◌+◌, ◌-◌, ◌<◌, ◌≤◌, Bool, true, false, List, [], ◌∷◌, ◌++◌, length, get_or, Option, Some, None, refl, sym, ap, ◌∙◌, subst, arith, eqb-true}
+use Rattle.std.proofs.Common.{◌≡◌, ◌≢◌, ℕ, ◌+◌, ◌-◌, ◌<◌, Bool, true, false, List, [], ◌∷◌, ◌++◌, length, get_or, Option, Some, None, refl, sym, ap, ◌∙◌, subst, arith, eqb-true}
 use Rattle.std.specs.Prelude.{◌==◌, ◌&&◌, if◌then◌else◌, nat_lt}
 use Rattle.std.proofs.lemmas.Bool.Decides.{nat_tests}
 use Rattle.sh_base.specs.declared.config.ConfigParts.{ConfigParts}
@@ -47,6 +47,7 @@ use Rattle.sh_client.specs.Feeds.{read_by, arrived, went}
 use Rattle.sh_client.specs.Splitting.{grown, growing, raised}
 use Rattle.sh_core.specs.Actors.{Actor, becomes, ending, point_of}
 use Rattle.sh_core.specs.Fits.{Owes, IsOnWay, IsThere, HasRead, Reaches, IsBelow, duty_of}
+use Rattle.sh_core.specs.Causes.{HasCause}
 use Rattle.sh_core.specs.Keeps.{pending_aim, Keeps}
 use Rattle.sh_core.specs.Core.{Inv, Moves}
 use Rattle.sh_core.proofs.Logs.{least_is}
@@ -55,13 +56,8 @@ use Rattle.sh_core.proofs.Spares.{takes_lowest, none_spare}
 use Rattle.sh_core.proofs.Raising.{work_raised, begins_walk}
 use Rattle.sh_scene.proofs.Joins.{nothing_done}
 use Rattle.sh_core.proofs.Locks.{Claim, quiet}
+use Rattle.sh_core.proofs.UnderLock.{is_lt, not_lt}
 use Rattle.sh_core.proofs.Images.{IsSeenLeaf, more_known, seen_leaf, seen_inner, right_reaches}
-
-is_lt : (a b : ℕ) → nat_lt a b ≡ true → a < b
-is_lt a b e = grind (arith, nat_tests)
-
-not_lt : (a b : ℕ) → nat_lt a b ≡ false → b ≤ a
-not_lt a b e = grind (arith, nat_tests)
 
 -- a reply with what the map had at a key is a get's
 get_ends : (p : ConfigParts) (log : List LogEntry) (i : ℕ) (a : Actor) (key : ℕ) (had : Option (List ℕ)) → HadAt log a.first key had → IsEnding log i (length log) record { n = a.number; seat = i; call = call.Get key; reply = reply_with had; first = a.first; point = point_of log a.first a.point (call.Get key) (reply_with had); rows = [] }
@@ -69,11 +65,12 @@ get_ends p log i a key (Some v) h = let l = least_is log a.first key (Some v) h.
 get_ends p log i a key None h = let l = least_is log a.first key None h.0 h.1 h.2 h.3 in record { answered = record { seat_is = refl; answers = record { within = l.within; row = l.here }; least = l }; from = l.from; past = omega (arith, l.within) }
 
 -- the key of a descent is a key
-pub key_past : (p : ConfigParts) (c : Call) → IsInRange p c → IsKey (key_of c Own)
-key_past p (call.Get key) h = h
-key_past p (call.Put key value) h = h.0
-key_past p (call.Del key) h = h
-key_past p (call.Range low high) h = h.0
+pub aim_key : (p : ConfigParts) (s : Scene) (i f q e : ℕ) (c : Call) (r : Reply) (aim : Aim) (duty : Option Post) → IsInRange p c → duty ≡ duty_of aim → Owes s i f q e c r duty → IsKey (key_of c aim)
+aim_key p s i f q e (call.Get key) r Own duty h is o = h
+aim_key p s i f q e (call.Put key value) r Own duty h is o = h.0
+aim_key p s i f q e (call.Del key) r Own duty h is o = h
+aim_key p s i f q e (call.Range low high) r Own duty h is o = h.0
+aim_key p s i f q e c r (Posts post) duty h is o = let w = subst (Owes s i f q e c r) is o in (w.some, w.past)
 
 module _ (p : ConfigParts) (ok : IsSetting p) (words : List ℕ) (Has Now : ℕ → Actor → Type 0) (Out : ℕ → ℕ → ℕ → Type 0) (i : ℕ) (s : Scene) (b : Before p words Has Out s) (a : Actor) (m : Machine) (aim : Aim) (top : Bool)
     (h : Has i (me p i a m (Read aim top))) where
@@ -86,12 +83,8 @@ module _ (p : ConfigParts) (ok : IsSetting p) (words : List ℕ) (Has Now : ℕ 
   abbrev key : ℕ
   key = key_of m.call aim
 
-  key_is : (aim : Aim) (duty : Option Post) → duty ≡ duty_of aim → Owes s i a.first a.point a.seen m.call m.reply duty → IsKey (key_of m.call aim)
-  key_is Own duty e o = key_past p m.call K.work.seated.in_range
-  key_is (Posts post) duty e o = let w = subst (Owes s i a.first a.point a.seen m.call m.reply) e o in (w.some, w.past)
-
   isk : IsKey key
-  isk = key_is aim K.work.duty K.work.fits.0 K.work.owes
+  isk = aim_key p s i a.first a.point a.seen m.call m.reply aim K.work.duty K.work.seated.in_range K.work.fits.0 K.work.owes
 
   -- to the root word again
   restarts : (tally : Tally) (reads : Reads) → tally.skipped_spent + tally.skipped_worn ≡ m.tally.skipped_spent + m.tally.skipped_worn → Here' (with p i m tally reads m.walk m.body m.right (Root aim))
@@ -167,8 +160,8 @@ module _ (p : ConfigParts) (ok : IsSetting p) (words : List ℕ) (Has Now : ℕ 
         let duty : K.work.duty ≡ None = K.work.fits.0 ∙ ap duty_of own in
         one_log p ok words Has Now Out i s b words s refl
         (stays p ok words Has Now Out i s b (ending i (me p i a m (Read aim top)) s.log (to (answering M (reply_with had)) Ended))
-        (ends_now p s s i (me p i a m (Read aim top)) (to (answering M (reply_with had)) Ended) s.log K refl (omega arith) K.seen
-        (work_ended p s s i a.first a.point a.seen (length s.log) m (Read aim top) K.work (same_here s) K.seen m.tally (reply_with had) reads m.walk m.body m.right refl duty K.work.hands) end.answered end.from end.past
+        (ends_now p s s i (me p i a m (Read aim top)) (to (answering M (reply_with had)) Ended) s.log K refl (λ server. omega arith) (omega arith) K.seen
+        (work_ended p s s i a.first a.point a.seen (length s.log) m (Read aim top) K.work (same_here s) K.seen m.tally (reply_with had) reads m.walk m.body m.right refl duty K.work.hands) end.answered (subst (λ (c : Call). HasCause p s.counter s.log a.first (point_of s.log a.first a.point c (reply_with had)) c (reply_with had)) (sym e) tt) end.from end.past
         (ap (λ (z : Aim). pending_aim i m.call m.reply z) own ∙ sym (none_made k (reply_with had) e)) refl) tt mv)
 
     goes_here : (c : Call) (to : Aim) (image : Image) → m.call ≡ c → aim ≡ to → IsImageOf s level named.low image → Holds image → hop_of image key (target aim) ≡ Here → Here' (went M aim image (way_here c to reads.node image))
@@ -193,7 +186,7 @@ module _ (p : ConfigParts) (ok : IsSetting p) (words : List ℕ) (Has Now : ℕ 
         let n : Machine = raised (sparing M (without_lowest m.spare)) post reads.node fresh in
         one_log p ok words Has Now Out i s b words s refl
         (stays p ok words Has Now Out i s b (next a (length s.log) n)
-        (goes_on p s s i (length s.log) (me p i a m (Read aim top)) n K refl K.seen (omega arith)
+        (goes_on p s s i (length s.log) (me p i a m (Read aim top)) n K refl (λ server. omega arith) K.seen (omega arith)
         (work_raised p s s i a.first a.point a.seen (length s.log) m (Read aim top) K.work (same_grows s s i a.seen (length s.log) (same_here s) K.seen) (λ k. refl) reads m.walk m.body (without_lowest m.spare) post reads.node fresh (takes_lowest s i m.spare K.work.spares fresh e) duty below K.work.hands)
         (sym (ap (λ (z : Aim). pending_aim i m.call m.reply z) own))) tt mv)
     grows_to post None own up e mv =
@@ -202,8 +195,8 @@ module _ (p : ConfigParts) (ok : IsSetting p) (words : List ℕ) (Has Now : ℕ 
         let n : Machine = with p i m m.tally reads (walk_start p i) m.body m.right (Top post reads.node) in
         one_log p ok words Has Now Out i s b words s refl
         (moves_by p ok words Has Now Out i s b words s (next a (length s.log) n) (nothing_done p (λ o. o ≢ Seat i) s, b.ground)
-        (goes_on p s s i (length s.log) (me p i a m (Read aim top)) n K refl K.seen (omega arith)
-        (work_with p s s i a.first a.point a.seen (length s.log) m (Read aim top) K.work (same_here s) K.seen m.tally reads (walk_start p i) m.body m.right (Top post reads.node) refl (duty, below, begins_walk p ok i m.spare (none_spare s i m.spare K.work.spares e)) K.work.hands)
+        (goes_on p s s i (length s.log) (me p i a m (Read aim top)) n K refl (λ server. omega arith) K.seen (omega arith)
+        (work_with p s s i a.first a.point a.seen (length s.log) m (Read aim top) K.work (same_here s) K.seen m.tally reads (walk_start p i) m.body m.right (Top post reads.node) refl (duty, below, begins_walk p ok s i m.spare (none_spare s i m.spare K.work.spares e)) K.work.hands)
         (sym (ap (λ (z : Aim). pending_aim i m.call m.reply z) own))) (λ server. refl) (λ server q. cc) mv)
 
     goes_up : (image : Image) (to : Aim) → aim ≡ to → IsImageOf s level named.low image → is_below to image ≡ true → Here' (grown M to reads.node)

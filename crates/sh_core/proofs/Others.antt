@@ -1,6 +1,6 @@
 -- What the actors that don't act keep, and the new invariant from its parts.
 use Rattle.std.proofs.Common.{◌≡◌, ◌≢◌, ℕ, zero, suc, ◌+◌, ◌<◌, ◌≤◌, Bool, List, [], ◌∷◌, ◌++◌, length, get_or, set, Option, Some, None, refl, sym, ap, ◌∙◌, subst, inl, inr, arith, append-nil, length-append}
-use Rattle.std.specs.Prelude.{slice_get, ◌*◌}
+use Rattle.std.specs.Prelude.{slice_get, ◌*◌, ◌%◌}
 use mathlib.Core.Logic.{dite}
 use native.Mathlib.Decide.{ℕ_discrete}
 use Rattle.std.proofs.lemmas.List.{take-append-le}
@@ -17,6 +17,7 @@ use Rattle.sh_map.specs.Log.{changed, key_of as change_key, map_of, map_at}
 use Rattle.sh_map.specs.Made.{entries_by}
 use Rattle.sh_map.proofs.BookLemmas.{slice_get-append_left}
 use Rattle.sh_alloc.specs.declared.state.NodeRange.{NodeRange}
+use Rattle.sh_alloc.specs.declared.state.Walk.{Walk}
 use Rattle.sh_image.specs.declared.inner.Pair.{Pair}
 use Rattle.sh_image.specs.Leaf.{IsEntry, leaf_in, leaf_words}
 use Rattle.sh_image.specs.Inner.{inner_in, inner_words}
@@ -45,19 +46,22 @@ use Rattle.sh_client.specs.declared.state.Phase.TheVariants.{Idle, Root, Read, D
 use Rattle.sh_client.specs.Machine.{Machine}
 use Rattle.sh_decide.specs.Aims.{key_of, post_of, target}
 use Rattle.sh_core.specs.Actors.{Actor, AreAnswered, made_by}
-use Rattle.sh_core.specs.Fits.{HasEntry, IsPosting, Owes, HasRead, IsOnWay, AreLast, IsFilled, PlansEntry, PlansLeaf, PlansLeftLeaf, PlansPair, PlansInner, PlansLeftInner, PlansHalf, HadNone, IsDecided, Follows, Plans, storing_hold, IsHolding, IsLeaving, IsBelow, IsThere, Fits}
+use Rattle.sh_core.specs.Fits.{HasEntry, IsPosting, Owes, HasRead, IsOnWay, AreLast, IsSeeking, IsFilled, PlansEntry, PlansLeaf, PlansLeftLeaf, PlansPair, PlansInner, PlansLeftInner, PlansHalf, HadNone, IsDecided, Follows, Plans, storing_hold, IsHolding, IsLeaving, IsBelow, IsThere, Fits}
 use Rattle.sh_core.specs.Keeps.{holding, Hands, Waits, Skips, Keeps}
 use Rattle.sh_core.specs.Core.{WantsAdd, SomeAdds, Inv, Moves}
+use Rattle.sh_core.proofs.Causes.{causes_on}
 use Rattle.sh_core.proofs.Logs.{made_by-append, made_by_none, answered_longer}
 
 -- ---- what the log's growth and the links' leave
 
--- The log has only grown, and so have the links; and the seat's posts are as they were. The seat has seen as much, or more.
+-- The log has only grown, and so have the links and the counters; and the seat's posts are as they were. The seat has seen
+-- as much, or more.
 pub record Grows (s t : Scene) (i seen now : ℕ) : Type 0 where
   pub more : List LogEntry
   pub longer : t.log ≡ s.log ++ more
   pub linked : (n l a : ℕ) → s.class n ≡ Linked l a → t.class n ≡ Linked l a
   pub pending : (n : ℕ) → s.post n ≡ Pending i → t.post n ≡ Pending i
+  pub counts : (server : ℕ) → s.counter server ≤ t.counter server
   pub later : seen ≤ now
 
 module _ (p : ConfigParts) (s t : Scene) (i f q e now : ℕ) (gr : Grows s t i e now) where
@@ -77,12 +81,12 @@ module _ (p : ConfigParts) (s t : Scene) (i f q e now : ℕ) (gr : Grows s t i e
   pub none_on : (k : ℕ) → e ≤ length s.log → HadNone s.log f e k → HadNone t.log f now k
   none_on k le h = record { at = h.at; from = h.from; below = omega (arith, h.below, gr.later); absent = subst (λ (es : List LogEntry). get (map_at es h.at) k ≡ None) (sym gr.longer) (ap (λ (es : List LogEntry). get (map_of es) k) (take-append-le h.at s.log gr.more (omega (arith, h.below, le))) ∙ h.absent) }
 
-  pub decided_on : (c : Call) (r : Reply) → e ≤ length s.log → IsDecided p s.log i f q e c r → IsDecided p t.log i f q now c r
+  pub decided_on : (c : Call) (r : Reply) → e ≤ length s.log → IsDecided p s i f q e c r → IsDecided p t i f q now c r
   decided_on (call.Put key value) (reply.Some old) le h = entry_on (call.Put key value) (reply.Some old) h
   decided_on (call.Put key value) reply.None le h = entry_on (call.Put key value) reply.None h
   decided_on (call.Del key) (reply.Some old) le h = entry_on (call.Del key) (reply.Some old) h
   decided_on (call.Del key) reply.None le h = none_on key le h
-  decided_on (call.Put key value) reply.Full le h = tt
+  decided_on (call.Put key value) reply.Full le h = (λ server lt. omega (arith, h.0 server lt, gr.counts server), none_on key le h.1)
   decided_on (call.Put key value) (reply.Worn version) le h = h
   decided_on (call.Del key) (reply.Worn version) le h = h
   decided_on c r le h = absurd h
@@ -91,6 +95,9 @@ module _ (p : ConfigParts) (s t : Scene) (i f q e now : ℕ) (gr : Grows s t i e
   follows_on c r duty Ends le h = (h.0, decided_on c r le h.1)
   follows_on c r duty (Starts aim) le h = h
   follows_on c r duty (Takes aim n) le h = (h.0, named_on (target aim) n (key_of c aim) h.1)
+
+  pub seeking_on : (walk : Walk) (spare : NodeRange) → IsSeeking p s walk spare → IsSeeking p t walk spare
+  seeking_on walk spare h = record { walk_is = h.walk_is; wants = h.wants; passed = λ k lt. omega (arith, h.passed k lt, gr.counts ((walk.first + k) % p.servers)); none = h.none }
 
   pub below_on : (post : Post) (root : ℕ) → IsBelow s post root → IsBelow t post root
   below_on post root h = record { below = h.below; level = h.level; named = named_on h.below root post.separator h.named }
@@ -189,9 +196,9 @@ pub storing_owns : (h : Hold) (i d n : ℕ) (write : Write) (body : List ℕ) (d
 storing_owns h i d n write body zero e = subst (λ (x : Hold). Owns x (Seat i)) (sym e) refl
 storing_owns h i d n write body (suc done) e = subst (λ (x : Hold). Owns x (Seat i)) (sym e) refl
 
-module _ (p : ConfigParts) (ok : IsSetting p) (Other : Owner → Type 0) (words now : List ℕ) (s t : Scene) (g : Ground p words s) (g' : Ground p now t) (ch : ChangeFor p Other s t) (j : ℕ) (ne : Other (Seat j)) where
+module _ (p : ConfigParts) (ok : IsSetting p) (Other : Owner → Type 0) (words now : List ℕ) (s t : Scene) (g : Ground p words s) (g' : Ground p now t) (ch : ChangeFor p Other s t) (rise : (server : ℕ) → s.counter server ≤ t.counter server) (j : ℕ) (ne : Other (Seat j)) where
   grown : (e : ℕ) → Grows s t j e e
-  grown e = record { more = ch.more; longer = ch.longer; linked = ch.linked; pending = λ n. (ch.posts j n (Pending j) ne refl).0; later = omega arith }
+  grown e = record { more = ch.more; longer = ch.longer; linked = ch.linked; pending = λ n. (ch.posts j n (Pending j) ne refl).0; counts = rise; later = omega arith }
 
   -- the locks that the seat has, and the nodes under them
   still : (n : ℕ) (h : Hold) → Owns (s.hold (lock_of p n)) (Seat j) → s.hold (lock_of p n) ≡ h → t.hold (lock_of p n) ≡ h
@@ -244,7 +251,7 @@ module _ (p : ConfigParts) (ok : IsSetting p) (Other : Owner → Type 0) (words 
   others_fit f q e m duty (Seek aim d) le h =
       let n : ℕ = m.reads.node in
       let o = held_owns (s.hold (lock_of p n)) j d h.2 in
-      (h.0, there_on m.call aim n h.1, still n (Held (Seat j) d) o h.2, record { standing = h.3.standing ∙ sym (same n (target aim) h.1.low h.1.linked o); image = h.3.image; accepted_is = h.3.accepted_is; split = h.3.split }, h.4)
+      (h.0, there_on m.call aim n h.1, still n (Held (Seat j) d) o h.2, record { standing = h.3.standing ∙ sym (same n (target aim) h.1.low h.1.linked o); image = h.3.image; accepted_is = h.3.accepted_is; split = h.3.split }, seeking_on p s t j 0 0 0 0 (grown 0) m.walk m.spare h.4)
   others_fit f q e m duty (Fill n d r done write after) le h =
       let o = held_owns (s.hold (lock_of p n)) j d h.0 in
       (still n (Held (Seat j) d) o h.0, half_on p s t j n (under n o) (entries_by j m.call m.reply) m.body m.right r write duty after h.1, filled_on m.spare m.right r done h.2, h.3, h.4)
@@ -258,7 +265,7 @@ module _ (p : ConfigParts) (ok : IsSetting p) (Other : Owner → Type 0) (words 
       (record { real = k.real; some = k.some; depth = k.depth; held = still n x o k.held; carries = k.carries; left = k.left }, plans_on p s t j n (under n o) f q e e (grown e) m.call m.reply m.spare m.body m.right write duty after le (λ fresh. filled_on m.spare m.right fresh (node_size p)) h.1)
   others_fit f q e m duty (Unlock n after) le h = (holding_on n None h.0, follows_on p s t j f q e e (grown e) m.call m.reply duty after le h.1)
   others_fit f q e m duty (Leave n carry after) le h = (leaving_on n carry h.0, follows_on p s t j f q e e (grown e) m.call m.reply duty after le h.1)
-  others_fit f q e m duty (Top post root) le h = (h.0, below_on p s t j 0 0 0 0 (grown 0) post root h.1, h.2)
+  others_fit f q e m duty (Top post root) le h = (h.0, below_on p s t j 0 0 0 0 (grown 0) post root h.1, seeking_on p s t j 0 0 0 0 (grown 0) m.walk m.spare h.2)
   others_fit f q e m duty (Raise post root r done) le h = (h.0, below_on p s t j 0 0 0 0 (grown 0) post root h.1, h.2, filled_on m.spare m.right r done h.3, h.4, h.5)
   others_fit f q e m duty (Swap post root r) le h = (h.0, below_on p s t j 0 0 0 0 (grown 0) post root h.1, h.2, filled_on m.spare m.right r (node_size p) h.3, h.4)
   others_fit f q e m duty Ended le h = h
@@ -293,6 +300,7 @@ module _ (p : ConfigParts) (ok : IsSetting p) (Other : Owner → Type 0) (words 
         seen = omega (arith, ap length ch.longer, length-append s.log ch.more, k.seen);
         first = k.first;
         answered = subst (λ (es : List LogEntry). AreAnswered es j b.dones) (sym ch.longer) (answered_longer j b.dones s.log ch.more k.answered);
+        causes = causes_on p s.counter t.counter (λ server lt. rise server) s.log ch.more t.log ch.longer j b.dones k.answered k.causes;
         ordered = k.ordered;
         mine = ap (made_by j) ch.longer ∙ made_by-append j s.log ch.more ∙ ap (λ (es : List LogEntry). made_by j s.log ++ es) (made_by_none j ch.more (ch.entries j ne)) ∙ append-nil (made_by j s.log) ∙ k.mine;
       }
@@ -331,29 +339,31 @@ module _ (p : ConfigParts) (Has Now : ℕ → Actor → Type 0) (i : ℕ) (a : A
 
   module _ (ok : IsSetting p) (words now : List ℕ) (s t : Scene) (g : Ground p words s) (g' : Ground p now t) (here : Keeps p t i a)
       (kept : (j : ℕ) (b : Actor) → Has j b → Keeps p s j b) (held : (j l : ℕ) → Owns (s.hold l) (Seat j) → (b : Actor) × Has j b)
-      (pends : (j n : ℕ) → s.post n ≡ Pending j → (b : Actor) × Has j b) (skips : (j n : ℕ) → s.post n ≡ Skipped j → (b : Actor) × Has j b) where
-    pub step_to : (After : ℕ → ℕ → ℕ → Type 0) (Other : Owner → Type 0) → ((j : ℕ) → j ≢ i → Other (Seat j)) → ChangeFor p Other s t
+      (pends : (j n : ℕ) → s.post n ≡ Pending j → (b : Actor) × Has j b) (skips : (j n : ℕ) → s.post n ≡ Skipped j → (b : Actor) × Has j b)
+      (makes : (j : ℕ) → made_by j s.log ≢ [] → (b : Actor) × Has j b) where
+    pub step_to : (After : ℕ → ℕ → ℕ → Type 0) (Other : Owner → Type 0) → ((j : ℕ) → j ≢ i → Other (Seat j)) → ChangeFor p Other s t → ((server : ℕ) → s.counter server ≤ t.counter server)
         → ((server : ℕ) → server < p.servers → Bounded p.chunks (all_seats p) (t.counter server) (λ j. SomeAdds p Now server j))
         → ((l c d : ℕ) → t.hold l ≡ Held (Right c) d → After l c d) → ((l c d : ℕ) → After l c d → t.hold l ≡ Held (Right c) d) → Inv p now t.log Now After
-    step_to After Other other ch bounded given out = record {
+    step_to After Other other ch rise bounded given out = record {
       scene = t;
       log_is = refl;
       ground = g';
       bounded = bounded;
       kept = λ j b h. elim (mv.back j b h) [
         | inl e ↦ subst (λ (x : ℕ × Actor). Keeps p t x.0 x.1) (λ z. (sym e.0 z, sym e.1 z)) here
-        | inr o ↦ others_keep p ok Other words now s t g g' ch j (other j o.0) b (kept j b o.1)
+        | inr o ↦ others_keep p ok Other words now s t g g' ch rise j (other j o.0) b (kept j b o.1)
       ];
       held = λ j l o. still_there j (λ n. held j l (ch.back (Seat j) l (other j n) o));
       pends = λ j n e. still_there j (λ ne. pends j n ((ch.posts j n (Pending j) (other j ne) refl).1 e));
       skips = λ j n e. still_there j (λ ne. skips j n ((ch.posts j n (Skipped j) (other j ne) refl).1 e));
+      makes = λ j h. still_there j (λ ne. makes j (λ e. h (ap (made_by j) ch.longer ∙ made_by-append j s.log ch.more ∙ ap (λ (es : List LogEntry). es ++ made_by j ch.more) e ∙ made_by_none j ch.more (ch.entries j (other j ne)))));
       given = given;
       out = out;
     }
 
     -- a turn leaves the rights
-    pub turn_to : (Out : ℕ → ℕ → ℕ → Type 0) → Change p i s t → ((server : ℕ) → server < p.servers → Bounded p.chunks (all_seats p) (t.counter server) (λ j. SomeAdds p Now server j))
+    pub turn_to : (Out : ℕ → ℕ → ℕ → Type 0) → Change p i s t → ((server : ℕ) → s.counter server ≤ t.counter server) → ((server : ℕ) → server < p.servers → Bounded p.chunks (all_seats p) (t.counter server) (λ j. SomeAdds p Now server j))
         → ((l c d : ℕ) → s.hold l ≡ Held (Right c) d → Out l c d) → ((l c d : ℕ) → Out l c d → s.hold l ≡ Held (Right c) d) → Inv p now t.log Now Out
-    turn_to Out ch bounded given out = step_to Out (λ o. o ≢ Seat i) (λ j ne. seat_apart j i ne) ch bounded
+    turn_to Out ch rise bounded given out = step_to Out (λ o. o ≢ Seat i) (λ j ne. seat_apart j i ne) ch rise bounded
         (λ l c d e. let o = ch.back (Right c) l (right_apart c i) (right_owns (t.hold l) c d e) in given l c d (sym (ch.holds (Right c) l (right_apart c i) o) ∙ e))
         (λ l c d o. let e = out l c d o in ch.holds (Right c) l (right_apart c i) (right_owns (s.hold l) c d e) ∙ e)

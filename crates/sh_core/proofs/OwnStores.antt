@@ -48,7 +48,7 @@ module _ (p : ConfigParts) (ok : IsSetting p) (words : List ℕ) (Has Now : ℕ 
     T = filled s r done (get_or m.right done 0)
 
     same : SameNodes s T
-    same = record { log = refl; class = λ n. refl; post = λ n. refl }
+    same = record { log = refl; class = λ n. refl; post = λ n. refl; counts = λ server. omega arith }
 
     abbrev now : List ℕ
     now = set words (node_word p r + done) (get_or m.right done 0)

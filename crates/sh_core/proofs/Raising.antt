@@ -37,5 +37,5 @@ module _ (p : ConfigParts) (s t : Scene) (i f q e n : ℕ) (m : Machine) (ph : P
   }
 
 -- a walk begins where no node is spare
-pub begins_walk : (p : ConfigParts) (ok : IsSetting p) (seat : ℕ) (spare : NodeRange) → spare.count ≡ 0 → IsSeeking p (start_of p seat) spare
-begins_walk p ok seat spare none = record { walk_is = record { first = mod-lt seat ok.ranged.servers.0; passed = omega (arith, ok.ranged.servers.0); found = λ chunk e. cc }; wants = tt; none = none }
+pub begins_walk : (p : ConfigParts) (ok : IsSetting p) (s : Scene) (seat : ℕ) (spare : NodeRange) → spare.count ≡ 0 → IsSeeking p s (start_of p seat) spare
+begins_walk p ok s seat spare none = record { walk_is = record { first = mod-lt seat ok.ranged.servers.0; passed = omega (arith, ok.ranged.servers.0); found = λ chunk e. cc }; wants = tt; passed = λ k lt. absurd (omega (arith, lt)); none = none }

@@ -26,6 +26,7 @@ use Rattle.sh_core.specs.Actors.{Actor, becomes, ending, stepped, turned}
 use Rattle.sh_core.specs.Fits.{Fits}
 use Rattle.sh_core.specs.Keeps.{holding, Hands, pending, Keeps}
 use Rattle.sh_core.specs.Core.{Inv, Moves, SomeAdds}
+use Rattle.sh_core.proofs.Causes.{decided_cause}
 use Rattle.sh_core.proofs.Others.{named_on, seat_apart, adds_before, bounded_less, step_to}
 use Rattle.sh_core.proofs.Frame.{next, me, at, with, goes_on, ends_now, decided_ends, work_with, work_ended, same_grows, IsCalm, no_add, Before}
 use Rattle.sh_core.proofs.Locks.{same_hold, hands_take, hands_drop}
@@ -49,7 +50,7 @@ module _ (p : ConfigParts) (ok : IsSetting p) (words : List ℕ) (Has Now : ℕ 
       → ((k c d : ℕ) → (with_hold s l x).hold k ≡ Held (Right c) d → After k c d) → ((k c d : ℕ) → After k c d → (with_hold s l x).hold k ≡ Held (Right c) d) → Inv p words s.log Now After
   hands_to l x x' ch k calm mv given out =
       let t : Scene = with_hold s l x in
-      step_to p Has Now i x' mv ok words words s t b.ground ch.1 k b.kept b.held b.pends b.skips After (λ o. (o ≢ Seat i) × (o ≢ Right (compute_of p i))) (λ j ne. (seat_apart j i ne, λ q. seat_right j (compute_of p i) q)) ch.0
+      step_to p Has Now i x' mv ok words words s t b.ground ch.1 k b.kept b.held b.pends b.skips b.makes After (λ o. (o ≢ Seat i) × (o ≢ Right (compute_of p i))) (λ j ne. (seat_apart j i ne, λ q. seat_right j (compute_of p i) q)) ch.0 (λ server. omega arith)
       (λ server lt. bounded_less p.chunks (all_seats p) (s.counter server) (λ j. SomeAdds p Has server j) (λ j. SomeAdds p Now server j) (adds_before p Has Now i x' mv server (λ q. no_add p server x'.client x'.client.phase calm q)) (b.bounded server lt))
       given out
 
@@ -71,7 +72,7 @@ module _ (p : ConfigParts) (ok : IsSetting p) (words : List ℕ) (Has Now : ℕ 
       let same = same_hold s l x in
       let q : Machine = with p i m m.tally (start_of n) m.walk m.body m.right (Holds aim depth) in
       hands_to l x (next a (length sn) q) (swap_others l x ch)
-      (goes_on p s t i (length sn) (me p i a m (Look aim n)) q k refl more short
+      (goes_on p s t i (length sn) (me p i a m (Look aim n)) q k refl (λ server. omega arith) more short
       (work_with p s t i a.first a.point a.seen (length sn) m (Look aim n) k.work same more m.tally (start_of n) m.walk m.body m.right (Holds aim depth) refl
       (f.0, named_on p s t i 0 0 0 0 (same_grows s t i 0 0 same (omega arith)) (target aim) n (key_of m.call aim) f.1, put_here s.hold l x, record { left = omega (arith, node_size_is p); standing = drop_of_length-le (s.node n) short_node })
       (hands_take s i l x k.work.hands)) refl) tt mv
@@ -130,17 +131,17 @@ module _ (p : ConfigParts) (ok : IsSetting p) (words : List ℕ) (Has Now : ℕ 
     goes_off after to k fits off same calm mv =
         let q : Machine = with p i m given_over m.reads m.walk m.body m.right to in
         puts_out after k (next a (length sn) q)
-        (goes_on p s T i (length sn) (me p i a m (Leave n (Some depth) after)) q k refl more short
+        (goes_on p s T i (length sn) (me p i a m (Leave n (Some depth) after)) q k refl (λ server. omega arith) more short
         (work_with p s T i a.first a.point a.seen (length sn) m (Leave n (Some depth) after) k.work (same_hold s (lock_of p n) (Held (Right (compute_of p i)) depth)) more given_over m.reads m.walk m.body m.right to refl fits (subst (Hands T i) (sym off) (dropped after k))) same) calm mv
 
     parts : (after : Then) → Has i (me p i a m (Leave n (Some depth) after)) → Moves Has i (becomes i (me p i a m (Leave n (Some depth) after)) sn [] (followed (handed_over (at p i m (Leave n (Some depth) after))) after)) Now → Inv p words s.log Now After
     parts Ends h mv =
         let k = b.kept i (me p i a m (Leave n (Some depth) Ends)) h in
         let f = k.work.fits.1 in
-        let end = decided_ends p s.log sn rest i a m whole more k.first m.call m.reply f.1 in
+        let end = decided_ends p s sn rest i a m whole more k.first m.call m.reply f.1 in
         puts_out Ends k (ending i (me p i a m (Leave n (Some depth) Ends)) sn (with p i m given_over m.reads m.walk m.body m.right Ended))
-        (ends_now p s T i (me p i a m (Leave n (Some depth) Ends)) (with p i m given_over m.reads m.walk m.body m.right Ended) sn k refl short more
-        (work_ended p s T i a.first a.point a.seen (length sn) m (Leave n (Some depth) Ends) k.work (same_hold s (lock_of p n) (Held (Right (compute_of p i)) depth)) more given_over m.reply m.reads m.walk m.body m.right refl f.0 (dropped Ends k)) end.answered end.from end.past refl refl) tt mv
+        (ends_now p s T i (me p i a m (Leave n (Some depth) Ends)) (with p i m given_over m.reads m.walk m.body m.right Ended) sn k refl (λ server. omega arith) short more
+        (work_ended p s T i a.first a.point a.seen (length sn) m (Leave n (Some depth) Ends) k.work (same_hold s (lock_of p n) (Held (Right (compute_of p i)) depth)) more given_over m.reply m.reads m.walk m.body m.right refl f.0 (dropped Ends k)) end.answered (decided_cause p s sn i a more m.call m.reply f.1) end.from end.past refl refl) tt mv
     parts (Starts aim) h mv = let k = b.kept i (me p i a m (Leave n (Some depth) (Starts aim))) h in goes_off (Starts aim) (Root aim) k k.work.fits.1 refl refl tt mv
     parts (Takes aim node) h mv =
         let k = b.kept i (me p i a m (Leave n (Some depth) (Takes aim node))) h in

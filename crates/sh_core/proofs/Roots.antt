@@ -31,6 +31,7 @@ use Rattle.sh_core.specs.Actors.{Actor, becomes, ending}
 use Rattle.sh_core.specs.Fits.{HasEntry, IsDecided, Owes}
 use Rattle.sh_core.specs.Keeps.{Waits, Skips}
 use Rattle.sh_core.specs.Core.{Inv, Moves}
+use Rattle.sh_core.proofs.Causes.{decided_cause}
 use Rattle.sh_core.proofs.Others.{owes_on}
 use Rattle.sh_core.proofs.Frame.{next, me, at, goes_on, ends_now, decided_ends, same_here, same_grows, Before, moves_to, stays, one_log}
 use Rattle.sh_core.proofs.Locks.{Claim}
@@ -39,16 +40,16 @@ no_entry : (e : LogEntry) → [] ≡ e ∷ [] → ⊥
 no_entry e q = cc
 
 -- a call that has made its entry is answered by it
-pub decided_entry : (p : ConfigParts) (log : List LogEntry) (i f q e : ℕ) (c : Call) (r : Reply) → HasEntry log i f q e c r → IsDecided p log i f q e c r
-decided_entry p log i f q e (call.Put key value) (reply.Some old) h = h
-decided_entry p log i f q e (call.Put key value) reply.None h = h
-decided_entry p log i f q e (call.Del key) (reply.Some old) h = h
-decided_entry p log i f q e c r h = absurd (no_entry h.entry h.is)
+pub decided_entry : (p : ConfigParts) (s : Scene) (i f q e : ℕ) (c : Call) (r : Reply) → HasEntry s.log i f q e c r → IsDecided p s i f q e c r
+decided_entry p s i f q e (call.Put key value) (reply.Some old) h = h
+decided_entry p s i f q e (call.Put key value) reply.None h = h
+decided_entry p s i f q e (call.Del key) (reply.Some old) h = h
+decided_entry p s i f q e c r h = absurd (no_entry h.entry h.is)
 
-pending_skipped : (i : ℕ) → Pending i ≡ Skipped i → ⊥
+pub pending_skipped : (i : ℕ) → Pending i ≡ Skipped i → ⊥
 pending_skipped i e = cc
 
-posted_skipped : (i : ℕ) → Posted ≡ Skipped i → ⊥
+pub posted_skipped : (i : ℕ) → Posted ≡ Skipped i → ⊥
 posted_skipped i e = cc
 
 -- a node that was to be posted is posted
@@ -88,10 +89,11 @@ module _ (p : ConfigParts) (ok : IsSetting p) (words : List ℕ) (Has Now : ℕ 
       let child : s.class c ≡ Linked s.height post.separator = w.linked ∙ ap (λ (l : ℕ). Linked l post.separator) below in
       let ch = root_act p words s b.ground i r root c post.separator ok root_is child w.some w.past w.mine f.3.own words_are in
       let t : Scene = grown s r c in
-      let end = decided_ends p s.log s.log [] i a m (sym (append-nil s.log)) k.seen k.first m.call m.reply (decided_entry p s.log i a.first a.point a.seen m.call m.reply w.entry) in
+      let decided = decided_entry p s i a.first a.point a.seen m.call m.reply w.entry in
+      let end = decided_ends p s s.log [] i a m (sym (append-nil s.log)) k.seen k.first m.call m.reply decided in
       one_log p ok words Has Now Out i s b (set words root_word r) t refl
       (moves_to p ok words Has Now Out i s b (set words root_word r) t (ending i (me p i a m (Swap post root r)) s.log (at p i m Ended)) ch
-      (ends_now p s t i (me p i a m (Swap post root r)) (at p i m Ended) s.log k refl (omega arith) k.seen record {
+      (ends_now p s t i (me p i a m (Swap post root r)) (at p i m Ended) s.log k refl (λ server. omega arith) (omega arith) k.seen record {
         seated = k.work.seated;
         duty = None;
         fits = refl;
@@ -100,14 +102,14 @@ module _ (p : ConfigParts) (ok : IsSetting p) (words : List ℕ) (Has Now : ℕ 
         waits = waits_posted s i post (subst (Waits s i) f.0 k.work.waits);
         spares = λ n is. put_else s.class r (Linked (suc s.height) 0) n (λ q. omega (arith, q, is.0, f.3.under)) ∙ k.work.spares n is;
         skips = skips_posted s t i (m.tally.skipped_spent + m.tally.skipped_worn) c (λ n. refl) w.mine k.work.skips;
-      } end.answered end.from end.past refl refl) (λ server. refl) tt mv)
+      } end.answered (decided_cause p s s.log i a k.seen m.call m.reply decided) end.from end.past refl refl) (λ server. refl) tt mv)
   swaps post root r false e h mv =
       let k = b.kept i (me p i a m (Swap post root r)) h in
       let f = k.work.fits in
       let n : Machine = at p i (sparing m (with_lowest r m.spare)) (Root (Posts post)) in
       one_log p ok words Has Now Out i s b words s refl
       (stays p ok words Has Now Out i s b (next a (length s.log) n)
-      (goes_on p s s i (length s.log) (me p i a m (Swap post root r)) n k refl k.seen (omega arith) record {
+      (goes_on p s s i (length s.log) (me p i a m (Swap post root r)) n k refl (λ server. omega arith) k.seen (omega arith) record {
         seated = k.work.seated;
         duty = k.work.duty;
         fits = f.0;

@@ -1,41 +1,35 @@
 -- The image of a node that stands, and the decisions on it that its hop leads to.
-use Rattle.std.proofs.Common.{◌≡◌, ◌≢◌, ℕ, zero, suc, ◌+◌, ◌-◌, ◌<◌, ◌≤◌, Bool, true, false, List, [], ◌∷◌, ◌++◌, length, get_or, Option, Some, None, refl, sym, ap, ◌∙◌, subst, arith}
-use Rattle.std.specs.Prelude.{◌^◌, if◌then◌else◌}
+use Rattle.std.proofs.Common.{◌≡◌, ℕ, zero, suc, Bool, true, false, List, refl, sym, ap, ◌∙◌, subst, arith}
+use Rattle.std.specs.Prelude.{if◌then◌else◌}
 use Rattle.sh_base.specs.declared.config.ConfigParts.{ConfigParts}
-use Rattle.sh_base.specs.Setting.{node_size, IsSetting}
-use Rattle.sh_map.specs.Calls.{IsKey}
+use Rattle.sh_base.specs.Setting.{IsSetting}
 use Rattle.sh_image.specs.declared.inner.Image.{Image}
 use Rattle.sh_image.specs.declared.inner.Image.TheVariants.{Leaf as LeafImage, Inner as InnerImage}
 use Rattle.sh_image.specs.Leaf.{Leaf, leaf_in, Spells}
 use Rattle.sh_image.specs.Inner.{Inner, inner_in, SpellsInner}
-use Rattle.sh_read.specs.Reads.{Reads, reads_with}
+use Rattle.sh_read.specs.Reads.{reads_with}
 use Rattle.sh_descend.specs.declared.Hop.{Hop}
 use Rattle.sh_descend.specs.declared.Hop.TheVariants.{Here, Right as HopRight, Down, Restart as HopRestart}
-use Rattle.sh_descend.specs.Descent.{hop_of, level_of}
+use Rattle.sh_descend.specs.Descent.{hop_of}
 use Rattle.sh_scene.specs.Scene.{Linked, Scene}
 use Rattle.sh_scene.specs.Ground.{Ground}
 use Rattle.sh_scene.specs.Nodes.{level_in}
 use Rattle.sh_scene.proofs.Spelled.{leaf_is, inner_is}
 use Rattle.sh_known.specs.Hand.{IsImageOf}
 use Rattle.sh_known.proofs.HandLemmas.{inner_image, right_named}
-use Rattle.sh_decide.specs.declared.state.Post.{Post}
 use Rattle.sh_client.specs.declared.state.Tally.{Tally}
 use Rattle.sh_decide.specs.declared.state.Aim.{Aim}
-use Rattle.sh_decide.specs.declared.state.Aim.TheVariants.{Own, Posts}
 use Rattle.sh_client.specs.declared.state.Then.TheVariants.{Starts, Takes}
-use Rattle.sh_decide.specs.declared.state.Decision.{Decision}
 use Rattle.sh_decide.specs.declared.state.Decision.TheVariants as decision
 use Rattle.sh_client.specs.declared.state.Phase.TheVariants.{Hold as Holds}
 use Rattle.sh_client.specs.Machine.{Machine, up}
 use Rattle.sh_decide.specs.Aims.{is_node, key_of, target}
-use Rattle.sh_decide.specs.Deciding.{decided_by, decided_here, decision_of}
+use Rattle.sh_decide.specs.Deciding.{decided_by, decided_here}
 use Rattle.sh_client.specs.Feeds.{did}
 use Rattle.sh_core.specs.Actors.{Actor}
-use Rattle.sh_core.specs.Fits.{Owes, duty_of}
-use Rattle.sh_core.specs.Core.{Inv, Moves}
 use Rattle.sh_core.proofs.Frame.{me, with, Before}
-use Rattle.sh_core.proofs.OnWay.{key_past}
-use Rattle.sh_core.proofs.UnderLock.{K, Lands, gives}
+use Rattle.sh_core.proofs.OnWay.{aim_key}
+use Rattle.sh_core.proofs.UnderLock.{Lands, gives}
 
 module _ (p : ConfigParts) (words : List ℕ) (s : Scene) (g : Ground p words s) (n low : ℕ) (ws : List ℕ) (is : ws ≡ s.node n) where
   -- words that spell a leaf are those of one
@@ -76,10 +70,6 @@ module _ (p : ConfigParts) (ok : IsSetting p) (words : List ℕ) (Has Now : ℕ 
   abbrev Goes : Machine → Type 0
   Goes n = Lands p ok words Has Now Out i s b a m aim depth h n
 
-  key_is : (aim : Aim) (duty : Option Post) → duty ≡ duty_of aim → Owes s i a.first a.point a.seen m.call m.reply duty → IsKey (key_of m.call aim)
-  key_is Own duty e o = key_past p m.call (b.kept i (me p i a m (Holds aim depth)) h).work.seated.in_range
-  key_is (Posts post) duty e o = let w = subst (Owes s i a.first a.point a.seen m.call m.reply) e o in (w.some, w.past)
-
   -- the lock is given back, and the descent starts again
   pub restarts : (image : Image) → Goes (did M aim depth image decision.Restart)
   restarts image mv = let k = b.kept i (me p i a m (Holds aim depth)) h in gives p ok words Has Now Out i s b a m aim depth h m.tally loaded (Starts aim) refl k.work.fits.0 refl mv
@@ -89,7 +79,7 @@ module _ (p : ConfigParts) (ok : IsSetting p) (words : List ℕ) (Has Now : ℕ 
   rights image r img e mv =
       let k = b.kept i (me p i a m (Holds aim depth)) h in
       let f = k.work.fits in
-      let key = key_is aim k.work.duty f.0 k.work.owes in
+      let key = aim_key p s i a.first a.point a.seen m.call m.reply aim k.work.duty k.work.seated.in_range f.0 k.work.owes in
       gives p ok words Has Now Out i s b a m aim depth h hopped loaded (Takes aim r) refl (f.0, right_named s (target aim) f.1.low (key_of m.call aim) (target aim) image img f.1.below r key.1 e) refl mv
 
   -- so what is left is the decision where the node covers the key

@@ -34,10 +34,10 @@ use Rattle.sh_core.specs.Core.{Inv, Moves}
 use Rattle.sh_core.proofs.Frame.{me, with, Before}
 use Rattle.sh_core.proofs.Locks.{quiet}
 
-is_lt : (a b : ℕ) → nat_lt a b ≡ true → a < b
+pub is_lt : (a b : ℕ) → nat_lt a b ≡ true → a < b
 is_lt a b e = grind (arith, nat_tests)
 
-not_lt : (a b : ℕ) → nat_lt a b ≡ false → b ≤ a
+pub not_lt : (a b : ℕ) → nat_lt a b ≡ false → b ≤ a
 not_lt a b e = grind (arith, nat_tests)
 
 module _ (p : ConfigParts) (ok : IsSetting p) (words : List ℕ) (Has Now : ℕ → Actor → Type 0) (Out : ℕ → ℕ → ℕ → Type 0) (i : ℕ) (s : Scene) (b : Before p words Has Out s) (a : Actor) (m : Machine) (aim : Aim) (depth : ℕ)

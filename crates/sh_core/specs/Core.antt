@@ -1,5 +1,5 @@
 -- The invariant of clients over one pool, and the laws that keep it, whatever the order of their turns.
-use Rattle.std.specs.Prelude.{◌≡◌, ◌≢◌, ◌⊎◌, ℕ, ◌<◌, ◌≤◌, true, List, ◌++◌, length, Some, None}
+use Rattle.std.specs.Prelude.{◌≡◌, ◌≢◌, ◌⊎◌, ℕ, ◌<◌, ◌≤◌, true, List, [], ◌++◌, length, Some, None}
 use Rattle.sh_base.specs.declared.config.ConfigParts.{ConfigParts}
 use Rattle.sh_base.specs.declared.event.Event.{Event}
 use Rattle.sh_base.specs.declared.event.Event.TheVariants as event
@@ -21,7 +21,7 @@ use Rattle.sh_client.specs.Machine.{Machine}
 use Rattle.sh_client.specs.Giving.{makes}
 use Rattle.sh_client.specs.Rests.{is_resting}
 use Rattle.sh_client.specs.Wants.{want_of}
-use Rattle.sh_core.specs.Actors.{Actor, begun, rested, stepped, turned}
+use Rattle.sh_core.specs.Actors.{Actor, begun, made_by, rested, stepped, turned}
 use Rattle.sh_core.specs.Keeps.{Keeps}
 
 -- a client is to count a server's counter on
@@ -33,7 +33,7 @@ abbrev pub SomeAdds : ConfigParts → (Has : ℕ → Actor → Type 0) → (serv
 SomeAdds p Has server seat = (a : Actor) × Has seat a × WantsAdd p server a.client
 
 -- The invariant over the words, the log, the relation that says which actor a seat has, and the rights that are out: the
--- lock, the compute server, and how often the lock was handed over.
+-- lock, the compute server, and how often the lock was handed over. A seat that has done anything has an actor.
 pub record Inv (p : ConfigParts) (words : List ℕ) (log : List LogEntry) (Has : ℕ → Actor → Type 0) (Out : (lock compute depth : ℕ) → Type 0) : Type 0 where
   pub scene : Scene
   pub log_is : scene.log ≡ log
@@ -43,6 +43,7 @@ pub record Inv (p : ConfigParts) (words : List ℕ) (log : List LogEntry) (Has :
   pub held : (seat lock : ℕ) → Owns (scene.hold lock) (Seat seat) → (a : Actor) × Has seat a
   pub pends : (seat n : ℕ) → scene.post n ≡ Pending seat → (a : Actor) × Has seat a
   pub skips : (seat n : ℕ) → scene.post n ≡ Skipped seat → (a : Actor) × Has seat a
+  pub makes : (seat : ℕ) → made_by seat scene.log ≢ [] → (a : Actor) × Has seat a
   pub given : (lock compute depth : ℕ) → scene.hold lock ≡ Held (Right compute) depth → Out lock compute depth
   pub out : (lock compute depth : ℕ) → Out lock compute depth → scene.hold lock ≡ Held (Right compute) depth
 
@@ -118,6 +119,3 @@ SameKeeps p = (words : List ℕ) (log : List LogEntry) (Has Now : ℕ → Actor 
 pub record AllRest (p : ConfigParts) (s : Scene) (log : List LogEntry) : Type 0 where
   pub free : (lock : ℕ) → s.hold lock ≡ Nobody
   pub posted : (seat n : ℕ) → s.post n ≢ Pending seat
-
-abbrev pub AtRest : ConfigParts → Type 1
-AtRest p = (words : List ℕ) (log : List LogEntry) (Has : ℕ → Actor → Type 0) (Out : ℕ → ℕ → ℕ → Type 0) → (inv : Inv p words log Has Out) → ((seat : ℕ) (a : Actor) → Has seat a → is_resting a.client ≡ true) → ((lock compute depth : ℕ) → Out lock compute depth → ⊥) → AllRest p inv.scene log

@@ -1,5 +1,5 @@
 -- What a client knows of the scene, by what it is at.
-use Rattle.std.specs.Prelude.{◌≡◌, ◌≢◌, ℕ, zero, suc, ◌+◌, ◌-◌, ◌*◌, ◌^◌, ◌<◌, ◌≤◌, Bool, true, false, List, [], ◌∷◌, length, drop, slice_index, slice_set, slice_get, Option, Some, None}
+use Rattle.std.specs.Prelude.{◌≡◌, ◌≢◌, ℕ, zero, suc, ◌+◌, ◌-◌, ◌*◌, ◌^◌, ◌%◌, ◌<◌, ◌≤◌, Bool, true, false, List, [], ◌∷◌, length, drop, slice_index, slice_set, slice_get, Option, Some, None}
 use Rattle.sh_base.specs.declared.config.ConfigParts.{ConfigParts}
 use Rattle.sh_base.specs.Setting.{node_size, last_version, IsNode}
 use Rattle.sh_base.specs.Layout.{lock_of, entry_at}
@@ -119,10 +119,19 @@ pub record IsToSplit (p : ConfigParts) (s : Scene) (call : Call) (reads : Reads)
 abbrev pub AreSpares : Scene → (seat : ℕ) → NodeRange → Type 0
 AreSpares s seat spare = (n : ℕ) → IsSpare spare n → s.class n ≡ Fresh seat
 
+-- every server's counter is at or above the number of its chunks
+abbrev pub AreSpent : ConfigParts → (counter : ℕ → ℕ) → Type 0
+AreSpent p counter = (server : ℕ) → server < p.servers → p.chunks ≤ counter server
+
+-- so are the counters of the servers that a walk has passed
+abbrev pub ArePassed : ConfigParts → (counter : ℕ → ℕ) → Walk → Type 0
+ArePassed p counter walk = (k : ℕ) → k < walk.passed → p.chunks ≤ counter ((walk.first + k) % p.servers)
+
 -- a walk over the counters is under way, while no node is spare
-pub record IsSeeking (p : ConfigParts) (walk : Walk) (spare : NodeRange) : Type 0 where
+pub record IsSeeking (p : ConfigParts) (s : Scene) (walk : Walk) (spare : NodeRange) : Type 0 where
   pub walk_is : IsWalk p walk
   pub wants : WantsEvent (walk_wants p walk)
+  pub passed : ArePassed p s.counter walk
   pub none : spare.count ≡ 0
 
 -- an own node that isn't spare, of which so many words are stored
@@ -224,20 +233,21 @@ pub record HadNone (log : List LogEntry) (first seen key : ℕ) : Type 0 where
   pub below : at ≤ seen
   pub absent : get (map_at log at) key ≡ None
 
--- the reply that is decided: an update has its entry; a delete without one found nothing; and a node or the pool was used up
-abbrev pub IsDecided : ConfigParts → List LogEntry → (seat first point seen : ℕ) → Call → Reply → Type 0
-IsDecided p log seat first point seen (call.Put key value) (reply.Some old) = HasEntry log seat first point seen (call.Put key value) (reply.Some old)
-IsDecided p log seat first point seen (call.Put key value) reply.None = HasEntry log seat first point seen (call.Put key value) reply.None
-IsDecided p log seat first point seen (call.Del key) (reply.Some old) = HasEntry log seat first point seen (call.Del key) (reply.Some old)
-IsDecided p log seat first point seen (call.Del key) reply.None = HadNone log first seen key
-IsDecided p log seat first point seen (call.Put key value) reply.Full = Unit {0}
-IsDecided p log seat first point seen (call.Put key value) (reply.Worn version) = last_version p ≤ version
-IsDecided p log seat first point seen (call.Del key) (reply.Worn version) = last_version p ≤ version
-IsDecided p log seat first point seen call reply = ⊥
+-- The reply that is decided: an update has its entry; a delete without one found nothing; a put that found nothing was full
+-- where all chunks were drawn; and a node's versions were used up.
+abbrev pub IsDecided : ConfigParts → Scene → (seat first point seen : ℕ) → Call → Reply → Type 0
+IsDecided p s seat first point seen (call.Put key value) (reply.Some old) = HasEntry s.log seat first point seen (call.Put key value) (reply.Some old)
+IsDecided p s seat first point seen (call.Put key value) reply.None = HasEntry s.log seat first point seen (call.Put key value) reply.None
+IsDecided p s seat first point seen (call.Del key) (reply.Some old) = HasEntry s.log seat first point seen (call.Del key) (reply.Some old)
+IsDecided p s seat first point seen (call.Del key) reply.None = HadNone s.log first seen key
+IsDecided p s seat first point seen (call.Put key value) reply.Full = AreSpent p s.counter × HadNone s.log first seen key
+IsDecided p s seat first point seen (call.Put key value) (reply.Worn version) = version ≡ last_version p
+IsDecided p s seat first point seen (call.Del key) (reply.Worn version) = version ≡ last_version p
+IsDecided p s seat first point seen call reply = ⊥
 
 -- behind the lock the call ends, or a descent goes on
 abbrev pub Follows : ConfigParts → Scene → (seat first point seen : ℕ) → Call → Reply → Option Post → Then → Type 0
-Follows p s seat first point seen call reply duty Ends = (duty ≡ None) × IsDecided p s.log seat first point seen call reply
+Follows p s seat first point seen call reply duty Ends = (duty ≡ None) × IsDecided p s seat first point seen call reply
 Follows p s seat first point seen call reply duty (Starts aim) = duty ≡ duty_of aim
 Follows p s seat first point seen call reply duty (Takes aim node) = (duty ≡ duty_of aim) × IsNamed s (target aim) node (key_of call aim)
 
@@ -316,13 +326,13 @@ Fits p s i f q e m duty (Draw aim n) = (duty ≡ duty_of aim) × IsThere s m.cal
 Fits p s i f q e m duty (Look aim n) = (duty ≡ duty_of aim) × IsThere s m.call aim n
 Fits p s i f q e m duty (Grab aim n) = (duty ≡ duty_of aim) × IsThere s m.call aim n
 Fits p s i f q e m duty (Holds aim depth) = (duty ≡ duty_of aim) × IsThere s m.call aim m.reads.node × (s.hold (lock_of p m.reads.node) ≡ Held (Seat i) depth) × IsReading p s m.reads
-Fits p s i f q e m duty (Seek aim depth) = (duty ≡ duty_of aim) × IsThere s m.call aim m.reads.node × (s.hold (lock_of p m.reads.node) ≡ Held (Seat i) depth) × IsToSplit p s m.call m.reads aim × IsSeeking p m.walk m.spare
+Fits p s i f q e m duty (Seek aim depth) = (duty ≡ duty_of aim) × IsThere s m.call aim m.reads.node × (s.hold (lock_of p m.reads.node) ≡ Held (Seat i) depth) × IsToSplit p s m.call m.reads aim × IsSeeking p s m.walk m.spare
 Fits p s i f q e m duty (Fill n depth fresh done write after) = (s.hold (lock_of p n) ≡ Held (Seat i) depth) × PlansHalf p s i (entries_by i m.call m.reply) m.body m.right n fresh write duty after × IsFilled s i m.spare m.right fresh done × (done < node_size p) × IsNode p n
 Fits p s i f q e m duty (Waiting n depth write after) = (s.hold (lock_of p n) ≡ Held (Seat i) depth) × Plans p s i f q e m.call m.reply m.spare m.body m.right n write duty after × IsNode p n
 Fits p s i f q e m duty (Body n carry done write after) = IsStoring p s i m.body n carry done write × Plans p s i f q e m.call m.reply m.spare m.body m.right n write duty after
 Fits p s i f q e m duty (Unlock n after) = IsHolding p s i n None × Follows p s i f q e m.call m.reply duty after
 Fits p s i f q e m duty (Leave n carry after) = IsLeaving p s i n carry × Follows p s i f q e m.call m.reply duty after
-Fits p s i f q e m duty (Top post root) = (duty ≡ Some post) × IsBelow s post root × IsSeeking p m.walk m.spare
+Fits p s i f q e m duty (Top post root) = (duty ≡ Some post) × IsBelow s post root × IsSeeking p s m.walk m.spare
 Fits p s i f q e m duty (Raise post root fresh done) = (duty ≡ Some post) × IsBelow s post root × PlansRoot p m.right post root × IsFilled s i m.spare m.right fresh done × (done < node_size p) × (fresh + 1 ≡ m.spare.first)
 Fits p s i f q e m duty (Swap post root fresh) = (duty ≡ Some post) × IsBelow s post root × PlansRoot p m.right post root × IsFilled s i m.spare m.right fresh (node_size p) × (fresh + 1 ≡ m.spare.first)
 Fits p s i f q e m duty Ended = duty ≡ None

@@ -22,6 +22,7 @@ use Rattle.sh_client.specs.declared.state.Phase.TheVariants.{Idle, Root, Read, D
 use Rattle.sh_client.specs.Machine.{Machine}
 use Rattle.sh_core.specs.Actors.{Actor, AreAnswered, AreInOrder, made_by, updates}
 use Rattle.sh_core.specs.Fits.{AreSpares, Fits, Owes}
+use Rattle.sh_core.specs.Causes.{HaveCauses}
 
 -- the lock that a client holds
 abbrev pub lock_left : ConfigParts → (n : ℕ) → Option ℕ → Option ℕ
@@ -29,12 +30,6 @@ lock_left p n None = None
 lock_left p n (Some depth) = Some (lock_of p n)
 
 abbrev pub holding : ConfigParts → Machine → Phase → Option ℕ
-holding p m Idle = None
-holding p m (Root aim) = None
-holding p m (Read aim top) = None
-holding p m (Draw aim n) = None
-holding p m (Look aim n) = None
-holding p m (Grab aim n) = None
 holding p m (Hold aim depth) = Some (lock_of p m.reads.node)
 holding p m (Seek aim depth) = Some (lock_of p m.reads.node)
 holding p m (Fill n depth fresh done write after) = Some (lock_of p n)
@@ -42,10 +37,7 @@ holding p m (Waiting n depth write after) = Some (lock_of p n)
 holding p m (Body n carry done write after) = Some (lock_of p n)
 holding p m (Unlock n after) = Some (lock_of p n)
 holding p m (Leave n carry after) = lock_left p n carry
-holding p m (Top post root) = None
-holding p m (Raise post root fresh done) = None
-holding p m (Swap post root fresh) = None
-holding p m Ended = None
+holding p m phase = None
 
 -- a seat holds no lock but that one
 abbrev pub Hands : Scene → (seat : ℕ) → Option ℕ → Type 0
@@ -126,5 +118,6 @@ pub record Keeps (p : ConfigParts) (s : Scene) (seat : ℕ) (a : Actor) : Type 0
   pub seen : a.seen ≤ length s.log
   pub first : a.first ≤ a.seen
   pub answered : AreAnswered s.log seat a.dones
+  pub causes : HaveCauses p s.counter s.log a.dones
   pub ordered : AreInOrder 0 a.dones a.first
   pub mine : made_by seat s.log ≡ updates a.dones ++ pending seat a.client a.client.phase

@@ -1,4 +1,11 @@
 pub mod Actors
 pub mod Fits
+pub mod Causes
 pub mod Keeps
 pub mod Core
+pub mod Senses
+pub mod Opening
+pub mod Books
+pub mod Moments
+pub mod Rest
+pub mod Listed

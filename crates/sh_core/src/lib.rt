@@ -1,2 +1,63 @@
 //! Any number of clients over one pool: what holds at each moment, whatever the order of their turns.
 #![tactic(auto)]
+
+ghost use Rattle.std.specs.Prelude.{◌≡◌, ◌<◌, ◌≤◌, ◌++◌, ◌∷◌, [], ℕ, List, length, true, None, Some, slice_set};
+ghost use Rattle.sh_base.specs.Parts.{parts_of};
+ghost use Rattle.sh_base.specs.Setting.{all_seats};
+ghost use Rattle.sh_base.specs.Layout.{lock_of, compute_of};
+ghost use Rattle.sh_base.specs.Memory.{apply, found_by};
+ghost use Rattle.sh_base.specs.declared.event.Event.{Event};
+ghost use Rattle.sh_map.specs.declared.call.Call.{Call};
+ghost use Rattle.sh_map.specs.declared.log.Entry.{Entry};
+ghost use Rattle.sh_map.specs.declared.book.Done.{Done};
+ghost use Rattle.sh_map.specs.Calls.{IsInRange};
+ghost use Rattle.sh_own.specs.Laid.{AreLaid};
+ghost use Rattle.sh_decide.specs.declared.state.Aim.{Aim};
+ghost use Rattle.sh_client.specs.declared.state.Then.{Then};
+ghost use Rattle.sh_client.specs.declared.state.Want.TheVariants as want;
+ghost use Rattle.sh_client.specs.declared.state.Phase.TheVariants.{Look, Leave, Ended};
+ghost use Rattle.sh_client.specs.Giving.{makes};
+ghost use Rattle.sh_client.specs.Rests.{is_resting};
+ghost use Rattle.sh_client.specs.Wants.{want_of};
+ghost use Rattle.sh_core.specs.Actors.{Actor, begun, rested, stepped, turned};
+ghost use Rattle.sh_core.specs.Core.{HasSeen, IsLocal};
+ghost use Rattle.sh_core.specs.Opening.{entered};
+ghost use Rattle.sh_core.specs.Causes.{HaveCauses};
+ghost use Rattle.sh_core.specs.Books.{counter_in, HasAnswers, IsBookOf, IsLawfulBook};
+ghost use Rattle.sh_core.specs.Moments.{IsMoment};
+ghost use Rattle.sh_core.specs.Rest.{AreAtRest};
+ghost use Rattle.sh_core.specs.Listed.{HasAt, RightOut, OutAt, without, IsKept};
+
+mod senseless;
+
+pub use senseless::senseless_cases_never_come;
+use sh_base::Config;
+
+/// Clients take turns, in any order. A laid pool has the invariant, and everything that a seat can do keeps it: a new
+/// client enters; a client at rest begins a call; it makes the event that it wants; its compute server answers it; it
+/// has its turn in the queue, without a right or with one that it takes up; it hands a lock over; and its call that
+/// has ended is taken away. An event extends the log by the entries that it makes, and nothing else does.
+pub fn clients_take_turns(cfg: &Config)
+    ensures laid { (words : List ℕ) → AreLaid (parts_of cfg.now) words → IsKept (parts_of cfg.now) words [] [] [] }
+    ensures entered { (words : List ℕ) (log : List Entry) (actors : List Actor) (rights : List RightOut) → IsKept (parts_of cfg.now) words log actors rights → length actors < all_seats (parts_of cfg.now) → IsKept (parts_of cfg.now) words log (actors ++ entered (parts_of cfg.now) (length actors) ∷ []) rights }
+    ensures begun { (words : List ℕ) (log : List Entry) (actors : List Actor) (rights : List RightOut) (seat number n : ℕ) (a : Actor) (call : Call) → IsKept (parts_of cfg.now) words log actors rights → HasAt actors seat a → is_resting a.client ≡ true → IsInRange (parts_of cfg.now) call → a.seen ≤ n → n ≤ length log → IsKept (parts_of cfg.now) words log (slice_set actors seat (begun a number call n)) rights }
+    ensures turn { (words : List ℕ) (log : List Entry) (actors : List Actor) (rights : List RightOut) (seat : ℕ) (a : Actor) (e : Event) → IsKept (parts_of cfg.now) words log actors rights → HasAt actors seat a → want_of a.client ≡ want.Event e → IsKept (parts_of cfg.now) (apply words e) (log ++ makes a.client) (slice_set actors seat (stepped seat a log (found_by words e))) rights }
+    ensures local { (words : List ℕ) (log seen : List Entry) (actors : List Actor) (rights : List RightOut) (seat word : ℕ) (a : Actor) → IsKept (parts_of cfg.now) words log actors rights → HasAt actors seat a → IsLocal (want_of a.client) → HasSeen log seen a → IsKept (parts_of cfg.now) words log (slice_set actors seat (stepped seat a seen word)) rights }
+    ensures look { (words : List ℕ) (log seen : List Entry) (actors : List Actor) (rights : List RightOut) (seat n : ℕ) (a : Actor) (aim : Aim) → IsKept (parts_of cfg.now) words log actors rights → HasAt actors seat a → a.client.phase ≡ Look aim n → HasSeen log seen a → IsKept (parts_of cfg.now) words log (slice_set actors seat (turned seat a seen None)) rights }
+    ensures take { (words : List ℕ) (log seen : List Entry) (actors : List Actor) (rights : List RightOut) (seat n depth : ℕ) (a : Actor) (aim : Aim) → IsKept (parts_of cfg.now) words log actors rights → HasAt actors seat a → a.client.phase ≡ Look aim n → HasSeen log seen a → OutAt rights (lock_of (parts_of cfg.now) n) (compute_of (parts_of cfg.now) seat) depth → IsKept (parts_of cfg.now) words log (slice_set actors seat (turned seat a seen (Some depth))) (without (lock_of (parts_of cfg.now) n) rights) }
+    ensures part { (words : List ℕ) (log seen : List Entry) (actors : List Actor) (rights : List RightOut) (seat word n depth : ℕ) (a : Actor) (after : Then) → IsKept (parts_of cfg.now) words log actors rights → HasAt actors seat a → a.client.phase ≡ Leave n (Some depth) after → HasSeen log seen a → IsKept (parts_of cfg.now) words log (slice_set actors seat (stepped seat a seen word)) (record { lock = lock_of (parts_of cfg.now) n; compute = compute_of (parts_of cfg.now) seat; depth = depth } ∷ rights) }
+    ensures ended { (words : List ℕ) (log : List Entry) (actors : List Actor) (rights : List RightOut) (seat : ℕ) (a : Actor) → IsKept (parts_of cfg.now) words log actors rights → HasAt actors seat a → a.client.phase ≡ Ended → IsKept (parts_of cfg.now) words log (slice_set actors seat (rested a)) rights }
+{}
+
+/// What the invariant says. At each moment the standing words hold a lawful tree with the log's map, each lock word is
+/// its holder's, and the book of all calls is lawful: each ended call is answered at a point of the log, and an entry
+/// that is no ended call's is that of its seat's call under way. A put was full where all chunks were drawn and its key had
+/// nothing in the map, and an update was worn by a node's last version. Where all clients rest and no right is out, the words
+/// themselves hold the tree, all lock words are 0, the book is closed, and as many nodes aren't posted as were skipped.
+pub fn trees_and_books(cfg: &Config)
+    ensures moment { (words : List ℕ) (log : List Entry) (actors : List Actor) (rights : List RightOut) → IsKept (parts_of cfg.now) words log actors rights → IsMoment (parts_of cfg.now) words log (HasAt actors) (OutAt rights) }
+    ensures book { (words : List ℕ) (log : List Entry) (actors : List Actor) (rights : List RightOut) (dones : List Done) → IsKept (parts_of cfg.now) words log actors rights → IsBookOf (HasAt actors) dones → IsLawfulBook (HasAt actors) log dones }
+    ensures refusals { (words : List ℕ) (log : List Entry) (actors : List Actor) (rights : List RightOut) (dones : List Done) → IsKept (parts_of cfg.now) words log actors rights → IsBookOf (HasAt actors) dones → HaveCauses (parts_of cfg.now) (counter_in (parts_of cfg.now) words) log dones }
+    ensures calls { (words : List ℕ) (log : List Entry) (actors : List Actor) (rights : List RightOut) (seat : ℕ) (a : Actor) → IsKept (parts_of cfg.now) words log actors rights → HasAt actors seat a → HasAnswers log seat a }
+    ensures rest { (words : List ℕ) (log : List Entry) (actors : List Actor) → IsKept (parts_of cfg.now) words log actors [] → ((seat : ℕ) (a : Actor) → HasAt actors seat a → is_resting a.client ≡ true) → AreAtRest (parts_of cfg.now) words log (HasAt actors) }
+{}

@@ -1,46 +1,77 @@
 -- A sweep over finished calls in the order of their points.
-use Rattle.std.proofs.Common.{◌≡◌, ◌↔◌, ◌⊎◌, ℕ, ◌+◌, ◌<◌, Bool, true, List, [], ◌∷◌, ◌++◌, length, get_or, set, take, replicate, Some, inl, inr, refl, sym, ap, subst, ◌∙◌, arith, length-append}
+use Rattle.std.proofs.Common.{◌≡◌, ◌↔◌, ◌⊎◌, ℕ, ◌+◌, ◌<◌, Bool, true, List, [], ◌∷◌, ◌++◌, length, get_or, set, take, replicate, Some, inl, inr, refl, sym, ap, subst, ◌∙◌, arith, length-append, length-take-le}
 use Rattle.std.specs.Prelude.{slice_get, All, Any, IsTrue}
 use Rattle.std.specs.List.Sorted.{IsPermutation}
-use Rattle.std.proofs.lemmas.Bool.{cases_lt, cases_eq}
-use Rattle.std.proofs.lemmas.List.{get_or-set_same, get_or-set_other, length-replicate, length-set, get_or_append_left, get_or_push}
-use Rattle.std.proofs.lemmas.List.Elements.{All-push, Contains-get_or}
+use Rattle.std.proofs.lemmas.Bool.{cases_eq}
+use Rattle.std.proofs.lemmas.List.{get_or-set_same, get_or-set_other, get_or-replicate, length-replicate, length-set}
+use Rattle.std.proofs.lemmas.List.Elements.{All-nil, All-push}
 use Rattle.std.proofs.lemmas.List.Sorted.{All-permutation, Contains-permutation}
 use Rattle.std.proofs.lemmas.Option.{get_or_from_slice_get, slice_get_within}
 use Rattle.sh_map.specs.declared.log.Entry.{Entry}
 use Rattle.sh_map.specs.declared.book.Done.{Done}
 use Rattle.sh_map.specs.declared.sweep.Part.{Part}
 use Rattle.sh_map.specs.declared.sweep.Due.{Due}
-use Rattle.sh_map.specs.Judge.{FitsPart}
+use Rattle.sh_map.specs.declared.sweep.Part.TheVariants as part
+use Rattle.sh_map.specs.declared.call.Call.{Call}
+use Rattle.sh_map.specs.declared.call.Call.TheVariants.{Get, Put, Del, Range}
+use Rattle.sh_map.specs.declared.call.Reply.{Reply}
+use Rattle.sh_map.specs.Judge.{AsksNothing, FitsPart, RowsAnswer}
 use Rattle.sh_map.specs.Tables.{AreKept}
-use Rattle.sh_map.proofs.WalkLemmas.{any_from, one_more}
+use Rattle.sh_map.proofs.BookLemmas.{slice_get-push_back}
+use Rattle.sh_map.proofs.WalkLemmas.{any_from, any_push, one_more}
 
--- these are n, each with its place
-pub record ArePlaces (due : List Due) (n : ℕ) : Type 0 where
-  pub long : length due ≡ n
-  pub each : (k : ℕ) (d : Due) → k < n → (get_or due k d).place ≡ k
+-- each of these calls is due, or nothing is asked of its part
+pub record AreDue (part : Part) (dones : List Done) (due : List Due) : Type 0 where
+  pub within : All (λ x. x.place < length dones) due
+  pub each : (i : ℕ) (d : Done) → slice_get dones i ≡ Some d → Any (λ x. x.place ≡ i) due ⊎ AsksNothing part d.call
 
-pub places_none : (due : List Due) → due ≡ [] → ArePlaces due 0
-places_none due is = record { long = ap length is; each = λ k d lt. absurd (omega arith) }
+module _ (part : Part) where
+  pub due_none : (due : List Due) → due ≡ [] → AreDue part [] due
+  due_none due is = record { within = subst (All (λ (x : Due). x.place < 0)) (sym is) (All-nil (λ (x : Due). x.place < 0)); each = λ i d here. absurd (cc) }
 
-pub places_more : (due : List Due) (n : ℕ) (x : Due) → ArePlaces due n → x.place ≡ n → ArePlaces (due ++ x ∷ []) (n + 1)
-places_more due n x h is = record {
-  long = length-append due (x ∷ []) ∙ ap (λ k. k + 1) h.long;
-  each = λ k d lt. elim (cases_lt k n) [
-    | inl old ↦ ap (λ (y : Due). y.place) (get_or_append_left due (x ∷ []) d k (omega (arith, h.long))) ∙ h.each k d old
-    | inr last ↦ let end : n ≡ k = omega arith in ap (λ (y : Due). y.place) (get_or_push due x d k (h.long ∙ end)) ∙ is ∙ end
-  ];
-}
+  module _ (dones : List Done) (at : ℕ) (d : Done) (in_range : at < length dones) (read : d ≡ get_or dones at d) (due : List Due) (h : AreDue part (take at dones) due) where
+    long : length (take at dones) ≡ at
+    long = length-take-le at dones (omega arith)
 
-module _ (due sorted : List Due) (n : ℕ) (h : ArePlaces due n) (perm : IsPermutation due sorted) where
-  pub places_within : All (λ x. x.place < n) sorted
-  places_within = All-permutation (λ (x : Due). x.place < n) due sorted perm (λ k d lt. omega (arith, h.each k d (omega (arith, h.long)), h.long))
+    grown : (new : List Due) → All (λ x. x.place < at + 1) new → ((i : ℕ) → Any (λ x. x.place ≡ i) due → Any (λ x. x.place ≡ i) new) → Any (λ x. x.place ≡ at) new ⊎ AsksNothing part d.call → AreDue part (take (at + 1) dones) new
+    grown new all stays here = subst (λ (l : List Done). AreDue part l new) (one_more dones at d in_range read) (record {
+      within = λ k x lt. omega (arith, all k x lt, length-append (take at dones) (d ∷ []), long);
+      each = λ i x is. elim (slice_get-push_back (take at dones) d x i is) [
+        | inl old ↦ elim (h.each i x old) [ inl some ↦ inl (stays i some) | inr none ↦ inr none ]
+        | inr last ↦ subst (λ n. Any (λ (y : Due). y.place ≡ n) new ⊎ AsksNothing part x.call) (sym (last.0 ∙ long)) (subst (λ (y : Done). Any (λ (z : Due). z.place ≡ at) new ⊎ AsksNothing part y.call) last.1 here)
+      ];
+    })
 
-  pub places_each : (i : ℕ) → i < n → Any (λ x. x.place ≡ i) sorted
-  places_each i lt =
-      let none : Due = record { point = 0; place = 0 } in
-      let x : Due = get_or due i none in
-      any_from (λ (y : Due). y.place ≡ i) sorted x (Contains-permutation due sorted x perm (Contains-get_or due i none (omega (arith, h.long)))) (h.each i none lt)
+    below : All (λ x. x.place < at + 1) due
+    below = λ k x lt. omega (arith, h.within k x lt, long)
+
+    pub due_more : (x : Due) → x.place ≡ at → AreDue part (take (at + 1) dones) (due ++ x ∷ [])
+    due_more x is = grown (due ++ x ∷ []) (All-push (λ (y : Due). y.place < at + 1) due x below (omega arith)) (λ i some. (any_push (λ (y : Due). y.place ≡ i) due x).1 (inl some)) (inl ((any_push (λ (y : Due). y.place ≡ at) due x).1 (inr is)))
+
+    pub due_kept : AsksNothing part d.call → AreDue part (take (at + 1) dones) due
+    due_kept none = grown due below (λ i some. some) (inr none)
+
+  pub due_sorted : (dones : List Done) (due sorted : List Due) → AreDue part dones due → IsPermutation due sorted → AreDue part dones sorted
+  due_sorted dones due sorted h perm = record {
+    within = All-permutation (λ (x : Due). x.place < length dones) due sorted perm h.within;
+    each = λ i d is. elim (h.each i d is) [
+      | inl some ↦ inl (any_from (λ (y : Due). y.place ≡ i) sorted some.1 (Contains-permutation due sorted some.1 perm (some.0, some.2, some.3)) some.4)
+      | inr none ↦ inr none
+    ];
+  }
+
+rows_fit : (log : List Entry) (d : Done) (asked : Call) (answer : Reply) → AsksNothing part.Rows asked → RowsAnswer log d asked answer
+rows_fit log d (Get key) answer none = tt
+rows_fit log d (Put key value) answer none = tt
+rows_fit log d (Del key) answer none = tt
+rows_fit log d (Range low high) answer none = absurd none
+
+nothing_fits : (part : Part) (log : List Entry) (d : Done) → AsksNothing part d.call → FitsPart part log d
+nothing_fits part.Reply log d none = absurd none
+nothing_fits part.Rows log d none = rows_fit log d d.call d.reply none
+
+same_Done : {x y : Done} → Some x ≡ Some y → x ≡ y
+same_Done h = cc
 
 -- the call at place i was judged rightly
 abbrev IsRight : Part → List Entry → List Done → List Bool → ℕ → Type 0
@@ -50,10 +81,11 @@ IsRight part log dones kept i = (d : Done) → slice_get dones i ≡ Some d → 
 pub record AreSwept (part : Part) (log : List Entry) (dones : List Done) (due : List Due) (kept : List Bool) : Type 0 where
   pub long : length kept ≡ length dones
   pub each : All (λ x. IsRight part log dones kept x.place) due
+  pub idle : (j : ℕ) (d : Done) → slice_get dones j ≡ Some d → AsksNothing part d.call → IsRight part log dones kept j
 
 module _ (part : Part) (log : List Entry) (dones : List Done) where
   pub swept_none : (kept : List Bool) → kept ≡ replicate (length dones) true → AreSwept part log dones [] kept
-  swept_none kept is = record { long = ap length is ∙ length-replicate (length dones) true; each = λ k d lt. absurd (omega arith) }
+  swept_none kept kept_is = record { long = ap length kept_is ∙ length-replicate (length dones) true; each = λ k d lt. absurd (omega arith); idle = λ j d here none x is. (λ _. subst (FitsPart part log) (same_Done (sym here ∙ is)) (nothing_fits part log d none), λ _. ap (λ l. get_or l j true) kept_is ∙ get_or-replicate (length dones) j true true (slice_get_within dones j d here)) }
 
   right_at : (kept : List Bool) (b : Bool) (i : ℕ) (x : Done) → length kept ≡ length dones → i < length dones → x ≡ get_or dones i x → (IsTrue b ↔ FitsPart part log x) → (j : ℕ) → (j ≡ i) ⊎ IsRight part log dones kept j → IsRight part log dones (set kept i b) j
   right_at kept b i x long in_range read told j h d is = elim (cases_eq j i) [
@@ -77,13 +109,16 @@ module _ (part : Part) (log : List Entry) (dones : List Done) where
         (All-push (λ (y : Due). IsRight part log dones (set kept one.place b) y.place) (take at due) one
         (λ k d lt. right_at kept b one.place x h.long in_range read told (get_or (take at due) k d).place (inr (h.each k d lt)))
         (right_at kept b one.place x h.long in_range read told one.place (inl refl)));
+    idle = λ j d here none. right_at kept b one.place x h.long in_range read told j (inr (h.idle j d here none));
   }
 
-  pub swept_all : (due : List Due) (kept : List Bool) → ((i : ℕ) → i < length dones → Any (λ x. x.place ≡ i) due) → AreSwept part log dones due kept → AreKept (λ _ d. FitsPart part log d) dones kept
+  pub swept_all : (due : List Due) (kept : List Bool) → ((i : ℕ) (d : Done) → slice_get dones i ≡ Some d → Any (λ x. x.place ≡ i) due ⊎ AsksNothing part d.call) → AreSwept part log dones due kept → AreKept (λ _ d. FitsPart part log d) dones kept
   swept_all due kept covers h = record {
     long = h.long;
-    each = λ i d is.
-        let at = covers i (slice_get_within dones i d is) in
-        let right : IsRight part log dones kept (get_or due at.0 at.1).place = h.each at.0 at.1 at.2 in
-        subst (λ k. IsRight part log dones kept k) (ap (λ (y : Due). y.place) at.3 ∙ at.4) right d is;
+    each = λ i d is. elim (covers i d is) [
+      | inl at ↦
+          let right : IsRight part log dones kept (get_or due at.0 at.1).place = h.each at.0 at.1 at.2 in
+          subst (λ k. IsRight part log dones kept k) (ap (λ (y : Due). y.place) at.3 ∙ at.4) right d is
+      | inr none ↦ h.idle i d is none d is
+    ];
   }

@@ -1,6 +1,6 @@
 -- What a tree of keys and values says as a map.
-use Rattle.std.proofs.Common.{◌≡◌, ℕ, ◌<◌, ◌≤◌, List, [], ◌∷◌, ◌++◌, Some, None, inl, inr, refl, sym, ap, subst, ◌∙◌, cond, true, arith, Less, Equal, false}
-use Rattle.std.specs.Prelude.{All, Contains, IsSome}
+use Rattle.std.proofs.Common.{◌≡◌, ℕ, ◌+◌, ◌<◌, ◌≤◌, List, [], ◌∷◌, ◌++◌, length, map, take, get_or, Some, None, inl, inr, refl, sym, ap, subst, ◌∙◌, cond, true, arith, Less, Equal, false}
+use Rattle.std.specs.Prelude.{All, Contains, IsSome, slice_get}
 use Rattle.std.specs.declared.ops.Bound.TheVariants.{Included, Excluded}
 use Rattle.std.specs.Ordering.{nat_cmp, eq_by_cmp, is_gt}
 use Rattle.std.specs.Cmp.{nat_cmp_total, nat_cmp_is}
@@ -14,12 +14,16 @@ use Rattle.std.proofs.lemmas.Map.Entries.{lookup-filter-keys}
 use Rattle.std.proofs.lemmas.Map.Views.{range_contains-from_IsInRange, Contains-keys_from_lookup, tells_apart}
 use Rattle.std.proofs.lemmas.Map.Lookups.{exact_unsigned}
 use Rattle.std.proofs.lemmas.List.Elements.{All-map}
-use Rattle.std.proofs.lemmas.List.{append-nil, append_assoc}
+use Rattle.std.proofs.lemmas.List.{append-nil, append_assoc, map-append}
 use Rattle.std.proofs.lemmas.Bool.{cases_lt}
 use Rattle.std.proofs.lemmas.Cmp.{ranked}
-use Rattle.sh_map.specs.Map.{get, put, del}
+use Rattle.sh_map.specs.declared.book.Row.{Row}
+use Rattle.sh_map.specs.Map.{get, put, del, pair_of, row_of}
+use Rattle.sh_map.specs.Tables.{given}
 use Rattle.sh_map.proofs.MapLemmas.{apart_test, is_put, is_del}
 use Rattle.sh_map.proofs.RowsLemmas.{less_is}
+use Rattle.sh_map.proofs.WalkLemmas.{one_more}
+use Rattle.std.proofs.lemmas.Option.{get_or_from_slice_get, slice_get-get_or, slice_get_within}
 
 find_is_lookup : (q : ℕ) (es : List (ℕ × List ℕ)) → find nat_cmp q es ≡ lookup (is_at (nat_cmp q)) es
 find_is_lookup q [] = refl
@@ -56,9 +60,26 @@ module _ (t : BTreeMap ℕ (List ℕ)) (low upto : ℕ) (part : List (ℕ × Lis
   is_in_range : (key : ℕ) → low ≤ key → key < upto → IsInRange nat_cmp (Included low) (Excluded upto) key
   is_in_range key above below = (not_gt_from_le low key above, less_is key upto below)
 
-  pub keys_each : part ≡ entries_between nat_cmp (Included low) (Excluded upto) t.entries → (key : ℕ) → low ≤ key → key < upto → IsSome (tree.get nat_cmp t key) → Contains (keys_of part) key
-  keys_each is key above below some =
+  -- what a key of the bounds has in the part it has in the tree
+  part_has : part ≡ entries_between nat_cmp (Included low) (Excluded upto) t.entries → (key : ℕ) → low ≤ key → key < upto → lookup (is_at (nat_cmp key)) part ≡ tree.get nat_cmp t key
+  part_has is key above below =
       let inside : (k : ℕ) → is_at (nat_cmp key) k ≡ true → range_contains nat_cmp (Included low) (Excluded upto) k ≡ true =
       λ k same. subst (λ x. range_contains nat_cmp (Included low) (Excluded upto) x ≡ true) (tells_apart exact_unsigned key k same) (range_contains-from_IsInRange nat_cmp_total (Included low) (Excluded upto) key (is_in_range key above below)) in
-      let found : lookup (is_at (nat_cmp key)) part ≡ tree.get nat_cmp t key = ap (lookup (is_at (nat_cmp key))) is ∙ lookup-filter-keys (is_at (nat_cmp key)) (range_contains nat_cmp (Included low) (Excluded upto)) true inside t.entries in
-      Contains-keys_from_lookup (tells_apart exact_unsigned) key part (subst IsSome (sym found) some)
+      ap (lookup (is_at (nat_cmp key))) is ∙ lookup-filter-keys (is_at (nat_cmp key)) (range_contains nat_cmp (Included low) (Excluded upto)) true inside t.entries
+
+  pub keys_each : part ≡ entries_between nat_cmp (Included low) (Excluded upto) t.entries → (key : ℕ) → low ≤ key → key < upto → IsSome (tree.get nat_cmp t key) → Contains (keys_of part) key
+  keys_each is key above below some = Contains-keys_from_lookup (tells_apart exact_unsigned) key part (subst IsSome (sym (part_has is key above below)) some)
+
+  -- rows that are the part give its keys what they have
+  pub rows_give : (rows : List Row) → map pair_of rows ≡ part → part ≡ entries_between nat_cmp (Included low) (Excluded upto) t.entries → (key : ℕ) → low ≤ key → key < upto → get (from_entries t.entries) key ≡ given rows key
+  rows_give rows are is key above below = tree_get t key ∙ sym (part_has is key above below) ∙ ap (lookup (is_at (nat_cmp key))) (sym are) ∙ sym (get-from_entries nat_cmp_total (map pair_of rows) key ∙ find_is_lookup key (map pair_of rows))
+
+pub this_row : (rows : List Row) (at key : ℕ) (value : List ℕ) (row : Row) → at < length rows → row ≡ get_or rows at row → row.key ≡ key → row.value ≡ value → slice_get rows at ≡ Some (row_of key value)
+this_row rows at key value row in_range read k v = slice_get-get_or rows at row in_range ∙ ap Some (sym read) ∙ ap (λ n. Some (row_of n row.value)) k ∙ ap (λ ws. Some (row_of key ws)) v
+
+-- a walk over rows and the pairs of a part, one on
+pub rows_more : (rows : List Row) (at key : ℕ) (value : List ℕ) (rest new all : List (ℕ × List ℕ)) → map pair_of (take at rows) ++ rest ≡ all → slice_get rows at ≡ Some (row_of key value) → rest ≡ (key, value) ∷ new → map pair_of (take (at + 1) rows) ++ new ≡ all
+rows_more rows at key value rest new all h here is =
+    let row : Row = row_of key value in
+    let more : take at rows ++ row ∷ [] ≡ take (at + 1) rows = one_more rows at row (slice_get_within rows at row here) (sym (get_or_from_slice_get rows at row row here)) in
+    ap (λ l. map pair_of l ++ new) (sym more) ∙ ap (λ l. l ++ new) (map-append pair_of (take at rows) (row ∷ [])) ∙ append_assoc (map pair_of (take at rows)) (pair_of row ∷ []) new ∙ ap (λ l. map pair_of (take at rows) ++ l) (sym is) ∙ h

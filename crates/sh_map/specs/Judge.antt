@@ -50,6 +50,12 @@ abbrev pub FitsPart : Part → List Entry → Done → Type 0
 FitsPart part.Reply log d = FitsReply log [] d
 FitsPart part.Rows log d = FitsRows log [] d
 
+-- a part of an answer of which nothing is asked: the rows of a call that is no range
+abbrev pub AsksNothing : Part → Call → Type 0
+AsksNothing part.Reply asked = ⊥
+AsksNothing part.Rows (Range low high) = ⊥
+AsksNothing part.Rows asked = Unit {0}
+
 abbrev pub point_for : Part → Done → ℕ
 point_for part.Reply d = d.point
 point_for part.Rows d = d.first

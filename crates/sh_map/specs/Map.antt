@@ -26,3 +26,6 @@ size m = map.len m
 
 abbrev pub pair_of : Row → ℕ × List ℕ
 pair_of r = (r.key, r.value)
+
+abbrev pub row_of : ℕ → List ℕ → Row
+row_of key value = record { key = key; value = value }

@@ -1,6 +1,6 @@
 // Whether an entry of a log fits what stands before it, and whose it is.
 ghost use Rattle.std.specs.Prelude.{IsTrue, ◌↔◌, ◌≡◌, ◌<◌, ◌⊎◌, IfOk, MatchOption, ◌≢◌, length, All, Any, ℕ};
-ghost use Rattle.sh_map.specs.Log.{IsNext};
+ghost use Rattle.sh_map.specs.Log.{HasOld};
 ghost use Rattle.sh_map.specs.Judge.{AllEntriesFit, FitsEntry};
 ghost use Rattle.sh_map.specs.Book.{made};
 
@@ -21,15 +21,15 @@ pub(crate) fn same(a: &Option<Value>, b: &Option<Value>) -> bool
     }
 }
 
-// Whether an entry may come next: its old value is what the map has, and a delete has one.
-fn is_next(map: &TreeMap, entry: &Entry) -> bool
-    ensures { IsTrue result ↔ IsNext map.now entry.now }
+// Whether an entry may come next: its old value is what its key had before, and a delete has one.
+fn is_next(before: &Option<Value>, entry: &Entry) -> bool
+    ensures { IsTrue result ↔ ((entry.now.old ≡ before.now) × HasOld entry.now.change entry.now.old) }
 {
     let removes = match entry.change {
         Change::Put { .. } => true,
         Change::Del { .. } => entry.old.is_some(),
     };
-    removes && same(&entry.old, &map.get(entry.change.key()))
+    removes && same(&entry.old, before)
 }
 
 /// How many entries a call with this reply has made.
@@ -58,10 +58,10 @@ pub(crate) fn first_unfit_entry(
     let lasts = last_places(alloc, log)?;
     let mut map = TreeMap::new(alloc);
     for (at, entry) in log.iter().enumerate() {
-        if !is_next(&map, entry) || !has_owner(log, dones, &owned, &lasts, at) {
+        let before = map.apply(entry.change)?;
+        if !is_next(&before, entry) || !has_owner(log, dones, &owned, &lasts, at) {
             return Ok(Some(at as u64));
         }
-        map.apply(entry.change)?;
     }
     Ok(None)
 }

@@ -96,6 +96,9 @@ fn have_points(
     ensures { IfOk result (λ yes. IsTrue yes
         ↔ ((key : ℕ) → HasPoint before.now during.now rows.now low upto key)) }
 {
+    if before.has_rows(rows, low, upto) {
+        return Ok(true);
+    }
     let met = keys_met(alloc, during, rows)?;
     let standing = before.keys_in(alloc, low, upto)?;
     Ok(are_all_given(before, &met, rows, &standing))

@@ -1,13 +1,14 @@
 // Judges finished calls by the maps of their points, in the order of these.
-ghost use Rattle.std.specs.Prelude.{IsTrue, ◌↔◌, ◌≡◌, ◌<◌, ◌≤◌, ℕ, All, Any, IfOk, length, min};
+ghost use Rattle.std.specs.Prelude.{IsTrue, false, ◌↔◌, ◌≡◌, ◌⊎◌, ◌<◌, ◌≤◌, ℕ, All, Any, IfOk, length, min, slice_get};
 ghost use Rattle.sh_map.specs.Log.{map_at};
-ghost use Rattle.sh_map.specs.Judge.{FitsPart, point_for};
+ghost use Rattle.sh_map.specs.declared.book.Done.{Done};
+ghost use Rattle.sh_map.specs.Judge.{AsksNothing, FitsPart, point_for};
 ghost use Rattle.sh_map.specs.Tables.{AreKept};
 
 use crate::ranges::do_rows_answer;
 use crate::replies::is_answered;
 use crate::tree_map::{TreeMap, move_to};
-use crate::{Done, Entry};
+use crate::{Call, Done, Entry};
 use std::alloc::{AllocError, Global};
 
 /// What is judged of an answer: all but the rows of a range, or these.
@@ -34,18 +35,34 @@ fn point_for(part: Part, done: &Done) -> u64
     }
 }
 
-// The finished calls by rising points. What they are judged by comes out the same in any order; in this one a log is
-// gone over once.
+// Whether anything is asked of a part of an answer: of the rows only at a range.
+fn is_asked(part: Part, call: &Call) -> bool
+    ensures { result ≡ false → AsksNothing part call.now }
+{
+    match part {
+        Part::Reply => true,
+        Part::Rows => match *call {
+            Call::Range { .. } => true,
+            _ => false,
+        },
+    }
+}
+
+// The finished calls of whose part something is asked, by rising points. What they are judged by comes out the same in
+// any order; in this one a log is gone over once.
 fn by_points(alloc: Global, part: Part, dones: &[Done]) -> Result<Vec<Due>, AllocError>
     ensures within { IfOk result (λ due. All (λ x. x.place < length dones.now) due.items) }
-    ensures each { IfOk result (λ due. (i : ℕ) → i < length dones.now → Any (λ x. x.place ≡ i) due.items) }
+    ensures each { IfOk result (λ due. (i : ℕ) (d : Done) → slice_get dones.now i ≡ Some d
+        → Any (λ x. x.place ≡ i) due.items ⊎ AsksNothing part d.call) }
 {
     let mut due = Vec::with_capacity(alloc, dones.len())?;
     for (place, done) in dones.iter().enumerate() {
-        due.push_reserved(Due {
-            point: point_for(part, done),
-            place,
-        });
+        if is_asked(part, &done.call) {
+            due.push_reserved(Due {
+                point: point_for(part, done),
+                place,
+            });
+        }
     }
     due.sort_unstable_by_key(|one| one.point);
     Ok(due)

@@ -1,10 +1,11 @@
 // A map from keys to values, kept as a tree.
-ghost use Rattle.std.specs.Prelude.{◌≡◌, ◌<◌, ◌≤◌, ℕ, IfOk, OnOk, OnErr, IsSome, length, All, Contains};
+ghost use Rattle.std.specs.Prelude.{◌≡◌, ◌<◌, ◌≤◌, ℕ, IsTrue, IfOk, OnOk, OnErr, IsSome, length, slice_get, All, Contains};
 ghost use Rattle.std.specs.FinMap.{empty};
-ghost use Rattle.sh_map.specs.Map.{get, put, del};
-ghost use Rattle.sh_map.specs.Log.{changed, map_at, map_from};
+ghost use Rattle.sh_map.specs.Map.{get, row_of};
+ghost use Rattle.sh_map.specs.Log.{changed, key_of, map_at, map_from};
+ghost use Rattle.sh_map.specs.Tables.{given};
 
-use crate::{Change, Entry};
+use crate::{Change, Entry, Row};
 use sh_base::Value;
 use std::alloc::{AllocError, Global};
 use std::collections::BTreeMap;
@@ -46,24 +47,35 @@ impl TreeMap {
         self.tree.get(&key).copied()
     }
 
-    /// Makes a change. After want of memory the map is as it was.
-    pub(crate) fn apply(&mut self, change: Change) -> Result<(), AllocError>
+    /// Makes a change, and answers what its key had before. After want of memory the map is as it was.
+    pub(crate) fn apply(&mut self, change: Change) -> Result<Option<Value>, AllocError>
+        ensures before { IfOk result (λ before. before ≡ get self.old (key_of change)) }
         ensures ok { OnOk result (self.new ≡ changed self.old change) }
         ensures err { OnErr result (self.new ≡ self.old) }
     {
         match change {
-            Change::Put { key, value } => {
-                self.tree.insert(key, value)?;
-            }
-            Change::Del { key } => {
-                self.tree.remove(&key);
-            }
+            Change::Put { key, value } => Ok(self.tree.insert(key, value)?),
+            Change::Del { key } => Ok(self.tree.remove(&key)),
         }
-        Ok(())
     }
 }
 
 impl TreeMap {
+    /// Whether the keys of low..upto that have a value are those of the rows, with the same values.
+    pub(crate) fn has_rows(&self, rows: &[Row], low: u64, upto: u64) -> bool
+        requires { low ≤ upto }
+        ensures { IsTrue result → (key : ℕ) → low ≤ key → key < upto → get self.now key ≡ given rows.now key }
+    {
+        let mut at = 0;
+        for (key, value) in self.tree.range(low..upto) {
+            if !is_row(rows, at, *key, value) {
+                return false;
+            }
+            at += 1;
+        }
+        at == rows.len()
+    }
+
     /// The keys of low..upto that have a value.
     pub(crate) fn keys_in(&self, alloc: Global, low: u64, upto: u64) -> Result<Vec<u64>, AllocError>
         requires { low ≤ upto }
@@ -76,6 +88,16 @@ impl TreeMap {
             keys.push(*key)?;
         }
         Ok(keys)
+    }
+}
+
+// Whether this is the row at a place.
+fn is_row(rows: &[Row], at: usize, key: u64, value: &Value) -> bool
+    ensures { IsTrue result → slice_get rows.now at ≡ Some (row_of key value.now) }
+{
+    match rows.get(at) {
+        Some(row) => row.key == key && row.value.words() == value.words(),
+        None => false,
     }
 }
 

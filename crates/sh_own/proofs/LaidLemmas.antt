@@ -1,15 +1,17 @@
 -- A laid pool shows its scene, and all holds of it.
-use Rattle.std.proofs.Common.{◌≡◌, ℕ, zero, suc, ◌<◌, ◌≤◌, Bool, true, false, List, [], length, get_or, replicate, refl, ap, sym, ◌∙◌, subst, inl, inr, arith}
+use Rattle.std.proofs.Common.{◌≡◌, ◌≢◌, ◌⊎◌, ℕ, zero, suc, ◌+◌, ◌<◌, ◌≤◌, Bool, true, false, List, [], length, get_or, replicate, refl, ap, sym, ◌∙◌, subst, inl, inr, arith}
 use Rattle.std.specs.Prelude.{◌-◌, ◌^◌, if◌then◌else◌}
 use Rattle.std.specs.List.{AllByRecursion}
 use Rattle.std.specs.Ordering.{nat_cmp}
 use Rattle.std.specs.FinMap.{get-empty}
+use Rattle.std.proofs.lemmas.Bool.{cases_lt}
 use Rattle.std.proofs.lemmas.List.{length-replicate, get_or-replicate}
 use Rattle.sh_base.specs.declared.config.ConfigParts.{ConfigParts}
 use Rattle.sh_base.specs.Setting.{node_size, IsNode, IsSetting}
-use Rattle.sh_base.specs.Layout.{first_node}
+use Rattle.sh_base.specs.Layout.{node_word, first_node}
 use Rattle.sh_base.specs.Places.{Site, Own, Root, Counter, Lock, Node, address, IsSite}
 use Rattle.sh_base.proofs.LayoutLemmas.{part_word}
+use Rattle.sh_base.proofs.PlacesLemmas.{are_places_apart}
 use Rattle.sh_image.specs.declared.leaf.LeafEntry.{LeafEntry}
 use Rattle.sh_image.specs.Leaf.{IsEntry, IsLeaf, leaf_words, empty_entry}
 use Rattle.sh_edit.specs.Held.{key_at, no_entry}
@@ -82,17 +84,33 @@ module _ (p : ConfigParts) (ok : IsSetting p) where
           omega (arith, le, f, here, one)
 
   module _ (words : List ℕ) (laid : AreLaid p words) where
+    servers : 0 < p.servers
+    servers = omega (arith, ok.ranged.servers.0)
+
+    -- an address that is no word of node 1 lies before it or behind it
+    aside : (a : Site) → IsSite p a → ((o : ℕ) → a ≢ Node 1 o) → (address p a < node_word p 1) ⊎ (node_word p 1 + node_size p ≤ address p a)
+    aside a ia away = elim (cases_lt (address p a) (node_word p 1)) [
+      | inl lt ↦ inl lt
+      | inr from ↦ elim (cases_lt (address p a) (node_word p 1 + node_size p)) [
+        | inl lt ↦ let o : ℕ = address p a - node_word p 1 in absurd (away o ((are_places_apart p).apart a (Node 1 o) ia (first_real, omega (arith, lt, from)) (omega (arith, from))))
+        | inr past ↦ inr past
+      ]
+    ]
+
+    zero_at : (a : Site) → IsSite p a → a ≢ Root → a ≢ Counter 0 → ((o : ℕ) → a ≢ Node 1 o) → get_or words (address p a) 0 ≡ 0
+    zero_at a ia root counter node = laid.zeros (address p a) (λ e. root ((are_places_apart p).apart a Root ia tt e)) (λ e. counter ((are_places_apart p).apart a (Counter 0) ia servers e)) (aside a ia node)
+
     places : (a : Site) → IsSite p a → get_or words (address p a) 0 ≡ shown p (laid_scene p) a
-    places Own ia = laid.zeros Own ia (λ q. cc) (λ q. cc) (λ o q. cc)
+    places Own ia = zero_at Own ia (λ q. cc) (λ q. cc) (λ o q. cc)
     places Root ia = laid.root
-    places (Counter v) ia = put_case (λ x. get_or words (address p (Counter v)) 0 ≡ x) none_drawn 0 1 v (λ q. ap (λ (z : ℕ). get_or words (address p (Counter z)) 0) q ∙ laid.counter) (λ ne. laid.zeros (Counter v) ia (λ q. cc) (λ q. ne (counter_is v 0 q)) (λ o q. cc))
+    places (Counter v) ia = put_case (λ x. get_or words (address p (Counter v)) 0 ≡ x) none_drawn 0 1 v (λ q. ap (λ (z : ℕ). get_or words (address p (Counter z)) 0) q ∙ laid.counter) (λ ne. zero_at (Counter v) ia (λ q. cc) (λ q. ne (counter_is v 0 q)) (λ o q. cc))
       where
         counter_is : (u v : ℕ) → Counter u ≡ Counter v → u ≡ v
         counter_is u v e = cc
-    places (Lock l) ia = laid.zeros (Lock l) ia (λ q. cc) (λ q. cc) (λ o q. cc)
+    places (Lock l) ia = zero_at (Lock l) ia (λ q. cc) (λ q. cc) (λ o q. cc)
     places (Node n o) ia = put_case (λ (ws : List ℕ). get_or words (address p (Node n o)) 0 ≡ get_or ws o 0) (λ (m : ℕ). replicate (node_size p) 0) 1 (leaf_words (blank_leaf p)) n
         (λ q. ap (λ (z : ℕ). get_or words (address p (Node z o)) 0) q ∙ sym (part_word p words 1 o ia.1) ∙ ap (λ (ws : List ℕ). get_or ws o 0) laid.leaf)
-        (λ ne. laid.zeros (Node n o) ia (λ q. cc) (λ q. cc) (λ k q. ne (node_is n 1 o k q)) ∙ sym (get_or-replicate (node_size p) o 0 0 ia.1))
+        (λ ne. zero_at (Node n o) ia (λ q. cc) (λ q. cc) (λ k q. ne (node_is n 1 o k q)) ∙ sym (get_or-replicate (node_size p) o 0 0 ia.1))
       where
         node_is : (m n o k : ℕ) → Node m o ≡ Node n k → m ≡ n
         node_is m n o k e = cc

@@ -1,9 +1,8 @@
 -- The scene of a laid pool.
-use Rattle.std.specs.Prelude.{◌≡◌, ◌≢◌, ℕ, ◌-◌, ◌^◌, if◌then◌else◌, List, [], length, replicate, slice_index}
+use Rattle.std.specs.Prelude.{◌≡◌, ◌≢◌, ◌⊎◌, ℕ, ◌+◌, ◌-◌, ◌^◌, ◌<◌, ◌≤◌, if◌then◌else◌, List, [], length, replicate, slice_index}
 use Rattle.sh_base.specs.declared.config.ConfigParts.{ConfigParts}
 use Rattle.sh_base.specs.Setting.{node_size, pool_words}
-use Rattle.sh_base.specs.Layout.{root_word, counter_word, node_part}
-use Rattle.sh_base.specs.Places.{Site, Root, Counter, Node, address, IsSite}
+use Rattle.sh_base.specs.Layout.{root_word, counter_word, node_word, node_part}
 use Rattle.sh_image.specs.Leaf.{Leaf, leaf_words, empty_entry}
 use Rattle.sh_scene.specs.Scene.{Class, Undrawn, Reserved, Linked, Posted, Nobody, Scene, put}
 use Rattle.sh_scene.specs.Acts.{in_chunk}
@@ -19,7 +18,7 @@ pub record AreLaid (p : ConfigParts) (words : List ℕ) : Type 0 where
   pub leaf : node_part p words 1 ≡ leaf_words (blank_leaf p)
   pub root : slice_index words root_word ≡ 1
   pub counter : slice_index words (counter_word p 0) ≡ 1
-  pub zeros : (a : Site) → IsSite p a → a ≢ Root → a ≢ Counter 0 → ((o : ℕ) → a ≢ Node 1 o) → slice_index words (address p a) ≡ 0
+  pub zeros : (i : ℕ) → i ≢ root_word → i ≢ counter_word p 0 → (i < node_word p 1) ⊎ (node_word p 1 + node_size p ≤ i) → slice_index words i ≡ 0
 
 -- node 1 is linked, the other nodes of its chunk are never used, and no other node is drawn
 abbrev pub laid_class : ConfigParts → ℕ → Class

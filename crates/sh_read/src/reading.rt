@@ -1,7 +1,7 @@
 // A READ that is fed its words one at a time.
-ghost use Rattle.std.specs.Prelude.{◌≡◌, ◌≢◌, ◌≤◌, length, None, Some};
+ghost use Rattle.std.specs.Prelude.{◌≡◌, ◌≢◌, ◌<◌, ◌≤◌, IfSome, length, None, Some};
 ghost use Rattle.sh_base.specs.Parts.{parts_of};
-ghost use Rattle.sh_base.specs.Setting.{node_size, IsNode, IsSetting};
+ghost use Rattle.sh_base.specs.Setting.{node_size, pool_words, IsNode, IsSetting};
 ghost use Rattle.sh_read.specs.declared.state.Progress.TheVariants.{Accepted};
 ghost use Rattle.sh_read.specs.Judging.{seen_of};
 ghost use Rattle.sh_read.specs.Reads.{accepted, answer_to, fed_by, image_in, progress_of, start_of, wanted};
@@ -45,8 +45,10 @@ impl Reading {
 
     /// The address of the word that is to be loaded next: from the node's last word down to its first. None exactly
     /// where all words are loaded.
+    #[tactic(auto, using(sh_base::proofs::LayoutLemmas::node_word_high))]
     pub fn want(&self) -> Option<u32>
-        ensures { result ≡ wanted self.now.setting self.now.reads }
+        ensures here { result ≡ wanted self.now.setting self.now.reads }
+        ensures within { IfSome result (λ at. at < pool_words self.now.setting) }
     {
         if self.left == 0 {
             return None;

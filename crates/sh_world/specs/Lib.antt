@@ -4,3 +4,4 @@ pub mod Lines
 pub mod Running
 pub mod Seats
 pub mod Laid
+pub mod Laws

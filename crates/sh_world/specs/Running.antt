@@ -19,7 +19,7 @@ use Rattle.sh_client.specs.Sound.{IsPointCall}
 use Rattle.sh_client.specs.Wants.{want_of}
 use Rattle.sh_core.specs.Core.{Inv}
 use Rattle.sh_world.specs.declared.state.Given.{Given}
-use Rattle.sh_world.specs.States.{Place, State, dones_by, dones_of, HasActor, IsLeft}
+use Rattle.sh_world.specs.States.{Place, State, dones_by, dones_of, HasActor, IsBlank, IsLeft}
 use Rattle.sh_world.specs.Lines.{AreLines}
 
 -- ---- points
@@ -53,29 +53,29 @@ numbers_from seat n (g ∷ calls) = if g.seat == seat then n ∷ numbers_from se
 
 -- A seat's place: its numbers are those of its calls, and so many of them have ended as are answered; the next one and
 -- all behind it aren't answered. Its client is at rest, or at the next call.
-pub record IsPlace (s : State) (seat : ℕ) (q : Place) : Type 0 where
-  pub numbers : q.numbers ≡ numbers_from seat 1 s.calls
+pub record IsPlace (calls : List Given) (seat : ℕ) (q : Place) : Type 0 where
+  pub numbers : q.numbers ≡ numbers_from seat 1 calls
   pub ended : q.ended ≤ length q.numbers
-  pub count : length (dones_by seat (dones_of s.calls)) ≡ q.ended
-  pub waiting : (n place : ℕ) (g : Given) → slice_get q.numbers q.ended ≡ Some n → n ≤ place + 1 → slice_get s.calls place ≡ Some g → g.seat ≡ seat → g.reply ≡ None
+  pub count : length (dones_by seat (dones_of calls)) ≡ q.ended
+  pub waiting : (n place : ℕ) (g : Given) → slice_get q.numbers q.ended ≡ Some n → n ≤ place + 1 → slice_get calls place ≡ Some g → g.seat ≡ seat → g.reply ≡ None
   pub rests : is_resting q.client ≡ true → q.client.phase ≡ Idle
   pub busy : is_resting q.client ≡ false → slice_get q.numbers q.ended ≡ Some q.number
-  pub call : (g : Given) → is_resting q.client ≡ false → slice_get s.calls (q.number - 1) ≡ Some g → g.call ≡ q.client.call
+  pub call : (g : Given) → is_resting q.client ≡ false → slice_get calls (q.number - 1) ≡ Some g → g.call ≡ q.client.call
 
 -- ---- the world
 
 -- A world whose pool is laid, after any turns.
 pub record IsRunning (s : State) : Type 0 where
   pub setting : IsSetting s.setting
-  pub inv : Inv s.setting s.words s.log (HasActor s) (IsLeft s)
+  pub inv : Inv s.setting s.words s.log (HasActor s.seats s.calls) (IsLeft s.setting s.lines)
   pub seats : length s.seats ≡ all_seats s.setting
-  pub lines_are : length s.lines ≡ all_locks s.setting * s.setting.computes
-  pub lines : AreLines s
-  pub places : (seat : ℕ) (q : Place) → slice_get s.seats seat ≡ Some q → IsPlace s seat q
+  pub lines : AreLines s.setting s.seats s.lines
+  pub places : (seat : ℕ) (q : Place) → slice_get s.seats seat ≡ Some q → IsPlace s.calls seat q
   pub given : (place : ℕ) (g : Given) → slice_get s.calls place ≡ Some g → IsGiven s.setting g
   pub few : length s.calls < 2 ^ 32
+  pub points : (seat : ℕ) (q : Place) → slice_get s.seats seat ≡ Some q → q.point ≤ length s.log
   pub by_seats : (place : ℕ) (e : Entry) → slice_get s.log place ≡ Some e → e.seat < all_seats s.setting
 
--- Any world: a blank one, or one that runs, with room in its log for an entry of each call.
+-- Any world: a blank one, or one that runs, with more room in its log than there are calls.
 abbrev pub IsWorld : State → (room : ℕ) → Type 0
-IsWorld s room = (s.seats ≡ []) ⊎ (IsRunning s × (length s.calls ≤ room))
+IsWorld s room = IsBlank s ⊎ (IsRunning s × (length s.calls < room))

@@ -67,10 +67,10 @@ abbrev pub actor_of : List Given → (seat : ℕ) → Place → Actor
 actor_of calls seat q = record { client = q.client; number = q.number; seen = q.seen; first = q.first; point = q.point; dones = dones_by seat (dones_of calls) }
 
 -- this is the seat's actor
-pub record HasActor (s : State) (seat : ℕ) (a : Actor) : Type 0 where
+pub record HasActor (seats : List Place) (calls : List Given) (seat : ℕ) (a : Actor) : Type 0 where
   pub place : Place
-  pub here : slice_get s.seats seat ≡ Some place
-  pub actor_is : a ≡ actor_of s.calls seat place
+  pub here : slice_get seats seat ≡ Some place
+  pub actor_is : a ≡ actor_of calls seat place
 
 -- ---- lines
 
@@ -83,11 +83,11 @@ abbrev pub free_line : Line
 free_line = record { next = 0; served = 0; left = None }
 
 -- the right to this lock lies in the compute server's line, to be handed over so often
-pub record IsLeft (s : State) (lock compute depth : ℕ) : Type 0 where
+pub record IsLeft (p : ConfigParts) (lines : List Line) (lock compute depth : ℕ) : Type 0 where
   pub line : Line
-  pub lock_is : lock < all_locks s.setting
-  pub compute_is : compute < s.setting.computes
-  pub here : slice_get s.lines (line_at s.setting lock compute) ≡ Some line
+  pub lock_is : lock < all_locks p
+  pub compute_is : compute < p.computes
+  pub here : slice_get lines (line_at p lock compute) ≡ Some line
   pub left : line.left ≡ Some depth
 
 -- ---- the beginning

@@ -83,9 +83,13 @@ with_line s seat lock line = record s { lines = slice_set s.lines (line_at s.set
 abbrev pub next_ticket : ℕ → ℕ
 next_ticket n = (n + 1) % 2 ^ 64
 
+-- the difference of two words
+abbrev pub minus : ℕ → ℕ → ℕ
+minus a b = (a + 2 ^ 64 - b) % 2 ^ 64
+
 -- how many tickets were drawn behind this one
 abbrev pub behind : Line → (ticket : ℕ) → ℕ
-behind line ticket = (line.next + 2 ^ 64 - ticket - 1) % 2 ^ 64
+behind line ticket = minus (minus line.next ticket) 1
 
 -- ---- the turns
 

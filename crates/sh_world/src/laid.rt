@@ -2,11 +2,11 @@
 ghost use Rattle.std.specs.Prelude.{◌≡◌, ◌*◌, ◌≤◌, IfOk, length, replicate};
 ghost use Rattle.sh_base.specs.Parts.{parts_of};
 ghost use Rattle.sh_base.specs.Setting.{all_locks, all_seats, node_size};
-ghost use Rattle.sh_base.specs.Layout.{node_word};
-ghost use Rattle.sh_image.specs.Leaf.{leaf_words};
-ghost use Rattle.sh_world.specs.Laid.{bare_words, empty_leaf, first_leaf, AreLaid};
+ghost use Rattle.sh_own.specs.Laid.{AreLaid};
+ghost use Rattle.sh_world.specs.Laid.{bare_words};
 ghost use Rattle.sh_world.specs.States.{dones_of, dones_from, free_line, fresh_from, fresh_place};
 
+use crate::node::write_node;
 use crate::{Given, Line, Seat};
 use sh_base::{Config, Value};
 use sh_client::Client;
@@ -35,13 +35,16 @@ fn zero_value(cfg: &Config) -> Value
     Value::of(&zeros[..cfg.value_words() as usize])
 }
 
-// Writes the empty leaf of all keys.
-fn write_empty_leaf(cfg: &Config, node: &mut [u64])
-    requires { length node.old ≡ node_size (parts_of cfg.now) }
-    ensures { node.new ≡ leaf_words (empty_leaf (parts_of cfg.now)) }
+// Writes the empty leaf of all keys to node 1.
+fn write_empty_leaf(cfg: &Config, words: &mut [u64], node: &mut [u64])
+    requires words { words.old ≡ bare_words (parts_of cfg.now) }
+    requires node { length node.old ≡ node_size (parts_of cfg.now) }
+    ensures laid { AreLaid (parts_of cfg.now) words.new }
+    ensures long { length words.new ≡ length words.old }
 {
     let leaf = LeafImage::new(0, 0, u64::MAX, 0, cfg.leaf(), zero_value(cfg));
     write_leaf(cfg, &leaf, node);
+    write_node(cfg, words, FIRST_LEAF, node);
 }
 
 /// The words of a laid pool.
@@ -49,8 +52,8 @@ pub(crate) fn laid_words(alloc: Global, cfg: &Config) -> Result<Vec<u64>, AllocE
     ensures { IfOk result (λ v. AreLaid (parts_of cfg.now) v.items) }
 {
     let mut words = bare_words(alloc, cfg)?;
-    let at = cfg.node_word(FIRST_LEAF) as usize;
-    write_empty_leaf(cfg, &mut words[at..at + cfg.node_size() as usize]);
+    let mut node = vec![in alloc; 0; cfg.node_size() as usize]?;
+    write_empty_leaf(cfg, &mut words, &mut node);
     Ok(words)
 }
 

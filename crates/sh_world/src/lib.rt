@@ -7,7 +7,9 @@
 #![tactic(auto)]
 
 mod laid;
+mod laws;
 mod lines;
+mod node;
 mod points;
 mod seats;
 mod state;

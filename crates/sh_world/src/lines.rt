@@ -1,10 +1,12 @@
-// The place of a ticket line.
+// Ticket lines.
 ghost use Rattle.std.specs.Prelude.{◌≡◌, ◌*◌, ◌<◌};
 ghost use Rattle.sh_base.specs.Parts.{parts_of};
 ghost use Rattle.sh_base.specs.Setting.{all_locks, all_seats};
 ghost use Rattle.sh_base.specs.Layout.{compute_of};
 ghost use Rattle.sh_world.specs.States.{line_at};
+ghost use Rattle.sh_world.specs.Turning.{behind};
 
+use crate::Line;
 use sh_base::Config;
 
 /// The place of the line of a lock at a seat's compute server. Conditions: a lock and a seat of the setting.
@@ -16,4 +18,11 @@ pub(crate) fn line_at(cfg: &Config, lock: u32, seat: u32) -> usize
     ensures within { result < all_locks (parts_of cfg.now) * (parts_of cfg.now).computes }
 {
     lock as usize * cfg.parts().computes as usize + cfg.compute_of(seat) as usize
+}
+
+/// How many tickets were drawn behind this one.
+pub(crate) fn behind(line: &Line, ticket: u64) -> u64
+    ensures { result ≡ behind line.now ticket }
+{
+    line.next.wrapping_sub(ticket).wrapping_sub(1)
 }

@@ -1,7 +1,7 @@
 // The point at which a call is answered.
-ghost use Rattle.std.specs.Prelude.{◌≡◌, ◌≤◌, length};
+ghost use Rattle.std.specs.Prelude.{◌≡◌, ◌↔◌, ◌≤◌, IsTrue, length};
 ghost use Rattle.sh_map.specs.Log.{IsLegal};
-ghost use Rattle.sh_core.specs.Actors.{had_same, least_point, point_of};
+ghost use Rattle.sh_core.specs.Actors.{least_point, point_of};
 ghost use Rattle.sh_world.specs.Running.{HadAt, HasPoint};
 
 use sh_base::Value;
@@ -9,7 +9,7 @@ use sh_map::{Call, Entry, Reply};
 
 // Whether two values are the same, or both are none.
 fn same(a: &Option<Value>, b: &Option<Value>) -> bool
-    ensures { result ≡ had_same a.now b.now }
+    ensures { IsTrue result ↔ (a.now ≡ b.now) }
 {
     match (a, b) {
         (Some(a), Some(b)) => a.words() == b.words(),

@@ -7,11 +7,12 @@ ghost use Rattle.sh_client.specs.declared.state.Phase.TheVariants.{Idle};
 ghost use Rattle.sh_client.specs.Feeds.{fed_by, turned_by};
 ghost use Rattle.sh_client.specs.Giving.{makes};
 ghost use Rattle.sh_client.specs.Sound.{IsPointCall};
-ghost use Rattle.sh_client.specs.Wants.{want_of};
+ghost use Rattle.sh_client.specs.Wants.{want_of, IsWithin};
 ghost use Rattle.sh_world.specs.States.{answered};
 ghost use Rattle.sh_world.specs.Turning.{asked, behind, calls_after, drawn, is_idle, left_line, looked_client, looked_line, place_after, started, starts_next, with_ticket};
 ghost use Rattle.sh_world.specs.Seats.{CanAsk, CanSettle, CanStart};
 
+use crate::lines::behind;
 use crate::points::point_of;
 use crate::{Given, Line, Seat};
 use sh_base::Event;
@@ -35,6 +36,7 @@ impl Seat {
         requires { CanAsk calls.now self.old }
         ensures seat { self.new ≡ asked calls.now self.old seen }
         ensures want { result ≡ want_of self.new.client }
+        ensures within { IsWithin self.new.client.setting result }
     {
         match self.client.want() {
             Want::Done => {
@@ -94,6 +96,7 @@ impl Seat {
         ensures found { result ≡ found_by words.old event }
         ensures words { words.new ≡ apply words.old event }
         ensures log { log.new.items ≡ log.old.items ++ makes self.old.client }
+        ensures room { vec_capacity log.new ≡ vec_capacity log.old }
         ensures seat { self.new ≡ place_after self.old log.old.items (makes self.old.client) (fed_by self.old.client (found_by words.old event)) }
         ensures calls { calls.new ≡ calls_after calls.old self.old log.old.items (fed_by self.old.client (found_by words.old event)) }
     {
@@ -141,8 +144,7 @@ impl Seat {
         ensures seat { self.new ≡ place_after self.old log.now [] (fed_by self.old.client (behind line.now self.old.ticket)) }
         ensures calls { calls.new ≡ calls_after calls.old self.old log.now (fed_by self.old.client (behind line.now self.old.ticket)) }
     {
-        let behind = line.next.wrapping_sub(self.ticket).wrapping_sub(1);
-        self.client.fed(behind);
+        self.client.fed(behind(line, self.ticket));
         self.settle(log, log.len() as u64, calls);
     }
 

@@ -3,7 +3,7 @@ ghost use Rattle.std.specs.Prelude.{◌≡◌, ◌+◌, ◌-◌, ◌^◌, ◌<�
 ghost use Rattle.sh_base.specs.Parts.{parts_of};
 ghost use Rattle.sh_map.specs.Calls.{IsInRange};
 ghost use Rattle.sh_client.specs.Sound.{IsPointCall};
-ghost use Rattle.sh_world.specs.Laid.{AreLaid};
+ghost use Rattle.sh_own.specs.Laid.{AreLaid};
 ghost use Rattle.sh_world.specs.States.{dones_by, dones_of, fresh_state, IsBlank};
 ghost use Rattle.sh_world.specs.Turning.{answer_of, give_of, is_idle_at, tally_at, turn_of};
 
@@ -141,11 +141,11 @@ impl World {
         ensures err { OnErr result (self.new ≡ self.old) }
     {
         let number = self.calls.len() + 1;
-        self.log.reserve(number - self.log.len())?;
+        self.log.reserve(number + 1 - self.log.len())?;
         self.calls.reserve(1)?;
-        let place = &mut self.seats[seat as usize];
-        place.numbers.reserve(1)?;
-        place.numbers.push_reserved(number as u32);
+        let given = &mut self.seats[seat as usize];
+        given.numbers.reserve(1)?;
+        given.numbers.push_reserved(number as u32);
         self.calls.push_reserved(Given {
             seat,
             call,
@@ -167,8 +167,10 @@ impl World {
         let words = laid_words(alloc, cfg)?;
         let seats = fresh_seats(alloc, cfg)?;
         let lines = free_lines(alloc, cfg)?;
+        let log = Vec::with_capacity(alloc, 1)?;
         self.cfg = *cfg;
         self.words = words;
+        self.log = log;
         self.seats = seats;
         self.lines = lines;
         Ok(())

@@ -1,7 +1,9 @@
-use Rattle.std.proofs.Common.{◌≡◌, sym, subst, ◌<◌, length, get_or, ℕ, List, arith}
-use Rattle.std.specs.Prelude.{All, Any}
+use Rattle.std.proofs.Common.{◌≡◌, ◌⊎◌, Some, sym, subst, ◌<◌, length, get_or, ℕ, List, arith}
+use Rattle.std.specs.Prelude.{All, Any, slice_get}
 use Rattle.std.proofs.lemmas.List.{get_or_default, take_all}
+use Rattle.sh_map.specs.declared.book.Done.{Done}
 use Rattle.sh_map.specs.declared.sweep.Due.{Due}
+use Rattle.sh_map.specs.Judge.{AsksNothing}
 use Rattle.sh_map.proofs.SweepLemmas.{AreSwept, swept_none, swept_more, swept_all}
 use Rattle.sh_map.proofs.sweep.are_right.Goals as goal
 
@@ -31,5 +33,5 @@ pub returns : goal.returns
 returns c =
     let items : List Due = c.deref-one-items.result.now in
     let dones = c.args.dones.now in
-    let covers = subst (λ (l : List Due). (i : ℕ) → i < length dones → Any (λ x. x.place ≡ i) l) (sym c.deref-one-items.ensures.value) c.in_ok-due.ensures.each in
+    let covers = subst (λ (l : List Due). (i : ℕ) (d : Done) → slice_get dones i ≡ Some d → Any (λ x. x.place ≡ i) l ⊎ AsksNothing c.args.part d.call) (sym c.deref-one-items.ensures.value) c.in_ok-due.ensures.each in
     swept_all c.args.part c.args.log.now dones items c.loop-one.kept.items covers (subst (λ (l : List Due). AreSwept c.args.part c.args.log.now dones l c.loop-one.kept.items) (take_all c.loop-one.one-index items c.loop-one-test.false) c.loop-one.invariant.0)

@@ -1,0 +1,44 @@
+-- The causes of refusals stay, as the log and the counters grow.
+use Rattle.std.proofs.Common.{◌≡◌, ℕ, ◌≤◌, ◌<◌, List, [], ◌∷◌, ◌++◌, length, sym, ap, ◌∙◌, subst, arith}
+use Rattle.std.proofs.lemmas.List.{take-append-le}
+use Rattle.sh_base.specs.declared.config.ConfigParts.{ConfigParts}
+use Rattle.sh_map.specs.declared.call.Call.{Call}
+use Rattle.sh_map.specs.declared.call.Call.TheVariants.{Put, Del}
+use Rattle.sh_map.specs.declared.call.Reply.{Reply}
+use Rattle.sh_map.specs.declared.call.Reply.TheVariants as reply
+use Rattle.sh_map.specs.declared.log.Entry.{Entry as LogEntry}
+use Rattle.sh_map.specs.declared.book.Done.{Done}
+use Rattle.sh_map.specs.Map.{get}
+use Rattle.sh_map.specs.Log.{map_of}
+use Rattle.sh_scene.specs.Scene.{Scene}
+use Rattle.sh_core.specs.Actors.{Actor, AreAnswered, point_of}
+use Rattle.sh_core.specs.Fits.{IsDecided}
+use Rattle.sh_core.specs.Causes.{HasCause, HaveCauses}
+
+module _ (p : ConfigParts) (c now : ℕ → ℕ) (rise : (server : ℕ) → server < p.servers → c server ≤ now server) (log more : List LogEntry) where
+  cause_longer : (first point : ℕ) (call : Call) (r : Reply) → point ≤ length log → HasCause p c log first point call r → HasCause p now (log ++ more) first point call r
+  cause_longer first point (Put key value) reply.Full le h = (
+    λ server lt. omega (arith, h.0 server lt, rise server lt),
+    let n = h.1 in record { at = n.at; from = n.from; below = n.below; absent = ap (λ (es : List LogEntry). get (map_of es) key) (take-append-le n.at log more (omega (arith, n.below, le))) ∙ n.absent },
+  )
+  cause_longer first point (Put key value) (reply.Worn version) le h = h
+  cause_longer first point (Del key) (reply.Worn version) le h = h
+  cause_longer first point call r le h = tt
+
+  longer : (seat : ℕ) (ds : List Done) → AreAnswered log seat ds → HaveCauses p c log ds → HaveCauses p now (log ++ more) ds
+  longer seat [] a h = tt
+  longer seat (d ∷ ds) a h = (cause_longer d.first d.point d.call d.reply a.0.answers.within h.0, longer seat ds a.1 h.1)
+
+  pub causes_on : (after : List LogEntry) → after ≡ log ++ more → (seat : ℕ) (ds : List Done) → AreAnswered log seat ds → HaveCauses p c log ds → HaveCauses p now after ds
+  causes_on after e seat ds a h = subst (λ (es : List LogEntry). HaveCauses p now es ds) (sym e) (longer seat ds a h)
+
+pub causes_snoc : (p : ConfigParts) (c : ℕ → ℕ) (log : List LogEntry) (ds : List Done) (d : Done) → HaveCauses p c log ds → HasCause p c log d.first d.point d.call d.reply → HaveCauses p c log (ds ++ d ∷ [])
+causes_snoc p c log [] d h k = (k, tt)
+causes_snoc p c log (x ∷ ds) d h k = (h.0, causes_snoc p c log ds d h.1 k)
+
+-- a reply that was decided
+pub decided_cause : (p : ConfigParts) (s : Scene) (sn : List LogEntry) (i : ℕ) (a : Actor) → a.seen ≤ length sn → (call : Call) (r : Reply) → IsDecided p s i a.first a.point a.seen call r → HasCause p s.counter s.log a.first (point_of sn a.first a.point call r) call r
+decided_cause p s sn i a more (Put key value) reply.Full h = let n = h.1 in (h.0, record { at = n.at; from = n.from; below = omega (arith, n.below, more); absent = n.absent })
+decided_cause p s sn i a more (Put key value) (reply.Worn version) h = h
+decided_cause p s sn i a more (Del key) (reply.Worn version) h = h
+decided_cause p s sn i a more call r h = tt

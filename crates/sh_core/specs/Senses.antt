@@ -1,0 +1,153 @@
+-- The senseless cases: turns in which a client makes nothing of the word that it is fed, and starts again. They are said by
+-- the client alone; no client of a pool comes to one.
+use Rattle.std.specs.Prelude.{◌≡◌, ◌≢◌, ℕ, ◌&&◌, not, if◌then◌else◌, Bool, true, false, List, [], ◌∷◌, Option, Some, None}
+use Rattle.sh_base.specs.declared.config.ConfigParts.{ConfigParts}
+use Rattle.sh_base.specs.declared.event.Event.{Event}
+use Rattle.sh_base.specs.Memory.{found_by}
+use Rattle.sh_map.specs.declared.call.Call.{Call}
+use Rattle.sh_map.specs.declared.call.Call.TheVariants.{Range}
+use Rattle.sh_map.specs.declared.log.Entry.{Entry as LogEntry}
+use Rattle.sh_image.specs.declared.inner.Image.{Image}
+use Rattle.sh_image.specs.declared.inner.Image.TheVariants.{Leaf as LeafImage, Inner as InnerImage}
+use Rattle.sh_alloc.specs.declared.state.ChunkWant.{ChunkWant}
+use Rattle.sh_alloc.specs.declared.state.ChunkWant.TheVariants as chunk
+use Rattle.sh_alloc.specs.Walks.{fed_by as walk_fed, want_of as walk_wants}
+use Rattle.sh_read.specs.declared.state.Progress.{Progress}
+use Rattle.sh_read.specs.declared.state.Progress.TheVariants.{More, Accepted, Again, Odd}
+use Rattle.sh_read.specs.Reads.{accepted, progress_of, fed_by as read_fed}
+use Rattle.sh_descend.specs.Descent.{hop_of}
+use Rattle.sh_descend.specs.declared.Hop.{Hop}
+use Rattle.sh_descend.specs.declared.Hop.TheVariants.{Here, Right, Down, Restart}
+use Rattle.sh_decide.specs.declared.state.Aim.{Aim}
+use Rattle.sh_decide.specs.declared.state.Aim.TheVariants.{Own, Posts}
+use Rattle.sh_client.specs.declared.state.Phase.{Phase}
+use Rattle.sh_client.specs.declared.state.Phase.TheVariants.{Root, Read, Hold, Seek, Waiting}
+use Rattle.sh_client.specs.declared.state.Then.TheVariants.{Starts}
+use Rattle.sh_client.specs.declared.state.Write.TheVariants.{Nothing}
+use Rattle.sh_client.specs.declared.state.Want.TheVariants as want
+use Rattle.sh_client.specs.Machine.{Machine}
+use Rattle.sh_decide.specs.Aims.{is_node, key_of, takes_lock, target}
+use Rattle.sh_decide.specs.Leaves.{are_keys_once}
+use Rattle.sh_decide.specs.Deciding.{has_separator}
+use Rattle.sh_decide.specs.Ways.{is_below}
+use Rattle.sh_client.specs.Wants.{want_of}
+use Rattle.sh_client.specs.Feeds.{fed_by}
+use Rattle.sh_core.specs.Actors.{Actor}
+use Rattle.sh_core.specs.Core.{Inv}
+
+-- ---- an image that was READ without a lock
+
+-- it is an inner node, where a get or a range looks for its leaf
+abbrev pub lacks_answer : Call → Aim → Image → Bool
+lacks_answer call aim (LeafImage a) = false
+lacks_answer call aim (InnerImage a) = not (takes_lock call aim)
+
+-- its hop is Restart, or to a number that names no node
+abbrev pub strays_by : ConfigParts → Call → Aim → Image → Hop → Bool
+strays_by p call aim image Here = lacks_answer call aim image
+strays_by p call aim image (Right next) = not (is_node p next)
+strays_by p call aim image (Down child) = not (is_node p child)
+strays_by p call aim image Restart = true
+
+-- no hop is asked of the root that a new root goes over
+abbrev pub strays : ConfigParts → Call → Aim → (top : Bool) → Image → Bool
+strays p call aim top image = if top && is_below aim image then false else strays_by p call aim image (hop_of image (key_of call aim) (target aim))
+
+-- ---- an image that was READ under its lock
+
+-- it is an inner node where an update looks for its leaf, or a leaf where a post looks for an inner node
+abbrev pub is_other_kind : Aim → Image → Bool
+is_other_kind Own (LeafImage a) = false
+is_other_kind Own (InnerImage a) = true
+is_other_kind (Posts post) (LeafImage a) = true
+is_other_kind (Posts post) (InnerImage a) = false
+
+-- it covers the key, and is of the other kind, or has a key twice, or has the separator of the post already
+abbrev pub is_wrong_here : Aim → Image → Bool
+is_wrong_here Own (LeafImage a) = not (are_keys_once a.entries)
+is_wrong_here (Posts post) (InnerImage a) = has_separator a.pairs post.separator
+is_wrong_here aim image = is_other_kind aim image
+
+-- or its hop is down, or Restart, or to a number that names no node
+abbrev pub is_wrong_by : ConfigParts → Aim → Image → Hop → Bool
+is_wrong_by p aim image Here = is_wrong_here aim image
+is_wrong_by p aim image (Right next) = not (is_node p next)
+is_wrong_by p aim image (Down child) = true
+is_wrong_by p aim image Restart = true
+
+abbrev pub is_wrong : ConfigParts → Call → Aim → Image → Bool
+is_wrong p call aim image = is_wrong_by p aim image (hop_of image (key_of call aim) (target aim))
+
+-- ---- a turn
+
+-- the image of a READ; there has to be one
+abbrev pub of_image : (senseless : Image → Bool) → Option Image → Bool
+of_image senseless (Some image) = senseless image
+of_image senseless None = true
+
+-- what a READ comes to: the words spell no node, or else it is as these say where they are torn and where they spell one
+abbrev pub of_read : (torn whole : Bool) → Progress → Bool
+of_read torn whole More = false
+of_read torn whole Accepted = whole
+of_read torn whole (Again rear front) = torn
+of_read torn whole Odd = true
+
+-- a walk that found a chunk: the node in hand is to be split
+abbrev pub of_walk : (split : Bool) → ChunkWant → Bool
+of_walk split (chunk.Got server chunk) = split
+of_walk split want = false
+
+-- Fed this word, a client does so: at the root word with a number that names no node; in a READ, which under a lock may
+-- not be torn either; and with a chunk for the split of a node of the other kind.
+abbrev pub is_senseless_in : Machine → (word : ℕ) → Phase → Bool
+is_senseless_in m word (Root aim) = not (is_node m.setting word)
+is_senseless_in m word (Read aim top) = of_read false (of_image (λ (x : Image). strays m.setting m.call aim top x) (accepted m.setting (read_fed m.setting m.reads word))) (progress_of m.setting m.reads word)
+is_senseless_in m word (Hold aim depth) = of_read true (of_image (λ (x : Image). is_wrong m.setting m.call aim x) (accepted m.setting (read_fed m.setting m.reads word))) (progress_of m.setting m.reads word)
+is_senseless_in m word (Seek aim depth) = of_walk (of_image (λ (x : Image). is_other_kind aim x) (accepted m.setting m.reads)) (walk_wants m.setting (walk_fed m.setting m.walk word))
+is_senseless_in m word phase = false
+
+abbrev pub is_senseless : Machine → (word : ℕ) → Bool
+is_senseless m word = is_senseless_in m word m.phase
+
+-- ---- what a client does then
+
+abbrev pub is_at_root : Phase → Bool
+is_at_root (Root aim) = true
+is_at_root phase = false
+
+-- its lock is given back with nothing written, and its descent or its post starts again
+abbrev pub gives_back : Phase → Bool
+gives_back (Waiting node depth Nothing (Starts aim)) = true
+gives_back phase = false
+
+-- or its READ under the lock begins again
+abbrev pub is_none : List ℕ → Bool
+is_none [] = true
+is_none (x ∷ loaded) = false
+
+abbrev pub leaves_off : Phase → (loaded : List ℕ) → Bool
+leaves_off (Hold aim depth) loaded = is_none loaded
+leaves_off phase loaded = gives_back phase
+
+-- Behind one of these turns a client is at the root word, or on its way there, or at the begin of its READ.
+abbrev pub starts_again : Phase → Machine → Bool
+starts_again (Root aim) m = is_at_root m.phase
+starts_again (Read aim top) m = is_at_root m.phase
+starts_again (Hold aim depth) m = leaves_off m.phase m.reads.loaded
+starts_again (Seek aim depth) m = gives_back m.phase
+starts_again phase m = false
+
+-- only an update and a post take a lock, and ranges have no turns of their own yet
+abbrev pub IsMade : Call → Phase → Type 0
+IsMade call (Read aim top) = (low high : ℕ) → call ≢ Range low high
+IsMade call (Hold aim depth) = takes_lock call aim ≡ true
+IsMade call phase = Unit {0}
+
+-- a client starts again in the senseless cases, and in no other
+abbrev pub AreAllCases : Type 0
+AreAllCases = (m : Machine) (word : ℕ) → IsMade m.call m.phase → is_senseless m word ≡ starts_again m.phase (fed_by m word)
+
+-- What a wanted event finds is never senseless, whatever the order of the clients' turns.
+abbrev pub NeverSenseless : ConfigParts → Type 1
+NeverSenseless p = (words : List ℕ) (log : List LogEntry) (Has : ℕ → Actor → Type 0) (Out : ℕ → ℕ → ℕ → Type 0) (seat : ℕ) (a : Actor) (e : Event) → Inv p words log Has Out → Has seat a → want_of a.client ≡ want.Event e
+    → is_senseless a.client (found_by words e) ≡ false

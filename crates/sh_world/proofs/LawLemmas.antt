@@ -1,0 +1,214 @@
+-- What holds of a world after any turns, by the core's laws.
+use Rattle.std.proofs.Common.{◌≡◌, ◌≢◌, ◌⊎◌, ℕ, zero, suc, ◌+◌, ◌-◌, ◌<◌, ◌≤◌, inl, inr, Bool, true, false, List, [], ◌∷◌, ◌++◌, length, get_or, set, Option, Some, None, refl, sym, ap, ◌∙◌, subst, arith, append-nil, eq-eqb, eqb-true}
+use Rattle.std.specs.Prelude.{◌==◌, ◌&&◌, if◌then◌else◌, slice_get, map, All, AllPairs}
+use Rattle.std.specs.List.{AllByRecursion}
+use Rattle.std.proofs.lemmas.Bool.{and_parts}
+use Rattle.std.proofs.lemmas.Option.{slice_get_cases, slice_get_past}
+use Rattle.std.proofs.lemmas.List.Kept.{AllPairs-cons}
+use Rattle.sh_base.specs.declared.config.ConfigParts.{ConfigParts}
+use Rattle.sh_base.specs.declared.event.Event.{Event}
+use Rattle.sh_base.specs.Setting.{all_seats}
+use Rattle.sh_base.specs.Layout.{compute_of}
+use Rattle.sh_map.specs.declared.call.Reply.{Reply}
+use Rattle.sh_map.specs.declared.book.Done.{Done}
+use Rattle.sh_map.specs.declared.log.Entry.{Entry}
+use Rattle.sh_map.specs.declared.call.Call.{Call}
+use Rattle.sh_client.specs.declared.state.Phase.{Phase}
+use Rattle.sh_client.specs.declared.state.Phase.TheVariants.{Body}
+use Rattle.sh_client.specs.declared.state.Write.{Write}
+use Rattle.sh_client.specs.declared.state.Write.TheVariants.{Entry as OneEntry, Leaf as WholeLeaf, LeftLeaf}
+use Rattle.sh_client.specs.Giving.{entries_of, made_in}
+use Rattle.sh_client.specs.Machine.{Machine}
+use Rattle.sh_client.specs.declared.state.Want.{Want}
+use Rattle.sh_client.specs.declared.state.Want.TheVariants as want
+use Rattle.sh_client.specs.Rests.{is_resting}
+use Rattle.sh_client.specs.Wants.{want_of}
+use Rattle.sh_core.specs.Actors.{Actor}
+use Rattle.sh_core.specs.Books.{numbered, IsBookOf}
+use Rattle.sh_core.proofs.AtRest.{at_rest}
+use Rattle.sh_core.proofs.Books.{books_are_lawful, calls_are_answered}
+use Rattle.sh_core.proofs.Moments.{each_moment}
+use Rattle.sh_core.proofs.Refusals.{refusals_have_causes}
+use Rattle.sh_core.proofs.Senses.{never_senseless}
+use Rattle.sh_world.specs.declared.state.Given.{Given}
+use Rattle.sh_world.specs.States.{Place, State, actor_of, done_in, dones_from, dones_of, HasActor}
+use Rattle.sh_world.specs.Turning.{answer_at, answer_in, answer_of, asked, asked_in, is_done, is_idle, is_idle_at, started, starts, starts_next, took, turn_at}
+use Rattle.sh_world.specs.Lines.{Away, stand_in, stand_of, IsIn}
+use Rattle.sh_world.specs.Running.{IsRunning}
+use Rattle.sh_world.specs.Laws.{entries_at, entries_in, AllIdle, Clients, Extends, IdlesRight, Rights, IsLawful}
+use Rattle.sh_world.specs.declared.turn.Turn.TheVariants as turn
+use Rattle.sh_world.proofs.CountLemmas.{entries_one}
+use Rattle.sh_world.proofs.MoveLemmas.{set_same}
+use Rattle.sh_world.proofs.PlaceLemmas.{number_in}
+use Rattle.sh_world.proofs.RunLemmas.{log_few, seat_at}
+use Rattle.sh_world.proofs.StartLemmas.{rests_done}
+
+-- ---- the book
+
+all_cons : {X : Type 0} (P : X → Type 0) (x : X) (xs : List X) → P x → All P xs → All P (x ∷ xs)
+all_cons P x xs px h zero d lt = px
+all_cons P x xs px h (suc i) d lt = h i d (omega (arith, lt))
+
+numbers_from_n : (n m : ℕ) (calls : List Given) → n ≤ m → All (λ (d : Done). n ≤ d.n) (dones_from m calls)
+numbers_from_n n m [] le = λ i d lt. absurd (omega (arith, lt))
+numbers_from_n n m (g ∷ calls) le = by_reply (numbers_from_n n (m + 1) calls (omega (arith, le))) g.reply where
+  by_reply : All (λ (d : Done). n ≤ d.n) (dones_from (m + 1) calls) → (o : Option Reply) → All (λ (d : Done). n ≤ d.n) (done_in m g o ++ dones_from (m + 1) calls)
+  by_reply h None = h
+  by_reply h (Some r) = all_cons (λ (d : Done). n ≤ d.n) (record { n = m; seat = g.seat; call = g.call; reply = r; first = g.first; point = g.point; rows = [] }) (dones_from (m + 1) calls) le h
+
+rise : (n : ℕ) (calls : List Given) → AllPairs (λ (d e : Done). d.n < e.n) (dones_from n calls)
+rise n [] = λ i j d less lt. absurd (omega (arith, lt))
+rise n (g ∷ calls) = by_reply (rise (n + 1) calls) (numbers_from_n (n + 1) (n + 1) calls (omega arith)) g.reply where
+  by_reply : AllPairs (λ (d e : Done). d.n < e.n) (dones_from (n + 1) calls) → All (λ (d : Done). n + 1 ≤ d.n) (dones_from (n + 1) calls) → (o : Option Reply) → AllPairs (λ (d e : Done). d.n < e.n) (done_in n g o ++ dones_from (n + 1) calls)
+  by_reply h more None = h
+  by_reply h more (Some r) = AllPairs-cons (λ (d e : Done). d.n < e.n) (record { n = n; seat = g.seat; call = g.call; reply = r; first = g.first; point = g.point; rows = [] }) (dones_from (n + 1) calls) (λ i d lt. let m = more i d lt in omega (arith, m)) h
+
+owners : (Has : ℕ → Actor → Type 0) (n : ℕ) (calls : List Given) → ((k : ℕ) (g : Given) → slice_get calls k ≡ Some g → (a : Actor) × Has g.seat a) → AllByRecursion (λ (d : Done). (a : Actor) × Has d.seat a) (dones_from n calls)
+owners Has n [] h = tt
+owners Has n (g ∷ calls) h = by_reply (owners Has (n + 1) calls (λ k x e. h (suc k) x e)) (h 0 g refl) g.reply where
+  by_reply : AllByRecursion (λ (d : Done). (a : Actor) × Has d.seat a) (dones_from (n + 1) calls) → (a : Actor) × Has g.seat a → (o : Option Reply) → AllByRecursion (λ (d : Done). (a : Actor) × Has d.seat a) (done_in n g o ++ dones_from (n + 1) calls)
+  by_reply r own None = r
+  by_reply r own (Some x) = (own, r)
+
+done_is : (w : Want) → is_done w ≡ true → w ≡ want.Done
+done_is want.Done e = refl
+done_is w e = cc
+
+module _ (s : State) (run : IsRunning s) where
+  client_at : (k : ℕ) (g : Given) → slice_get s.calls k ≡ Some g → (a : Actor) × Clients s g.seat a
+  client_at k g e =
+      let small = (run.given k g e).seat_is in
+      let q = seat_at s run g.seat (omega (arith, small, run.seats)) in
+      (actor_of s.calls g.seat q.0, record { place = q.0; here = q.1; actor_is = refl })
+
+  book : IsBookOf (Clients s) (dones_of s.calls)
+  book = record {
+    seats = owners (Clients s) 1 s.calls client_at;
+    own = λ seat a h. ap (λ (x : Actor). map (numbered 0) x.dones) (sym h.actor_is);
+    numbers = rise 1 s.calls;
+  }
+
+  -- an idle seat's client is at rest, and stands nowhere
+  idle_rests : (seat : ℕ) (q : Place) → slice_get s.seats seat ≡ Some q → is_idle_at (Some q) ≡ true → is_resting q.client ≡ true
+  idle_rests seat q at e = rests_done s run seat q at (done_is (want_of q.client) (and_parts (is_done (want_of q.client)) (q.ended == length q.numbers) e).0)
+
+  all_rest : AllIdle s → (seat : ℕ) (a : Actor) → Clients s seat a → is_resting a.client ≡ true
+  all_rest idle seat a h = subst (λ (x : Actor). is_resting x.client ≡ true) (sym h.actor_is) (idle_rests seat h.place h.here (idle seat h.place h.here))
+
+  no_right : AllIdle s → (lock compute depth : ℕ) → Rights s lock compute depth → ⊥
+  no_right idle lock compute depth h =
+      let l = run.lines.each lock compute h.line h.lock_is h.compute_is h.here in
+      let x = l.each 0 (omega (arith, (l.left depth h.left).0)) in
+      let phase = (run.places x.seat x.place x.stands.here).rests (idle_rests x.seat x.place x.stands.here (idle x.seat x.place x.stands.here)) in
+      subst (IsIn lock) (ap (stand_in x.place.client.setting x.place.client) phase) x.stands.stands
+
+  pub lawful : IsLawful s
+  lawful = record {
+    seats = run.seats;
+    moment = each_moment s.setting s.words s.log (Clients s) (Rights s) run.inv;
+    book = books_are_lawful s.setting s.words s.log (Clients s) (Rights s) (dones_of s.calls) run.inv book;
+    causes = refusals_have_causes s.setting s.words s.log (Clients s) (Rights s) (dones_of s.calls) run.inv book;
+    answers = λ seat a h. calls_are_answered s.setting s.words s.log (Clients s) (Rights s) seat a run.inv h;
+    senses = λ seat a e h w. never_senseless s.setting run.setting s.words s.log (Clients s) (Rights s) seat a e run.inv h w;
+    lines = run.lines;
+    few = log_few s run;
+    rest = λ idle. at_rest s.setting run.setting s.words s.log (Clients s) (Rights s) run.inv (all_rest idle) (no_right idle);
+  }
+
+-- ---- the log
+
+took_log : (s : State) (i : ℕ) (r : Place) (w : Want) → (took s i r w).log ≡ s.log ++ entries_in r w
+took_log s i r (want.Event e) = refl
+took_log s i r (want.Draw lock) = refl
+took_log s i r (want.Look lock) = refl
+took_log s i r (want.Waiting lock) = refl
+took_log s i r (want.Leave lock carry) = refl
+took_log s i r want.Done = sym (append-nil s.log)
+
+stored_one : (m : Machine) (write : Write) → length (entries_of m write) ≤ 1
+stored_one m (OneEntry index) = entries_one m.seat m.call m.reply
+stored_one m WholeLeaf = entries_one m.seat m.call m.reply
+stored_one m LeftLeaf = entries_one m.seat m.call m.reply
+stored_one m write = omega arith
+
+if_one : (es : List Entry) → length es ≤ 1 → (b : Bool) → length (if b then es else []) ≤ 1
+if_one es h true = h
+if_one es h false = omega arith
+
+made_one : (m : Machine) (ph : Phase) → length (made_in m ph) ≤ 1
+made_one m (Body n carry done write after) = if_one (entries_of m write) (stored_one m write) (done + 1 == length m.body)
+made_one m ph = omega arith
+
+in_one : (r : Place) (w : Want) → length (entries_in r w) ≤ 1
+in_one r (want.Event e) = made_one r.client r.client.phase
+in_one r w = omega arith
+
+extends_at : (s : State) (i : ℕ) (o : Option Place) → ((turn_at s i o).log ≡ s.log ++ entries_at s o) × (length (entries_at s o) ≤ 1)
+extends_at s i None = (sym (append-nil s.log), omega arith)
+extends_at s i (Some q) = let r = asked s.calls q (length s.log) in (took_log s i r (want_of r.client), in_one r (want_of r.client))
+
+pub extends : (s : State) (i : ℕ) → Extends s i
+extends s i = let h = extends_at s i (slice_get s.seats i) in record { log = h.0; one = h.1 }
+
+-- ---- idle turns
+
+answer_done : (words : List ℕ) (w : Want) → answer_in words w ≡ turn.Idle → w ≡ want.Done
+answer_done words want.Done e = refl
+answer_done words w e = cc
+
+started_wants : (q : Place) (n seen : ℕ) (call : Call) → want_of (started q n call seen).client ≢ want.Done
+started_wants q n seen call e = cc
+
+module _ (s : State) (run : IsRunning s) (i : ℕ) (q : Place) (at : slice_get s.seats i ≡ Some q) where
+  calls_none : (o : Option Given) (n : ℕ) → slice_get s.calls (n - 1) ≡ o → slice_get q.numbers q.ended ≡ Some n → want_of (starts s.calls q n (length s.log) o).client ≡ want.Done → ⊥
+  calls_none None n e next w =
+      let pl = run.places i q at in
+      let nu = number_in i 1 s.calls q.ended n (ap (λ (ns : List ℕ). slice_get ns q.ended) (sym pl.numbers) ∙ next) in
+      none_some (sym e ∙ nu.here) where
+        none_some : {g : Given} → None ≡ Some g → ⊥
+        none_some x = cc
+  calls_none (Some g) n e next w = started_wants q n (length s.log) g.call w
+
+  next_none : (o : Option ℕ) → slice_get q.numbers q.ended ≡ o → want_of (starts_next s.calls q (length s.log) o).client ≡ want.Done → slice_get q.numbers q.ended ≡ None
+  next_none None e w = e
+  next_none (Some n) e w = absurd (calls_none (slice_get s.calls (n - 1)) n refl e w)
+
+  ended_all : slice_get q.numbers q.ended ≡ None → q.ended ≡ length q.numbers
+  ended_all e = elim (slice_get_cases q.numbers q.ended).1 [
+    | inl h ↦ absurd (none_some (sym e ∙ h.2))
+    | inr h ↦ let le = (run.places i q at).ended in omega (arith, le, h.0)
+  ] where
+    none_some : {n : ℕ} → None ≡ Some n → ⊥
+    none_some x = cc
+
+  idle_from : (w : Want) → want_of q.client ≡ w → want_of (asked_in s.calls q (length s.log) w).client ≡ want.Done → is_idle q ≡ true
+  idle_from want.Done e d =
+      let all = ended_all (next_none (slice_get q.numbers q.ended) refl d) in
+      ap (λ (v : Want). is_done v && (q.ended == length q.numbers)) e ∙ eq-eqb q.ended (length q.numbers) all
+  idle_from (want.Event x) e d = let f : want.Event x ≡ want.Done = sym e ∙ d in cc
+  idle_from (want.Draw lock) e d = let f : want.Draw lock ≡ want.Done = sym e ∙ d in cc
+  idle_from (want.Look lock) e d = let f : want.Look lock ≡ want.Done = sym e ∙ d in cc
+  idle_from (want.Waiting lock) e d = let f : want.Waiting lock ≡ want.Done = sym e ∙ d in cc
+  idle_from (want.Leave lock carry) e d = let f : want.Leave lock carry ≡ want.Done = sym e ∙ d in cc
+
+  asked_idle : is_idle q ≡ true → asked s.calls q (length s.log) ≡ q
+  asked_idle e =
+      let a = and_parts (is_done (want_of q.client)) (q.ended == length q.numbers) e in
+      let n = eqb-true q.ended (length q.numbers) a.1 in
+      let past = slice_get_past q.numbers q.ended (omega (arith, n)) in
+      ap (asked_in s.calls q (length s.log)) (done_is (want_of q.client) a.0) ∙ ap (starts_next s.calls q (length s.log)) past
+
+  idle_wants : is_idle q ≡ true → want_of (asked s.calls q (length s.log)).client ≡ want.Done
+  idle_wants e = ap (λ (x : Place). want_of x.client) (asked_idle e) ∙ done_is (want_of q.client) (and_parts (is_done (want_of q.client)) (q.ended == length q.numbers) e).0
+
+  answers_idle : answer_of s i ≡ turn.Idle → is_idle q ≡ true
+  answers_idle e = idle_from (want_of q.client) refl (answer_done s.words (want_of (asked s.calls q (length s.log)).client) (sym (ap (answer_at s) at) ∙ e))
+
+  pub idles_right : IdlesRight s i
+  idles_right = record {
+    cause = (λ e. ap is_idle_at at ∙ answers_idle e, λ e. ap (answer_at s) at ∙ ap (answer_in s.words) (idle_wants (sym (ap is_idle_at at) ∙ e)));
+    same = λ e. let idle = answers_idle e in ap (turn_at s i) at ∙ (λ z. took s i (asked_idle idle z) ((idle_wants idle) z)) ∙ (λ z. record { setting = s.setting; words = s.words; log = s.log; seats = set_same s.seats i q at z; calls = s.calls; lines = s.lines });
+  }
+
+pub idle_at : (s : State) (run : IsRunning s) (i : ℕ) → i < length s.seats → IdlesRight s i
+idle_at s run i lt = let q = seat_at s run i lt in idles_right s run i q.0 q.1

@@ -1,0 +1,31 @@
+-- A WRITE of a node, one store more.
+use Rattle.std.proofs.Common.{◌≡◌, ◌⊎◌, ℕ, ◌+◌, ◌<◌, ◌≤◌, List, length, get_or, set, refl, ◌∙◌, inl, inr, arith}
+use Rattle.std.proofs.lemmas.Bool.{cases_eq}
+use Rattle.std.proofs.lemmas.List.{get_or-set_same, get_or-set_other}
+use Rattle.sh_base.specs.declared.config.ConfigParts.{ConfigParts}
+use Rattle.sh_base.specs.declared.plan.Place.TheVariants.{Body}
+use Rattle.sh_base.specs.declared.plan.WritePlan.{WritePlan}
+use Rattle.sh_base.specs.Layout.{node_word}
+use Rattle.sh_base.specs.Plans.{IsWriteOf, place_of, write_steps}
+use Rattle.std.specs.Prelude.{false}
+
+-- a WRITE that gives no lock back stores each word of its node
+pub body_of : (p : ConfigParts) (n count : ℕ) (plan : WritePlan) (step : ℕ) → IsWriteOf p n 0 count false plan → place_of plan step ≡ Body (node_word p n + step) step
+body_of p n count plan step h = let none : 0 + step ≡ step = omega arith in rw (h.0, h.1, h.2, h.3, none) refl
+
+pub steps_of : (p : ConfigParts) (n count : ℕ) (plan : WritePlan) → IsWriteOf p n 0 count false plan → write_steps plan ≡ count
+steps_of p n count plan h = rw (h.2, h.3) refl
+
+pub body_is : (at offset at' offset' : ℕ) → Body at offset ≡ Body at' offset' → (at ≡ at') × (offset ≡ offset')
+body_is at offset at' offset' e = (cc, cc)
+
+module _ (old words from : List ℕ) (first step : ℕ) where
+  pub stored_more : (at offset : ℕ) → at ≡ first + step → offset ≡ step → first + step < length words → ((o : ℕ) → o < step → get_or words (first + o) 0 ≡ get_or from o 0) → (o : ℕ) → o < step + 1 → get_or (set words at (get_or from offset 0)) (first + o) 0 ≡ get_or from o 0
+  stored_more at offset e f inside before o below = elim (cases_eq o step) [
+    | inl is ↦ rw (e, f, is) (get_or-set_same words (first + step) (get_or from step 0) 0 inside)
+    | inr ne ↦ get_or-set_other words at (first + o) (get_or from offset 0) 0 (λ same. ne (omega arith)) ∙ before o (omega arith)
+  ]
+
+  pub others_more : (at word : ℕ) → at ≡ first + step → ((i : ℕ) → (i < first) ⊎ (first + step ≤ i) → get_or words i 0 ≡ get_or old i 0) → (i : ℕ) → (i < first) ⊎ (first + (step + 1) ≤ i) → get_or (set words at word) i 0 ≡ get_or old i 0
+  others_more at word e before i out = get_or-set_other words at i word 0 (λ same. elim out [ inl low ↦ absurd (omega arith) | inr high ↦ absurd (omega arith) ])
+      ∙ before i (elim out [ inl low ↦ inl low | inr high ↦ inr (omega arith) ])

@@ -1,0 +1,115 @@
+-- What a client's call answers when it has ended, and what its seat has seen.
+use Rattle.std.proofs.Common.{◌≡◌, ◌≢◌, ℕ, suc, ◌+◌, ◌-◌, ◌^◌, ◌<◌, ◌≤◌, Bool, true, false, List, [], ◌∷◌, ◌++◌, length, take, drop, Option, Some, None, refl, sym, ap, ◌∙◌, subst, arith}
+use Rattle.std.specs.Prelude.{if◌then◌else◌}
+use Rattle.std.proofs.lemmas.List.{length-take-le, length-drop}
+use Rattle.sh_map.specs.declared.call.Call.{Call}
+use Rattle.sh_map.specs.declared.call.Call.TheVariants.{Get, Put, Del, Range}
+use Rattle.sh_map.specs.declared.call.Reply.{Reply}
+use Rattle.sh_map.specs.declared.call.Reply.TheVariants as reply
+use Rattle.sh_map.specs.declared.log.Entry.{Entry}
+use Rattle.sh_client.specs.declared.state.Phase.{Phase}
+use Rattle.sh_client.specs.declared.state.Phase.TheVariants.{Idle, Root, Read, Draw, Look, Grab, Hold, Seek, Fill, Waiting, Body, Unlock, Leave, Top, Raise, Swap, Ended}
+use Rattle.sh_client.specs.Machine.{Machine}
+use Rattle.sh_client.specs.Rests.{reply_in}
+use Rattle.sh_core.specs.Actors.{has_ended, point_after, point_of, seen_after}
+use Rattle.sh_core.proofs.Logs.{least_is}
+use Rattle.sh_world.specs.declared.state.Given.{Given}
+use Rattle.sh_world.specs.States.{answered, Place}
+use Rattle.sh_world.specs.Turning.{calls_after, going, place_after, resting}
+use Rattle.sh_world.specs.Running.{HasPoint}
+use Rattle.sh_world.specs.Seats.{CanEnd, CanSettle}
+
+-- a reply is there where the call has ended
+pub ended_in : (m : Machine) (r : Reply) (ph : Phase) → reply_in m ph ≡ Some r → (has_ended ph ≡ true) × (r ≡ m.reply)
+ended_in m r Ended e = (refl, cc)
+ended_in m r Idle e = cc
+ended_in m r (Root aim) e = cc
+ended_in m r (Read aim top) e = cc
+ended_in m r (Draw aim n) e = cc
+ended_in m r (Look aim n) e = cc
+ended_in m r (Grab aim n) e = cc
+ended_in m r (Hold aim d) e = cc
+ended_in m r (Seek aim d) e = cc
+ended_in m r (Fill n d fresh done write after) e = cc
+ended_in m r (Waiting n d write after) e = cc
+ended_in m r (Body n carry done write after) e = cc
+ended_in m r (Unlock n after) e = cc
+ended_in m r (Leave n carry after) e = cc
+ended_in m r (Top post root) e = cc
+ended_in m r (Raise post root fresh done) e = cc
+ended_in m r (Swap post root fresh) e = cc
+
+-- no reply is there while it goes on
+pub going_in : (m : Machine) (ph : Phase) → reply_in m ph ≡ None → has_ended ph ≡ false
+going_in m Ended e = cc
+going_in m Idle e = refl
+going_in m (Root aim) e = refl
+going_in m (Read aim top) e = refl
+going_in m (Draw aim n) e = refl
+going_in m (Look aim n) e = refl
+going_in m (Grab aim n) e = refl
+going_in m (Hold aim d) e = refl
+going_in m (Seek aim d) e = refl
+going_in m (Fill n d fresh done write after) e = refl
+going_in m (Waiting n d write after) e = refl
+going_in m (Body n carry done write after) e = refl
+going_in m (Unlock n after) e = refl
+going_in m (Leave n carry after) e = refl
+going_in m (Top post root) e = refl
+going_in m (Raise post root fresh done) e = refl
+going_in m (Swap post root fresh) e = refl
+
+-- an ended call can end, and is answered
+pub can_end : (log : List Entry) (calls : List Given) (x y : Place) → x ≡ y → CanSettle log calls y y.client → has_ended x.client.phase ≡ true → CanEnd log calls x x.client
+can_end log calls x y e h t = subst (λ (z : Place). CanEnd log calls z z.client) (sym e) (h (subst (λ (z : Place). has_ended z.client.phase ≡ true) e t))
+
+pub calls_ended : (log : List Entry) (calls new : List Given) (x y : Place) (r : Reply) (pt : ℕ) (c : Call) → x ≡ y → has_ended x.client.phase ≡ true → r ≡ x.client.reply → c ≡ x.client.call
+    → pt ≡ point_of log x.first x.point c r → new ≡ answered calls (x.number - 1) r x.first pt → new ≡ calls_after calls y log y.client
+calls_ended log calls new x y r pt c e t r_is c_is p_is new_is =
+    subst (λ (z : Place). new ≡ calls_after calls z log z.client) e
+    (new_is ∙ ap (answered calls (x.number - 1) r x.first) p_is ∙ (λ z. answered calls (x.number - 1) (r_is z) x.first (point_of log x.first x.point (c_is z) (r_is z)))
+    ∙ sym (ap (λ (b : Bool). if b then answered calls (x.number - 1) x.client.reply x.first (point_of log x.first x.point x.client.call x.client.reply) else calls) t))
+
+-- a call goes on
+pub place_going : (log more : List Entry) (x y w : Place) (seen point : ℕ) → x ≡ y → has_ended x.client.phase ≡ false → w ≡ record x { point = point } → seen ≡ seen_after more (length log) → point ≡ point_after more x.point (length log)
+    → record w { seen = seen } ≡ place_after y log more y.client
+place_going log more x y w seen point e t w_is s_is p_is =
+    subst (λ (z : Place). record w { seen = seen } ≡ place_after z log more z.client) e
+    (ap (λ (z : Place). record z { seen = seen }) w_is ∙ (λ z. record x { seen = s_is z; point = p_is z })
+    ∙ sym (ap (λ (b : Bool). if b then resting x log x.client else going x log more x.client) t))
+
+-- the point of a reply is a word of half the size
+pub point_small : (log : List Entry) (first point : ℕ) (c : Call) (r : Reply) → HasPoint log first c r → length log < 2 ^ 32 → point < 2 ^ 32 → point_of log first point c r < 2 ^ 32
+point_small log first point (Get key) (reply.Some v) h few small = let l = least_is log first key (Some v) h.at h.from h.within h.here in omega (arith, l.within, few)
+point_small log first point (Get key) reply.None h few small = let l = least_is log first key None h.at h.from h.within h.here in omega (arith, l.within, few)
+point_small log first point (Del key) reply.None h few small = let l = least_is log first key None h.at h.from h.within h.here in omega (arith, l.within, few)
+point_small log first point (Put key value) (reply.Some old) h few small = small
+point_small log first point (Put key value) reply.None h few small = small
+point_small log first point (Del key) (reply.Some old) h few small = small
+point_small log first point c r h few small = few
+
+pub point_fits : (log : List Entry) (first point pt : ℕ) (c d : Call) (r q : Reply) → c ≡ d → r ≡ q → HasPoint log first d q → length log < 2 ^ 32 → point < 2 ^ 32 → pt ≡ point_of log first point c r → pt < 2 ^ 32
+point_fits log first point pt c d r q c_is r_is h few small is = rw (is ∙ (λ z. point_of log first point (c_is z) (r_is z))) (point_small log first point d q h few small)
+
+module _ (log : List Entry) (seen : ℕ) (within : seen ≤ length log) where
+  -- what a seat has seen behind its turn, and where its entry is
+  tail_seen : (more : List Entry) → length more ≡ length log - seen → length log ≤ seen + 1 → seen_after more (length (take seen log)) ≡ length log
+  tail_seen [] e one = omega (arith, length-take-le seen log within, e, within)
+  tail_seen (x ∷ more) e one = omega (arith, length-take-le seen log within, e, one)
+
+  pub seen_is : length log ≤ seen + 1 → seen_after (drop seen log) (length (take seen log)) ≡ length log
+  seen_is one = tail_seen (drop seen log) (length-drop seen log) one
+
+  tail_point : (more : List Entry) (point : ℕ) → length more ≡ length log - seen → seen < length log → point_after more point (length (take seen log)) ≡ seen
+  tail_point [] point e lt = absurd (omega (arith, e, lt))
+  tail_point (x ∷ more) point e lt = length-take-le seen log within
+
+  pub point_made : (point : ℕ) → seen < length log → point_after (drop seen log) point (length (take seen log)) ≡ seen
+  point_made point lt = tail_point (drop seen log) point (length-drop seen log) lt
+
+  tail_stays : (more : List Entry) (point : ℕ) → length more ≡ length log - seen → length log ≤ seen → point_after more point (length (take seen log)) ≡ point
+  tail_stays [] point e le = refl
+  tail_stays (x ∷ more) point e le = absurd (omega (arith, e, le))
+
+  pub point_stays : (point : ℕ) → length log ≤ seen → point_after (drop seen log) point (length (take seen log)) ≡ point
+  point_stays point le = tail_stays (drop seen log) point (length-drop seen log) le

@@ -1,0 +1,20 @@
+use Rattle.std.proofs.Common.{ℕ, ◌<◌, length, subst}
+use Rattle.sh_world.specs.States.{State}
+use Rattle.sh_world.specs.Laws.{IdlesRight, IsLawful}
+use Rattle.sh_world.specs.contracts.state.World.{the_view}
+use Rattle.sh_world.proofs.LawLemmas.{extends, idle_at, lawful}
+use Rattle.sh_world.proofs.WorldLemmas.{running}
+use Rattle.sh_world.proofs.state.World.keeps_the_laws.Goals as goal
+
+pub returns-clause-lawful : goal.returns-clause-lawful
+returns-clause-lawful c =
+    let g = running (the_view c.self.inside) c.args.self.now _ 0 c.self.view_is c.self.invariant c.requires in
+    subst IsLawful c.self.view_is (lawful (the_view c.self.inside) g.0)
+
+pub returns-clause-log : goal.returns-clause-log
+returns-clause-log c = λ seat. extends c.args.self.now seat
+
+pub returns-clause-idle : goal.returns-clause-idle
+returns-clause-idle c = λ seat lt.
+    let g = running (the_view c.self.inside) c.args.self.now _ seat c.self.view_is c.self.invariant lt in
+    subst (λ (s : State). IdlesRight s seat) c.self.view_is (idle_at (the_view c.self.inside) g.0 seat g.2)

@@ -9,12 +9,13 @@ use Rattle.sh_map.specs.declared.call.Reply.{Reply}
 use Rattle.sh_map.specs.declared.book.Done.{Done}
 use Rattle.sh_client.specs.Rests.{is_resting}
 use Rattle.sh_client.specs.Wants.{want_in, want_of}
+use Rattle.sh_core.specs.Actors.{Actor}
 use Rattle.sh_world.specs.declared.state.Given.{Given}
-use Rattle.sh_world.specs.States.{Place, State, done_in, dones_by, dones_from}
+use Rattle.sh_world.specs.States.{HasActor, Place, State, done_in, dones_by, dones_from}
 use Rattle.sh_world.specs.Turning.{is_done, is_idle, is_idle_at}
 use Rattle.sh_world.specs.Running.{IsPlace, IsRunning, numbers_from}
-use Rattle.sh_world.specs.Sound.{AllIdle}
 use Rattle.sh_replay.specs.Course.{have_ended}
+use Rattle.sh_replay.specs.Thinning.{AllIdle}
 use Rattle.sh_replay.proofs.TurnLemmas.{both_left, both_right, same_number}
 
 abbrev one : Bool → ℕ
@@ -98,7 +99,7 @@ module _ (s : State) (h : IsRunning s) where
         let all = same_number q.ended (length q.numbers) (both_right (is_done (want_of q.client)) _ rests) in
         each_ended g.seat 1 s.calls (p.count ∙ all ∙ ap length p.numbers) place g here refl
 
-  idle_place : (seat : ℕ) (q : Place) → IsPlace s seat q → have_ended s.calls ≡ true → (b : Bool) → is_resting q.client ≡ b → is_idle q ≡ true
+  idle_place : (seat : ℕ) (q : Place) → IsPlace s.calls seat q → have_ended s.calls ≡ true → (b : Bool) → is_resting q.client ≡ b → is_idle q ≡ true
   idle_place seat q p ended true rests =
       let done : is_done (want_of q.client) ≡ true = ap (λ f. is_done (want_in q.client f)) (p.rests rests) in
       let all : q.ended ≡ length q.numbers = sym p.count ∙ as_many seat 1 s.calls ended ∙ sym (ap length p.numbers) in
@@ -118,6 +119,16 @@ module _ (s : State) (h : IsRunning s) where
     at : (o : Option Place) → slice_get s.seats seat ≡ o → is_idle_at o ≡ true
     at None here = refl
     at (Some q) here = idle_place seat q (h.places seat q here) ended (is_resting q.client) refl
+
+-- where every seat is idle its client rests
+rests_at : (s : State) (h : IsRunning s) → AllIdle s → (seat : ℕ) (q : Place) → slice_get s.seats seat ≡ Some q → (b : Bool) → is_resting q.client ≡ b → is_resting q.client ≡ true
+rests_at s h idle seat q here true rests = rests
+rests_at s h idle seat q here false rests =
+    let all = same_number q.ended (length q.numbers) (both_right (is_done (want_of q.client)) _ (sym (ap is_idle_at here) ∙ idle seat)) in
+    absurd (omega (arith, all, slice_get_within q.numbers q.ended q.number ((h.places seat q here).busy rests)))
+
+pub all_rest : (s : State) → IsRunning s → AllIdle s → (seat : ℕ) (a : Actor) → HasActor s.seats s.calls seat a → is_resting a.client ≡ true
+all_rest s h idle seat a has = ap (λ (b : Actor). is_resting b.client) has.actor_is ∙ rests_at s h idle seat has.place has.here (is_resting has.place.client) refl
 
 -- a call that hasn't ended is left only where no turn is
 pub none_left : (s : State) (left : ℕ) → IsRunning s → (left ≢ 0 → AllIdle s) → have_ended s.calls ≡ false → left ≡ 0

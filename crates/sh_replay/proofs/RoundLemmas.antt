@@ -11,9 +11,8 @@ use Rattle.std.proofs.lemmas.List.Elements.{All-cons, All-head, All-nil, All-tai
 use Rattle.std.proofs.lemmas.Option.{slice_get_past}
 use Rattle.sh_world.specs.States.{State}
 use Rattle.sh_world.specs.Turning.{is_idle_at, turn_of}
-use Rattle.sh_world.specs.Sound.{AllIdle}
 use Rattle.sh_replay.specs.Course.{ask, last_round, round, rounds, Rounds}
-use Rattle.sh_replay.specs.Thinning.{Thins}
+use Rattle.sh_replay.specs.Thinning.{AllIdle, Thins}
 use Rattle.sh_replay.proofs.TurnLemmas.{idle_stays, turn_idle, turn_seats}
 
 -- ---- one seat is asked

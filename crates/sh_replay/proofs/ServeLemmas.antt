@@ -9,53 +9,64 @@ use Rattle.std.proofs.lemmas.List.Sums.{sum_by-cons}
 use Rattle.sh_base.specs.declared.config.ConfigParts.{ConfigParts}
 use Rattle.sh_base.specs.Setting.{all_seats, IsSetting}
 use Rattle.sh_map.specs.declared.book.Row.{Row}
+use Rattle.sh_map.specs.Book.{IsClosed}
+use Rattle.sh_map.specs.Log.{map_of}
 use Rattle.sh_map.specs.Map.{Map, pair_of, size}
 use Rattle.sh_sheet.specs.declared.item.Item.{Item}
 use Rattle.sh_sheet.specs.declared.item.Item.TheVariants.{Ask, Mark, After, Turn}
 use Rattle.sh_sheet.specs.Sheet.{calls_of}
 use Rattle.sh_tree.specs.Tree.{IsTree, map_in}
-use Rattle.sh_world.specs.Laid.{AreLaid}
-use Rattle.sh_world.specs.Sound.{AtRest, IsSound}
-use Rattle.sh_world.specs.States.{State, fresh_from, fresh_state}
+use Rattle.sh_own.specs.Laid.{AreLaid}
+use Rattle.sh_client.specs.Rests.{is_resting}
+use Rattle.sh_core.specs.Actors.{Actor}
+use Rattle.sh_world.specs.Laws.{IsLawful}
+use Rattle.sh_world.specs.Running.{IsRunning}
+use Rattle.sh_world.specs.States.{State, dones_of, fresh_from, fresh_state}
+use Rattle.sh_world.specs.Turning.{is_idle_at}
 use Rattle.sh_replay.specs.declared.ending.Finish.{Finish}
 use Rattle.sh_replay.specs.declared.ending.Finish.TheVariants.{Done, Spent}
 use Rattle.sh_replay.specs.Course.{budget_of, course, finished, given_by, have_ended, turned_by, HasFinished, Rounds}
 use Rattle.sh_replay.specs.Served.{is_call, item_of, row_of, HasEnded, HasServed, HoldsAll, HoldsRows}
 use Rattle.sh_replay.specs.Serving.{IsServable}
 use Rattle.sh_replay.proofs.CallLemmas.{all_given, finished_same, map_size}
-use Rattle.sh_replay.proofs.EndLemmas.{idle_ended}
+use Rattle.sh_replay.proofs.EndLemmas.{all_rest, idle_ended}
 use Rattle.sh_replay.proofs.ItemLemmas.{given_seats, given_setting, turned_seats}
 use Rattle.sh_replay.proofs.RoundLemmas.{last_seats}
+
+-- what a world's laws give
+abbrev pub IsSound : State → Type 0
+IsSound s = IsLawful s × IsRunning s
 
 -- rows are those of their pairs
 rows_back : (rows : List Row) → rows ≡ map row_of (map pair_of rows)
 rows_back [] = refl
 rows_back (r ∷ rs) = ap (λ ts. r ∷ ts) (rows_back rs)
 
-rows_at_rest : {E : Type 0} (s : State) (rest : AtRest s) (r : Result (List Row) E) → IfOk r (λ rows. map pair_of rows ≡ entries (map_in s.setting s.words rest.levels)) → IfOk r (HoldsAll s)
-rows_at_rest s rest (Ok rows) h = record {
-  closed = rest.closed;
-  levels = rest.levels;
-  tree = rest.tree;
-  holds = rest.map;
+rows_at_rest : {E : Type 0} (s : State) (levels : List (List ℕ)) (closed : IsClosed s.log (dones_of s.calls)) (tree : IsTree s.setting s.words levels) (holds : map_in s.setting s.words levels ≡ map_of s.log) (r : Result (List Row) E) → IfOk r (λ rows. map pair_of rows ≡ entries (map_in s.setting s.words levels)) → IfOk r (HoldsAll s)
+rows_at_rest s levels closed tree holds (Ok rows) h = record {
+  closed = closed;
+  levels = levels;
+  tree = tree;
+  holds = holds;
   rows_are = rows_back rows ∙ ap (map row_of) h;
 }
-rows_at_rest s rest (Err e) h = tt
+rows_at_rest s levels closed tree holds (Err e) h = tt
 
 pub rows_of_words : {E : Type 0} (s : State) (p : ConfigParts) (words : List ℕ) (r : Result (List Row) E) → IsSound s → have_ended s.calls ≡ true → p ≡ s.setting → words ≡ s.words
     → ((levels : List (List ℕ)) → IsTree p words levels → IfOk r (λ rows. map pair_of rows ≡ entries (map_in p words levels))) → IfOk r (HoldsAll s)
 rows_of_words s p words r sound ended setting same h =
-    let rest = sound.rest (idle_ended s sound.running ended) in
+    let idle = idle_ended s sound.1 ended in
+    let rest = sound.0.rest (λ seat q here. ap is_idle_at (sym here) ∙ idle seat) in
     let here = subst (λ (q : ConfigParts). (levels : List (List ℕ)) → IsTree q s.words levels → IfOk r (λ rows. map pair_of rows ≡ entries (map_in q s.words levels))) setting
     (subst (λ (ws : List ℕ). (levels : List (List ℕ)) → IsTree p ws levels → IfOk r (λ rows. map pair_of rows ≡ entries (map_in p ws levels))) same h) in
-    rows_at_rest s rest r (here rest.levels rest.tree)
+    rows_at_rest s rest.levels (sound.0.book.closed (all_rest s sound.1 idle)) rest.tree rest.map r (here rest.levels rest.tree)
 
 -- there are no more rows than entries of the log
 few_rows : (s : State) (finish : Finish) (rows : List Row) → IsSound s → length s.calls ≤ 1000000 → HoldsRows s finish rows → length rows ≤ 4294967296
 few_rows s (Spent turns) rows sound few h = omega (arith, ap length h)
 few_rows s (Done turns) rows sound few h =
     let m : Map = map_in s.setting s.words h.levels in
-    omega (arith, ap length h.rows_are, length-map (entries m) row_of, sym (len-entries m), ap size h.holds, map_size s.log empty, len-empty nat_cmp (List ℕ), sound.few, few)
+    omega (arith, ap length h.rows_are, length-map (entries m) row_of, sym (len-entries m), ap size h.holds, map_size s.log empty, len-empty nat_cmp (List ℕ), sound.0.few, few)
 
 fresh_seats : (p : ConfigParts) (seat count : ℕ) → length (fresh_from p seat count) ≡ count
 fresh_seats p seat zero = refl
@@ -120,7 +131,7 @@ module _ (p : ConfigParts) (lawful : IsSetting p) (items sheet : List Item) (lai
           end_is = subst (λ (r : Rounds). HasFinished (budget_of (sum_by calls_of sheet)) r finish) on_course (subst (λ n. HasFinished n (finished given sheet budget) finish) budget_same ends);
           setting = ap (λ (s : State). s.setting) last ∙ (finished_same sheet given budget).1 ∙ setting_is;
           calls = same_items ∙ given_all;
-          lawful = sound.lawful;
+          lawful = sound.0.book.lawful;
           rows_are = holds;
           few_rows = few_rows after finish rows sound few_calls holds;
           few_calls = few_calls;

@@ -12,7 +12,7 @@ use Rattle.sh_sheet.specs.declared.item.Item.TheVariants.{Ask, Mark, After, Turn
 use Rattle.sh_sheet.specs.Sheet.{calls_of}
 use Rattle.sh_tree.specs.Tree.{IsTree, map_in}
 use Rattle.sh_world.specs.declared.state.Given.{Given}
-use Rattle.sh_world.specs.Laid.{AreLaid}
+use Rattle.sh_own.specs.Laid.{AreLaid}
 use Rattle.sh_world.specs.States.{State, dones_of}
 use Rattle.sh_replay.specs.declared.ending.Finish.{Finish}
 use Rattle.sh_replay.specs.declared.ending.Finish.TheVariants as finish

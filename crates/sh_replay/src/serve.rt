@@ -47,7 +47,7 @@ fn rows_in(alloc: Global, world: &World, finish: &Finish) -> Result<Rows, AllocE
     requires ended { HasEnded world.now finish.now }
     ensures { IfOk result (λ rows. HoldsRows world.now finish.now rows) }
 {
-    world.stands();
+    world.keeps_the_laws();
     match finish {
         Finish::Done(_) => pairs_in(alloc, world.setting(), world.words()),
         Finish::Spent(_) => Ok(Rows::new(alloc)),
@@ -70,7 +70,7 @@ pub fn serve(
     give_all(&mut world, sheet.as_slice())?;
     let budget = budget_of(world.calls().len());
     let finish = finish(&mut world, sheet, budget);
-    world.stands();
+    world.keeps_the_laws();
     let rows = rows_in(alloc, &world, &finish)?;
     Ok((world, finish, rows))
 }

@@ -1,9 +1,8 @@
 // The turns of a replay: those that the sheet's rows name, and then the finishing rounds.
 ghost use Rattle.std.specs.Prelude.{◌≡◌, ◌≢◌, ◌≤◌, ◌<◌, ◌+◌, ℕ, [], All, length, take};
 ghost use Rattle.std.specs.List.{fold, range_with_len};
-ghost use Rattle.sh_world.specs.Sound.{AllIdle};
 ghost use Rattle.sh_replay.specs.Course.{ask, finished, have_ended, last_round, turned_by, turns_by, HasFinished};
-ghost use Rattle.sh_replay.specs.Thinning.{Thins};
+ghost use Rattle.sh_replay.specs.Thinning.{AllIdle, Thins};
 
 use crate::Finish;
 use sh_sheet::{Item, Sheet};
@@ -24,6 +23,7 @@ fn take_turns(world: &mut World, seat: u32, count: u64)
         return;
     }
     for _ in 0..count {
+        world.keeps_the_laws();
         if let Turn::Idle = world.turn(seat) {
             return;
         }
@@ -59,6 +59,7 @@ fn round(world: &mut World, seats: &mut [u32], count: usize, turns: u64) -> Left
             return Left { seats: kept, turns };
         }
         let seat = seats[i];
+        world.keeps_the_laws();
         match world.turn(seat) {
             Turn::Idle => {}
             _ => {
@@ -121,10 +122,10 @@ pub fn finish(world: &mut World, sheet: &Sheet, budget: u64) -> Finish
     ensures course { world.new ≡ (finished world.old sheet.now.items budget).world }
     ensures finish { HasFinished budget (finished world.old sheet.now.items budget) result }
 {
-    world.stands();
+    world.keeps_the_laws();
     take_rows(world, sheet.as_slice());
     let turns = budget - rounds(world, budget);
-    world.stands();
+    world.keeps_the_laws();
     if have_ended(world.calls()) {
         Finish::Done(turns)
     } else {

@@ -11,8 +11,8 @@ budget_of-budget-requires c = omega (arith, ap length c.calls.ensures, given_cou
 pub finish-finish-requires : goal.finish-finish-requires
 finish-finish-requires c = given_laid c.args.cfg.now.parts c.args.cfg.now.lawful c.as_slice.result.now c.args.sheet.now.items c.lay.new.self c.give_all.new.world c.in_ok-lay.ensures.ok c.as_slice.ensures c.in_ok-give_all.ensures c.requires.items
 
-pub stands-requires : goal.stands-requires
-stands-requires c = after_laid c.args.cfg.now.parts c.args.cfg.now.lawful c.as_slice.result.now c.args.sheet.now.items c.lay.new.self c.give_all.new.world c.in_ok-lay.ensures.ok c.as_slice.ensures c.in_ok-give_all.ensures c.requires.items
+pub keeps_the_laws-requires : goal.keeps_the_laws-requires
+keeps_the_laws-requires c = after_laid c.args.cfg.now.parts c.args.cfg.now.lawful c.as_slice.result.now c.args.sheet.now.items c.lay.new.self c.give_all.new.world c.in_ok-lay.ensures.ok c.as_slice.ensures c.in_ok-give_all.ensures c.requires.items
     c.budget_of-budget.result _ c.budget_of-budget.ensures (ap length c.calls.ensures) c.finish-finish.new.world c.finish-finish.result c.finish-finish.ensures.course c.finish-finish.ensures.finish
 
 pub rows_in-requires-clause-laid : goal.rows_in-requires-clause-laid
@@ -26,4 +26,4 @@ rows_in-requires-clause-ended c = after_ended c.args.cfg.now.parts c.args.cfg.no
 pub returns : goal.returns
 returns c = has_served c.args.cfg.now.parts c.args.cfg.now.lawful c.as_slice.result.now c.args.sheet.now.items c.lay.new.self c.give_all.new.world c.in_ok-lay.ensures.ok c.as_slice.ensures c.in_ok-give_all.ensures c.requires.items
     c.budget_of-budget.result _ c.budget_of-budget.ensures (ap length c.calls.ensures) c.finish-finish.new.world c.finish-finish.result c.finish-finish.ensures.course c.finish-finish.ensures.finish
-    c.in_ok-rows.rows c.in_ok-lay.ensures.laid c.requires.few c.stands.ensures c.in_ok-rows.ensures
+    c.in_ok-rows.rows c.in_ok-lay.ensures.laid c.requires.few (c.keeps_the_laws.ensures.lawful, c.keeps_the_laws.ensures.running) c.in_ok-rows.ensures

@@ -8,12 +8,15 @@ use Rattle.sh_replay.proofs.turns.take_turns.Goals as goal
 pub returns-then-seat-seats : goal.returns-then-seat-seats
 returns-then-seat-seats c = sym (turns_idle c.args.world.now c.args.seat c.args.count (ap is_idle_at (slice_get_past c.args.world.now.seats c.args.seat (omega (arith, c.seats.ensures, c.if-seat-seats.true)))))
 
+pub keeps_the_laws-requires : goal.keeps_the_laws-requires
+keeps_the_laws-requires c = omega (arith, c.seats.ensures, c.if-seat-seats.false, c.loop.invariant.1)
+
 pub turn-requires : goal.turn-requires
 turn-requires c = omega (arith, c.seats.ensures, c.if-seat-seats.false, c.loop.invariant.1)
 
 pub returns-in-Idle : goal.returns-in-Idle
 returns-in-Idle c =
-    let idle = c.turn.ensures.idle.0 c.in-Idle.is in
+    let idle = (c.keeps_the_laws.ensures.idle c.args.seat (omega (arith, c.seats.ensures, c.if-seat-seats.false, c.loop.invariant.1))).cause.0 (sym c.turn.ensures.answer ∙ c.in-Idle.is) in
     c.turn.ensures.world ∙ turn_idle c.loop.world c.args.seat idle ∙ sym (turns_idle c.loop.world c.args.seat (c.args.count - c.loop.counter) idle) ∙ c.loop.invariant.0
 
 pub loop-preserved : goal.loop-preserved

@@ -6,3 +6,4 @@ pub mod OutputLemmas
 pub mod CallLemmas
 pub mod ServeLemmas
 pub mod ServingLemmas
+pub mod ReplayLemmas

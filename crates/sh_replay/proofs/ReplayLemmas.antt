@@ -1,10 +1,8 @@
 -- How a replay ends, by what was written.
 use Rattle.std.proofs.Common.{◌≡◌, ℕ, Bool, List, Option, sym, ap, ◌∙◌, inr}
-use Rattle.std.specs.Io.KnownBytes.{Appends}
 use Rattle.sh_base.specs.declared.config.ConfigParts.{ConfigParts}
 use Rattle.sh_map.specs.declared.book.Row.{Row}
 use Rattle.sh_port.specs.Intake.{TookAll}
-use Rattle.sh_port.specs.Port.{AppendsFront}
 use Rattle.sh_sheet.specs.declared.item.Item.{Item}
 use Rattle.sh_sheet.specs.declared.item.Mode.TheVariants.{Replay}
 use Rattle.sh_sheet.specs.Sheet.{Items, AreFew, sheet_of}

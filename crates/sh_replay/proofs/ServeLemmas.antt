@@ -17,8 +17,6 @@ use Rattle.sh_sheet.specs.declared.item.Item.TheVariants.{Ask, Mark, After, Turn
 use Rattle.sh_sheet.specs.Sheet.{calls_of}
 use Rattle.sh_tree.specs.Tree.{IsTree, map_in}
 use Rattle.sh_own.specs.Laid.{AreLaid}
-use Rattle.sh_client.specs.Rests.{is_resting}
-use Rattle.sh_core.specs.Actors.{Actor}
 use Rattle.sh_world.specs.Laws.{IsLawful}
 use Rattle.sh_world.specs.Running.{IsRunning}
 use Rattle.sh_world.specs.States.{State, dones_of, fresh_from, fresh_state}

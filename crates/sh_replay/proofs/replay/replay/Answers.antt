@@ -1,4 +1,4 @@
-use Rattle.std.proofs.Common.{◌≡◌, ◌∙◌, refl, ap, subst}
+use Rattle.std.proofs.Common.{◌∙◌, refl, ap, subst}
 use Rattle.sh_base.specs.Parts.{parts_of}
 use Rattle.sh_replay.specs.Serving.{first_unserved}
 use Rattle.sh_words.specs.Order.{asked_of}

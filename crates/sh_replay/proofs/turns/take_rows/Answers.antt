@@ -1,4 +1,4 @@
-use Rattle.std.proofs.Common.{length, take, sym, ap, ◌∙◌, arith}
+use Rattle.std.proofs.Common.{sym, ap, ◌∙◌}
 use Rattle.sh_replay.specs.Course.{turned_by}
 use Rattle.sh_replay.proofs.ItemLemmas.{item_more, no_turns}
 use Rattle.sh_replay.proofs.turns.take_rows.Goals.{in-Turn, in_default}

@@ -1,10 +1,9 @@
-pub mod NodeLemmas
-pub mod DecideLemmas
+pub mod TurnLemmas
+pub mod RoundLemmas
+pub mod ItemLemmas
+pub mod EndLemmas
+pub mod OutputLemmas
+pub mod CallLemmas
 pub mod ServeLemmas
-pub mod ReplyLemmas
-pub mod RunLemmas
-pub mod LaidLemmas
-pub mod WorldLemmas
-pub mod PairLemmas
 pub mod ServingLemmas
-pub mod TextLemmas
+pub mod ReplayLemmas

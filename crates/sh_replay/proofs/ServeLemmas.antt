@@ -1,46 +1,136 @@
--- A call served, from what was decided and written.
-use Rattle.std.proofs.Common.{◌≡◌, ℕ, List, length, Some, None, refl, sym, ap, ◌∙◌, subst, arith}
+-- A sheet that a laid world was given and has served.
+use Rattle.std.proofs.Common.{◌≡◌, ◌≤◌, ◌<◌, ◌*◌, ℕ, zero, suc, ◌+◌, List, [], ◌∷◌, ◌++◌, map, length, Result, Ok, Err, refl, sym, ap, subst, ◌∙◌, arith}
+use Rattle.std.specs.Prelude.{All, IfOk, filter, true}
+use Rattle.std.specs.List.{fold, sum_by}
+use Rattle.std.specs.FinMap.{empty, entries, len-empty, len-entries}
+use Rattle.std.specs.Ordering.{nat_cmp}
+use Rattle.std.proofs.lemmas.List.{length-map}
+use Rattle.std.proofs.lemmas.List.Sums.{sum_by-cons}
 use Rattle.sh_base.specs.declared.config.ConfigParts.{ConfigParts}
-use Rattle.sh_base.specs.Setting.{pool_words}
-use Rattle.sh_base.specs.Layout.{node_part}
-use Rattle.sh_map.specs.declared.call.Call.{Call}
-use Rattle.sh_map.specs.declared.call.Reply.{Reply}
-use Rattle.sh_image.specs.Leaf.{Leaf, leaf_in, leaf_words, Spells}
-use Rattle.sh_image.proofs.LeafLemmas.{leaf_in-leaf_words, values_of}
-use Rattle.sh_edit.specs.Held.{HasKeysOnce}
-use Rattle.sh_replay.specs.Leaves.{first_leaf, leaf_of, leaf_reply, HasLeaf, IsNextLeaf, IsServed, SameElsewhere}
-use Rattle.sh_replay.specs.Decisions.{Effect}
+use Rattle.sh_base.specs.Setting.{all_seats, IsSetting}
+use Rattle.sh_map.specs.declared.book.Row.{Row}
+use Rattle.sh_map.specs.Book.{IsClosed}
+use Rattle.sh_map.specs.Log.{map_of}
+use Rattle.sh_map.specs.Map.{Map, pair_of, size}
+use Rattle.sh_sheet.specs.declared.item.Item.{Item}
+use Rattle.sh_sheet.specs.declared.item.Item.TheVariants.{Ask, Mark, After, Turn}
+use Rattle.sh_sheet.specs.Sheet.{calls_of}
+use Rattle.sh_tree.specs.Tree.{IsTree, map_in}
+use Rattle.sh_own.specs.Laid.{AreLaid}
+use Rattle.sh_world.specs.Laws.{IsLawful}
+use Rattle.sh_world.specs.Running.{IsRunning}
+use Rattle.sh_world.specs.States.{State, dones_of, fresh_from, fresh_state}
+use Rattle.sh_world.specs.Turning.{is_idle_at}
+use Rattle.sh_replay.specs.declared.ending.Finish.{Finish}
+use Rattle.sh_replay.specs.declared.ending.Finish.TheVariants.{Done, Spent}
+use Rattle.sh_replay.specs.Course.{budget_of, course, finished, given_by, have_ended, turned_by, HasFinished, Rounds}
+use Rattle.sh_replay.specs.Served.{is_call, item_of, row_of, HasEnded, HasServed, HoldsAll, HoldsRows}
+use Rattle.sh_replay.specs.Serving.{IsServable}
+use Rattle.sh_replay.proofs.CallLemmas.{all_given, finished_same, map_size}
+use Rattle.sh_replay.proofs.EndLemmas.{all_rest, idle_ended}
+use Rattle.sh_replay.proofs.ItemLemmas.{given_seats, given_setting, turned_seats}
+use Rattle.sh_replay.proofs.RoundLemmas.{last_seats}
 
-module _ (p : ConfigParts) (old : List ℕ) (call : Call) where
-  -- a leaf that was written is the leaf that the words spell
-  written_leaf : (new : List ℕ) (b : Leaf) → IsNextLeaf p (leaf_of p old) call b → node_part p new first_leaf ≡ leaf_words b → leaf_of p new ≡ b
-  written_leaf new b next here = ap (leaf_in p) here ∙ leaf_in-leaf_words p b next.lawful.count (values_of p _ _ _ next.lawful.entries)
+-- what a world's laws give
+abbrev pub IsSound : State → Type 0
+IsSound s = IsLawful s × IsRunning s
 
-  has_leaf : (new : List ℕ) (b : Leaf) → length new ≡ pool_words p → IsNextLeaf p (leaf_of p old) call b → node_part p new first_leaf ≡ leaf_words b → HasLeaf p new
-  has_leaf new b long next here =
-      let is = written_leaf new b next here in
-      record {
-        long = long;
-        spelled = subst (Spells p (node_part p new first_leaf)) (sym is) (record { words = here; lawful = next.lawful });
-        once = subst (λ (a : Leaf). HasKeysOnce a.entries) (sym is) next.once;
-      }
+-- rows are those of their pairs
+rows_back : (rows : List Row) → rows ≡ map row_of (map pair_of rows)
+rows_back [] = refl
+rows_back (r ∷ rs) = ap (λ ts. r ∷ ts) (rows_back rs)
 
-  pub served_changed : (new : List ℕ) (reply : Reply) (b : Leaf) → HasLeaf p old → reply ≡ leaf_reply p (leaf_of p old) call → Effect p (leaf_of p old) call reply (Some b)
-      → node_part p new first_leaf ≡ leaf_words b → SameElsewhere p old new → IsServed p old call reply new
-  served_changed new reply b had says effect here elsewhere = record {
-    answer = says;
-    same = λ none. absurd (omega (arith, none, effect.0));
-    next = λ one. (
-      has_leaf new b (elsewhere.long ∙ had.long) effect.1 here,
-      subst (IsNextLeaf p (leaf_of p old) call) (sym (written_leaf new b effect.1 here)) effect.1,
-    );
-    elsewhere = elsewhere;
-  }
+rows_at_rest : {E : Type 0} (s : State) (levels : List (List ℕ)) (closed : IsClosed s.log (dones_of s.calls)) (tree : IsTree s.setting s.words levels) (holds : map_in s.setting s.words levels ≡ map_of s.log) (r : Result (List Row) E) → IfOk r (λ rows. map pair_of rows ≡ entries (map_in s.setting s.words levels)) → IfOk r (HoldsAll s)
+rows_at_rest s levels closed tree holds (Ok rows) h = record {
+  closed = closed;
+  levels = levels;
+  tree = tree;
+  holds = holds;
+  rows_are = rows_back rows ∙ ap (map row_of) h;
+}
+rows_at_rest s levels closed tree holds (Err e) h = tt
 
-  pub served_unchanged : (reply : Reply) → reply ≡ leaf_reply p (leaf_of p old) call → Effect p (leaf_of p old) call reply None → IsServed p old call reply old
-  served_unchanged reply says none = record {
-    answer = says;
-    same = λ e. refl;
-    next = λ one. absurd (omega (arith, one, none));
-    elsewhere = record { long = refl; each = λ i out. refl };
-  }
+pub rows_of_words : {E : Type 0} (s : State) (p : ConfigParts) (words : List ℕ) (r : Result (List Row) E) → IsSound s → have_ended s.calls ≡ true → p ≡ s.setting → words ≡ s.words
+    → ((levels : List (List ℕ)) → IsTree p words levels → IfOk r (λ rows. map pair_of rows ≡ entries (map_in p words levels))) → IfOk r (HoldsAll s)
+rows_of_words s p words r sound ended setting same h =
+    let idle = idle_ended s sound.1 ended in
+    let rest = sound.0.rest (λ seat q here. ap is_idle_at (sym here) ∙ idle seat) in
+    let here = subst (λ (q : ConfigParts). (levels : List (List ℕ)) → IsTree q s.words levels → IfOk r (λ rows. map pair_of rows ≡ entries (map_in q s.words levels))) setting
+    (subst (λ (ws : List ℕ). (levels : List (List ℕ)) → IsTree p ws levels → IfOk r (λ rows. map pair_of rows ≡ entries (map_in p ws levels))) same h) in
+    rows_at_rest s rest.levels (sound.0.book.closed (all_rest s sound.1 idle)) rest.tree rest.map r (here rest.levels rest.tree)
+
+-- there are no more rows than entries of the log
+few_rows : (s : State) (finish : Finish) (rows : List Row) → IsSound s → length s.calls ≤ 1000000 → HoldsRows s finish rows → length rows ≤ 4294967296
+few_rows s (Spent turns) rows sound few h = omega (arith, ap length h)
+few_rows s (Done turns) rows sound few h =
+    let m : Map = map_in s.setting s.words h.levels in
+    omega (arith, ap length h.rows_are, length-map (entries m) row_of, sym (len-entries m), ap size h.holds, map_size s.log empty, len-empty nat_cmp (List ℕ), sound.0.few, few)
+
+fresh_seats : (p : ConfigParts) (seat count : ℕ) → length (fresh_from p seat count) ≡ count
+fresh_seats p seat zero = refl
+fresh_seats p seat (suc count) = ap suc (fresh_seats p (seat + 1) count)
+
+calls_counted : (items : List Item) → length (filter is_call items) ≡ sum_by calls_of items
+calls_counted [] = refl
+calls_counted (Ask seat call ∷ is) = omega (arith, calls_counted is, sum_by-cons calls_of (Ask seat call) is)
+calls_counted (Mark seat n ∷ is) = omega (arith, calls_counted is, sum_by-cons calls_of (Mark seat n) is)
+calls_counted (After seat n ∷ is) = omega (arith, calls_counted is, sum_by-cons calls_of (After seat n) is)
+calls_counted (Turn seat count ∷ is) = omega (arith, calls_counted is, sum_by-cons calls_of (Turn seat count) is)
+
+ended_is : (budget : ℕ) (r : Rounds) (finish : Finish) → HasFinished budget r finish → HasEnded r.world finish
+ended_is budget r (Done turns) h = h.0
+ended_is budget r (Spent turns) h = tt
+
+some_seats : (p : ConfigParts) → IsSetting p → 0 < all_seats p
+some_seats p h = product p.computes p.seats h.ranged.computes.0 h.ranged.seats.0 where
+  product : (a b : ℕ) → 1 ≤ a → 1 ≤ b → 0 < a * b
+  product a b x y = grind arith
+
+module _ (p : ConfigParts) (lawful : IsSetting p) (items sheet : List Item) (laid given : State) (is : laid ≡ fresh_state p laid.words) (same : items ≡ sheet) (so : given ≡ fold given_by laid items) (can : All (IsServable p) sheet) where
+  pub laid_seats : length laid.seats ≡ all_seats laid.setting
+  laid_seats = ap (λ (s : State). length s.seats) is ∙ fresh_seats p 0 (all_seats p) ∙ sym (ap (λ (s : State). all_seats s.setting) is)
+
+  seats_are : length laid.seats ≡ all_seats p
+  seats_are = ap (λ (s : State). length s.seats) is ∙ fresh_seats p 0 (all_seats p)
+
+  setting_is : given.setting ≡ p
+  setting_is = ap (λ (s : State). s.setting) so ∙ given_setting items laid ∙ ap (λ (s : State). s.setting) is
+
+  pub given_laid : 0 < length given.seats
+  given_laid = omega (arith, ap (λ (s : State). length s.seats) so, given_seats items laid, seats_are, some_seats p lawful)
+
+  given_all : map item_of given.calls ≡ filter is_call sheet
+  given_all = ap (λ (s : State). map item_of s.calls) so ∙ all_given p items laid (subst (All (IsServable p)) (sym same) can) seats_are ∙ ap (λ (s : State). map item_of s.calls ++ filter is_call items) is ∙ ap (filter is_call) same
+
+  pub given_count : length given.calls ≡ sum_by calls_of sheet
+  given_count = sym (length-map given.calls item_of) ∙ ap length given_all ∙ calls_counted sheet
+
+  module _ (budget calls : ℕ) (budget_is : budget ≡ budget_of calls) (calls_are : calls ≡ length given.calls) (after : State) (finish : Finish) (last : after ≡ (finished given sheet budget).world) (ends : HasFinished budget (finished given sheet budget) finish) where
+    pub after_laid : 0 < length after.seats
+    after_laid = omega (arith, ap (λ (s : State). length s.seats) last, last_seats (fold turned_by given sheet) budget, turned_seats sheet given, given_laid)
+
+    pub after_ended : HasEnded after finish
+    after_ended = subst (λ (s : State). HasEnded s finish) (sym last) (ended_is budget (finished given sheet budget) finish ends)
+
+    budget_same : budget ≡ budget_of (sum_by calls_of sheet)
+    budget_same = budget_is ∙ ap budget_of (calls_are ∙ given_count)
+
+    on_course : finished given sheet budget ≡ course p laid.words sheet
+    on_course = ap (λ n. finished given sheet n) budget_same ∙ ap (λ (s : State). finished s sheet (budget_of (sum_by calls_of sheet))) (so ∙ ap (fold given_by laid) same ∙ ap (λ (s : State). fold given_by s sheet) is)
+
+    pub has_served : (rows : List Row) → AreLaid p laid.words → sum_by calls_of sheet ≤ 1000000 → IsSound after → HoldsRows after finish rows → HasServed p sheet after finish rows
+    has_served rows are_laid few sound holds =
+        let same_items : map item_of after.calls ≡ map item_of given.calls = ap (λ (s : State). map item_of s.calls) last ∙ (finished_same sheet given budget).0 in
+        let few_calls : length after.calls ≤ 1000000 = omega (arith, length-map after.calls item_of, ap length same_items, length-map given.calls item_of, given_count, few) in
+        record {
+          laid = laid.words;
+          are_laid = are_laid;
+          last = last ∙ ap (λ (r : Rounds). r.world) on_course;
+          end_is = subst (λ (r : Rounds). HasFinished (budget_of (sum_by calls_of sheet)) r finish) on_course (subst (λ n. HasFinished n (finished given sheet budget) finish) budget_same ends);
+          setting = ap (λ (s : State). s.setting) last ∙ (finished_same sheet given budget).1 ∙ setting_is;
+          calls = same_items ∙ given_all;
+          lawful = sound.0.book.lawful;
+          rows_are = holds;
+          few_rows = few_rows after finish rows sound few_calls holds;
+          few_calls = few_calls;
+        }

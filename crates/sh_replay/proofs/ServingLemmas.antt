@@ -1,32 +1,25 @@
 -- Items of which none is unserved.
-use Rattle.std.proofs.Common.{◌≡◌, ◌≤◌, ◌<◌, ℕ, suc, ◌+◌, Bool, true, false, List, [], ◌∷◌, length, get_or, Option, Some, None, ◌≢◌, refl, sym, ap, subst, ◌∙◌, arith}
+use Rattle.std.proofs.Common.{◌≡◌, ◌<◌, ℕ, suc, false, List, [], ◌∷◌, length, get_or, Option, Some, None, ◌≢◌, refl, sym, subst, arith}
 use Rattle.std.specs.Prelude.{All, not}
-use Rattle.std.specs.List.{sum_by}
 use Rattle.std.proofs.lemmas.Bool.Decides.{nat_tests}
 use Rattle.std.proofs.lemmas.List.Elements.{All-cons, All-head, All-nil, All-tail}
-use Rattle.std.proofs.lemmas.List.Sums.{fails_before_first, sum_by-cons}
+use Rattle.std.proofs.lemmas.List.Sums.{fails_before_first}
 use Rattle.sh_base.specs.declared.config.ConfigParts.{ConfigParts}
 use Rattle.sh_map.specs.declared.call.Call.TheVariants.{Get, Put, Del, Range}
 use Rattle.sh_sheet.specs.declared.item.Item.{Item}
 use Rattle.sh_sheet.specs.declared.item.Item.TheVariants.{Ask, Mark, After, Turn}
-use Rattle.sh_sheet.specs.Sheet.{calls_of, AreFew, IsLawfulItem}
+use Rattle.sh_sheet.specs.Sheet.{IsLawfulItem}
 use Rattle.sh_replay.specs.Serving.{first_unserved, is_served, IsServable}
 
 -- a lawful item that is served is one that can be served
 servable_one : (p : ConfigParts) (item : Item) → IsLawfulItem p item → not (is_served item) ≡ false → IsServable p item
-servable_one p (Ask seat (Get key)) lawful served = (grind (arith, nat_tests), lawful.1)
-servable_one p (Ask seat (Put key value)) lawful served = (grind (arith, nat_tests), lawful.1)
-servable_one p (Ask seat (Del key)) lawful served = (grind (arith, nat_tests), lawful.1)
-servable_one p (Ask seat (Range low high)) lawful served = absurd (grind (arith, nat_tests))
+servable_one p (Ask seat (Get key)) lawful served = (lawful.0, lawful.1, tt)
+servable_one p (Ask seat (Put key value)) lawful served = (lawful.0, lawful.1, tt)
+servable_one p (Ask seat (Del key)) lawful served = (lawful.0, lawful.1, tt)
+servable_one p (Ask seat (Range low high)) lawful served = absurd (cc)
 servable_one p (Mark seat n) lawful served = absurd (cc)
 servable_one p (After seat n) lawful served = absurd (cc)
-servable_one p (Turn seat count) lawful served = absurd (cc)
-
-call_one : (p : ConfigParts) (item : Item) → IsServable p item → calls_of item ≡ 1
-call_one p (Ask seat call) served = refl
-call_one p (Mark seat n) served = absurd served
-call_one p (After seat n) served = absurd served
-call_one p (Turn seat count) served = absurd served
+servable_one p (Turn seat count) lawful served = lawful
 
 servable_from : (p : ConfigParts) (items : List Item) (d : Item) → All (IsLawfulItem p) items → ((k : ℕ) → k < length items → not (is_served (get_or items k d)) ≡ false) → All (IsServable p) items
 servable_from p [] d lawful served = All-nil (IsServable p)
@@ -39,15 +32,7 @@ no_place items none d k below = fails_before_first (λ i. not (is_served i)) ite
 pub servable : (p : ConfigParts) (items : List Item) → All (IsLawfulItem p) items → first_unserved items ≡ None → All (IsServable p) items
 servable p items lawful none = servable_from p items (Turn 0 0) lawful (no_place items none (Turn 0 0))
 
--- items that can be served are calls
-pub all_calls : (p : ConfigParts) (items : List Item) → All (IsServable p) items → sum_by calls_of items ≡ length items
-all_calls p [] served = refl
-all_calls p (i ∷ is) served = sum_by-cons calls_of i is ∙ omega (arith, call_one p i (All-head (IsServable p) i is served), all_calls p is (All-tail (IsServable p) i is served))
-
 -- items of which none is unserved, with the premises in the form in which a caller has them
 pub servable_all : (p : ConfigParts) (items sheet : List Item) (found : Option ℕ) → items ≡ sheet → All (IsLawfulItem p) sheet → found ≡ first_unserved sheet → ((x : ℕ) → found ≢ Some x) → All (IsServable p) items
 servable_all p items sheet None same lawful is none = subst (λ xs. All (IsServable p) xs) (sym same) (servable p sheet lawful (sym is))
 servable_all p items sheet (Some x) same lawful is none = absurd (none x refl)
-
-pub few_calls : (p : ConfigParts) (items sheet : List Item) → items ≡ sheet → All (IsServable p) items → AreFew p sheet → length items ≤ 1000000
-few_calls p items sheet same served few = omega (arith, all_calls p items served, ap (sum_by calls_of) same, few.calls)

@@ -1,5 +1,5 @@
 -- A replay that meets nothing in its way.
-use Rattle.std.specs.Prelude.{ℕ, Bool, ◌≡◌, ◌≢◌, ◌<◌, ◌≤◌, ◌-◌, ◌^◌, List, length, Option, Some, None}
+use Rattle.std.specs.Prelude.{ℕ, Bool, ◌≡◌, ◌≢◌, ◌<◌, ◌-◌, ◌^◌, List, length, Option, Some, None}
 use Rattle.sh_sheet.specs.declared.item.Item.{Item}
 use Rattle.sh_sheet.specs.declared.status.Status.{Status}
 use Rattle.sh_sheet.specs.declared.status.Status.TheVariants as status
@@ -28,11 +28,12 @@ pub record IsFree (asked : Option Asked) (left : Option (List ℕ)) (before now 
   pub source : HasNoFault before now
   pub sink : HasNoFault fell fallen
 
--- it ended well, or memory was wanting
-abbrev pub EndsWell : Status → Type 0
-EndsWell status.Ok = Unit {0}
-EndsWell status.NoMemory = Unit {0}
-EndsWell s = ⊥
+-- it ended well, or memory was wanting, or the rounds made so many turns
+abbrev pub EndsWell : (budget : ℕ) → Status → Type 0
+EndsWell budget status.Ok = Unit {0}
+EndsWell budget status.NoMemory = Unit {0}
+EndsWell budget (status.Unfinished turns) = turns ≡ budget
+EndsWell budget s = ⊥
 
 -- it wasn't a fault of the source or the sink
 abbrev pub IsNoFault : Status → Type 0

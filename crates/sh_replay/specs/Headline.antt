@@ -1,9 +1,7 @@
 -- What a replay leaves, by how it ended.
-use Rattle.std.specs.Prelude.{ℕ, ◌≡◌, ◌<◌, ◌⊎◌, Bool, List, [], ◌++◌, map, length, Option, Some, None, if◌then◌else◌}
-use Rattle.std.specs.List.{flat_map}
+use Rattle.std.specs.Prelude.{ℕ, ◌≡◌, ◌⊎◌, Bool, List, Option, Some, None}
 use Rattle.std.specs.Io.KnownBytes.{Appends}
 use Rattle.sh_base.specs.declared.config.ConfigParts.{ConfigParts}
-use Rattle.sh_map.specs.declared.book.Done.{Done}
 use Rattle.sh_map.specs.declared.book.Row.{Row}
 use Rattle.sh_sheet.specs.declared.item.Item.{Item}
 use Rattle.sh_sheet.specs.declared.item.Mode.TheVariants.{Replay}
@@ -11,37 +9,18 @@ use Rattle.sh_sheet.specs.declared.status.RowCause.{RowCause}
 use Rattle.sh_sheet.specs.declared.status.RowCause.TheVariants.{NotYet}
 use Rattle.sh_sheet.specs.declared.status.Status.{Status}
 use Rattle.sh_sheet.specs.declared.status.Status.TheVariants as status
+use Rattle.sh_sheet.specs.Sheet.{Reading, Items, Refused, AreFew, IsTooMany, sheet_of}
 use Rattle.sh_text.specs.declared.write.WriteError.{WriteError}
 use Rattle.sh_text.specs.declared.write.WriteError.TheVariants as error
 use Rattle.sh_port.specs.Port.{HasRisen, AppendsFront}
 use Rattle.sh_port.specs.Intake.{TookAll, TookSome, TookMost}
-use Rattle.sh_sheet.specs.Sheet.{Reading, Items, Refused, AreFew, IsTooMany, sheet_of}
-use Rattle.sh_text.specs.Text.{calls_text, map_line, end_line}
-use Rattle.sh_text.specs.declared.points.Points.TheVariants as points
 use Rattle.sh_words.specs.Order.{Asked}
-use Rattle.sh_words.specs.Uses.{Text}
-use Rattle.sh_replay.specs.Runs.{item_of, IsRun}
-use Rattle.sh_replay.specs.Pairs.{rows_in, sum_of}
-use Rattle.sh_replay.specs.Serving.{accepted, IsUnserved}
-use Rattle.sh_replay.specs.Worlds.{words_of, log_of, dones_of}
-use Rattle.sh_replay.specs.declared.world.World.{World}
-
--- a line for each key, where the map is asked for
-abbrev pub map_lines : (asked : Bool) → List Row → List ℕ
-map_lines asked rows = if asked then flat_map map_line rows else []
-
--- the lines behind the calls' lines; the last one has the numbers of calls and keys and the sum of all words of the
--- keys' values
-abbrev pub last_lines : (asked : Bool) → (calls : ℕ) → List Row → List ℕ
-last_lines asked calls rows = map_lines asked rows ++ end_line calls (length rows) (sum_of rows)
-
--- the output of a run: the lines of each finished call, and the last lines
-unfoldable pub text_of : (asked : Bool) → List Done → List Row → List ℕ
-text_of asked dones rows = calls_text points.Shown dones ++ last_lines asked (length dones) rows
-
--- The output of the world's run; keys and values are those that its words hold.
-abbrev pub text_in : Asked → World → List ℕ
-text_in o w = text_of o.map (dones_of w) (rows_in o.parts (words_of w))
+use Rattle.sh_world.specs.States.{State}
+use Rattle.sh_replay.specs.declared.ending.Finish.{Finish}
+use Rattle.sh_replay.specs.declared.ending.Finish.TheVariants.{Done as AllDone, Spent}
+use Rattle.sh_replay.specs.Output.{text_of}
+use Rattle.sh_replay.specs.Served.{HasServed}
+use Rattle.sh_replay.specs.Serving.{IsUnserved}
 
 -- The whole input was taken, and its reading is this one.
 pub record Read (p : ConfigParts) (left rest : Option (List ℕ)) (before now : ℕ) (reading : Reading) : Type 0 where
@@ -49,15 +28,13 @@ pub record Read (p : ConfigParts) (left rest : Option (List ℕ)) (before now : 
   pub took : TookAll left rest before now bytes
   pub reads : sheet_of p Replay bytes ≡ reading
 
--- The input's rows are lawful, and the world has served them: it holds a run, whose finished calls are the sheet's in
--- their order.
-pub record Served (p : ConfigParts) (left rest : Option (List ℕ)) (before now : ℕ) (w : World) : Type 0 where
+-- The input's rows are lawful and not too many, and the world has served them; its rounds ended so.
+pub record Served (p : ConfigParts) (left rest : Option (List ℕ)) (before now : ℕ) (s : State) (finish : Finish) (rows : List Row) : Type 0 where
   pub headed : Bool
   pub items : List Item
   pub read : Read p left rest before now (Items headed items)
   pub few : AreFew p items
-  pub calls : map item_of (dones_of w) ≡ items
-  pub run : IsRun p (words_of w) (log_of w) (dones_of w)
+  pub served : HasServed p items s finish rows
 
 -- The input's rows are lawful and not too many, and this row is the first that isn't served yet.
 pub record ReadUnserved (p : ConfigParts) (left rest : Option (List ℕ)) (before now : ℕ) (row : ℕ) (cause : RowCause) : Type 0 where
@@ -79,17 +56,38 @@ abbrev pub unwritten : WriteError → Status
 unwritten error.Fault = status.WriteFault
 unwritten error.NoMemory = status.NoMemory
 
+-- and of one whose lines were all written
+abbrev pub ended_with : Finish → Status
+ended_with (AllDone turns) = status.Ok
+ended_with (Spent turns) = status.Unfinished turns
+
 -- the world is as it was, and nothing was written
-pub record Untouched (old new : World) (held after : Option (List ℕ)) (fell fallen : ℕ) : Type 0 where
+pub record Untouched (old new : State) (held after : Option (List ℕ)) (fell fallen : ℕ) : Type 0 where
   pub world : new ≡ old
   pub sink : after ≡ held
   pub count : fallen ≡ fell
 
+-- The sheet was served and its rounds ended so, and all lines of the output were written.
+pub record Written (o : Asked) (new : State) (finish : Finish) (left rest : Option (List ℕ)) (before now : ℕ) (held after : Option (List ℕ)) (fell fallen : ℕ) : Type 0 where
+  pub rows : List Row
+  pub served : Served o.parts left rest before now new finish rows
+  pub written : Appends held after (text_of o.map new.calls rows)
+  pub count : fallen ≡ fell
+
+-- The sheet was served, and a front of the output was written.
+pub record HalfWritten (o : Asked) (new : State) (left rest : Option (List ℕ)) (before now : ℕ) (held after : Option (List ℕ)) : Type 0 where
+  pub finish : Finish
+  pub rows : List Row
+  pub served : Served o.parts left rest before now new finish rows
+  pub written : AppendsFront held after (text_of o.map new.calls rows)
+
 -- What a replay of an order leaves. The source: the bytes that were left and that are left, and its counts of faults
 -- before and now. The sink: the bytes that it held and holds, and its counts.
-abbrev pub Replayed : (o : Asked) → (old new : World) → (left rest : Option (List ℕ)) → (before now : ℕ) → (held after : Option (List ℕ)) → (fell fallen : ℕ) → Status → Type 0
+abbrev pub Replayed : (o : Asked) → (old new : State) → (left rest : Option (List ℕ)) → (before now : ℕ) → (held after : Option (List ℕ)) → (fell fallen : ℕ) → Status → Type 0
 Replayed o old new left rest before now held after fell fallen status.Ok =
-    Served o.parts left rest before now new × Appends held after (text_in o new) × (fallen ≡ fell)
+    (turns : ℕ) × Written o new (AllDone turns) left rest before now held after fell fallen
+Replayed o old new left rest before now held after fell fallen (status.Unfinished turns) =
+    Written o new (Spent turns) left rest before now held after fell fallen
 Replayed o old new left rest before now held after fell fallen status.ReadFault =
     TookSome left rest before now × Untouched old new held after fell fallen
 Replayed o old new left rest before now held after fell fallen status.TooLong =
@@ -99,11 +97,10 @@ Replayed o old new left rest before now held after fell fallen (status.BadRow ro
 Replayed o old new left rest before now held after fell fallen status.TooMany =
     ReadTooMany o.parts left rest before now × Untouched old new held after fell fallen
 Replayed o old new left rest before now held after fell fallen status.WriteFault =
-    Served o.parts left rest before now new × AppendsFront held after (text_in o new) × HasRisen fell fallen
+    HalfWritten o new left rest before now held after × HasRisen fell fallen
 Replayed o old new left rest before now held after fell fallen status.NoMemory =
-    (now ≡ before) × (Untouched old new held after fell fallen ⊎ (Served o.parts left rest before now new × AppendsFront held after (text_in o new) × (fallen ≡ fell)))
+    (now ≡ before) × (Untouched old new held after fell fallen ⊎ (HalfWritten o new left rest before now held after × (fallen ≡ fell)))
 Replayed o old new left rest before now held after fell fallen status.Usage = ⊥
-Replayed o old new left rest before now held after fell fallen (status.Unfinished turns) = ⊥
 
 -- the words are refused, or memory is wanting
 abbrev pub IsUsage : Status → Type 0
@@ -112,7 +109,7 @@ IsUsage status.NoMemory = Unit {0}
 IsUsage s = ⊥
 
 -- Where the words give no order, nothing was read or written; where they do, the replay of that order.
-abbrev pub Headline : (asked : Option Asked) → (old new : World) → (left rest : Option (List ℕ)) → (before now : ℕ) → (held after : Option (List ℕ)) → (fell fallen : ℕ) → Status → Type 0
+abbrev pub Headline : (asked : Option Asked) → (old new : State) → (left rest : Option (List ℕ)) → (before now : ℕ) → (held after : Option (List ℕ)) → (fell fallen : ℕ) → Status → Type 0
 Headline None old new left rest before now held after fell fallen s =
     IsUsage s × (rest ≡ left) × (now ≡ before) × Untouched old new held after fell fallen
 Headline (Some o) old new left rest before now held after fell fallen s =

@@ -1,10 +1,7 @@
-pub mod Replies
-pub mod Leaves
-pub mod Decisions
-pub mod Runs
-pub mod Pairs
-pub mod Worlds
+pub mod Course
+pub mod Thinning
+pub mod Output
 pub mod Serving
+pub mod Served
 pub mod Headline
-pub mod Causes
 pub mod Complete

@@ -1,10 +1,12 @@
 -- What a replay serves for now: of words, and of items.
-use Rattle.std.specs.Prelude.{ℕ, ◌≡◌, ◌==◌, ◌&&◌, ◌||◌, Bool, true, false, not, is_some, List, Option, Some, None, option_and_then, if◌then◌else◌}
+use Rattle.std.specs.Prelude.{ℕ, ◌≡◌, ◌<◌, ◌||◌, Bool, true, false, not, is_some, List, Option, Some, None, option_and_then, if◌then◌else◌}
 use Rattle.std.specs.List.{position}
 use Rattle.sh_base.specs.declared.config.ConfigParts.{ConfigParts}
+use Rattle.sh_base.specs.Setting.{all_seats}
 use Rattle.sh_map.specs.declared.call.Call.{Call}
 use Rattle.sh_map.specs.declared.call.Call.TheVariants.{Get, Put, Del, Range}
 use Rattle.sh_map.specs.Calls.{IsInRange}
+use Rattle.sh_client.specs.Sound.{IsPointCall}
 use Rattle.sh_sheet.specs.declared.item.Item.{Item}
 use Rattle.sh_sheet.specs.declared.item.Item.TheVariants.{Ask, Mark, After, Turn}
 use Rattle.sh_sheet.specs.declared.item.Mode.TheVariants.{Replay}
@@ -27,12 +29,12 @@ is_one_key (Put key value) = true
 is_one_key (Del key) = true
 is_one_key (Range low high) = false
 
--- an item that is served: a get, a put or a delete by seat 0
+-- an item that is served: a get, a put, a delete, or turns
 abbrev pub is_served : Item → Bool
-is_served (Ask seat call) = seat == 0 && is_one_key call
+is_served (Ask seat call) = is_one_key call
 is_served (Mark seat number) = false
 is_served (After seat number) = false
-is_served (Turn seat count) = false
+is_served (Turn seat count) = true
 
 -- the place of the first item that isn't served
 abbrev pub first_unserved : List Item → Option ℕ
@@ -44,8 +46,9 @@ pub record IsUnserved (headed : Bool) (items : List Item) (row : ℕ) : Type 0 w
   pub first : first_unserved items ≡ Some at
   pub row_is : row ≡ row_of headed at
 
--- an item that is served, in range for the setting
+-- an item that is served, in range for the setting and by one of its seats
 abbrev pub IsServable : ConfigParts → Item → Type 0
-IsServable p (Ask seat (Range low high)) = ⊥
-IsServable p (Ask seat call) = (seat ≡ 0) × IsInRange p call
-IsServable p item = ⊥
+IsServable p (Ask seat call) = (seat < all_seats p) × IsInRange p call × IsPointCall call
+IsServable p (Mark seat number) = ⊥
+IsServable p (After seat number) = ⊥
+IsServable p (Turn seat count) = seat < all_seats p

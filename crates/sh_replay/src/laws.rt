@@ -1,30 +1,35 @@
 // What the headline means for a caller.
-ghost use Rattle.std.specs.Prelude.{ℕ, List, Option, map};
-ghost use Rattle.sh_base.specs.declared.config.ConfigParts.{ConfigParts};
-ghost use Rattle.sh_map.specs.declared.log.Entry.{Entry};
-ghost use Rattle.sh_map.specs.declared.book.Done.{Done};
+ghost use Rattle.std.specs.Prelude.{◌≡◌, ℕ, true, List, Option, map};
 ghost use Rattle.sh_sheet.specs.declared.status.Status.{Status};
-ghost use Rattle.sh_replay.specs.declared.world.World.{World};
-ghost use Rattle.sh_replay.specs.Runs.{HasReply};
-ghost use Rattle.sh_replay.specs.Causes.{HasCauses};
-ghost use Rattle.sh_replay.specs.Worlds.{IsBlank};
+ghost use Rattle.std.specs.List.{sum_by};
+ghost use Rattle.sh_sheet.specs.Sheet.{calls_of};
+ghost use Rattle.sh_text.specs.Text.{calls_text};
+ghost use Rattle.sh_text.specs.declared.points.Points.TheVariants as points;
+ghost use Rattle.sh_world.specs.declared.state.Given.{Given};
+ghost use Rattle.sh_world.specs.States.{dones_of, State};
+ghost use Rattle.sh_replay.specs.Output.{lines_from};
+ghost use Rattle.sh_replay.specs.Served.{done_item, item_of};
+ghost use Rattle.sh_world.specs.States.{IsBlank};
+ghost use Rattle.sh_replay.specs.Course.{budget_of, have_ended};
 ghost use Rattle.sh_words.specs.Order.{Asked};
 ghost use Rattle.sh_replay.specs.Serving.{accepted};
 ghost use Rattle.sh_replay.specs.Headline.{Headline};
 ghost use Rattle.sh_replay.specs.Complete.{IsFree, EndsWell, IsNoFault};
 
-use crate::{World, replay_top};
+use crate::replay_top;
 use sh_port::{Sink, Source, SureSink, SureSource};
 use sh_sheet::Status;
+use sh_world::World;
 use std::alloc::Global;
 
-/// Refusals come by their causes: of each call of a run, `NoSplitYet` exactly where it is a put of a new key and the
-/// map at its point has as many keys as a leaf has entries, and `Worn` exactly where it is an update that would write
-/// and the version at its point is the last one. And a replay is complete: with accepted words, lawful rows that are
-/// served and within the numbers, and no fault of source or sink, it ends with `Ok`, or with `NoMemory`.
+/// A replay is complete: with accepted words, lawful rows that are served and within the numbers, and no fault of source
+/// or sink, it ends with `Ok`, with `NoMemory`, or with `Unfinished` and the number of turns that the rounds may make.
+/// Where every call has ended, there is a finished call for each, with its seat and its call, and the lines of the calls
+/// are those of the finished calls.
 pub fn replay_laws()
-    ensures causes { (p : ConfigParts) (log : List Entry) (d : Done) → HasReply p log d → HasCauses p log d }
-    ensures complete { (asked : Option Asked) (old new : World) (left rest : Option (List ℕ)) (before now : ℕ) (held after : Option (List ℕ)) (fell fallen : ℕ) (status : Status) → Headline asked old new left rest before now held after fell fallen status → IsFree asked left before now fell fallen → EndsWell status }
+    ensures each { (calls : List Given) → have_ended calls ≡ true → map done_item (dones_of calls) ≡ map item_of calls }
+    ensures lines { (calls : List Given) → have_ended calls ≡ true → lines_from 1 calls ≡ calls_text points.Shown (dones_of calls) }
+    ensures complete { (asked : Option Asked) (old new : State) (left rest : Option (List ℕ)) (before now : ℕ) (held after : Option (List ℕ)) (fell fallen : ℕ) (status : Status) → Headline asked old new left rest before now held after fell fallen status → (free : IsFree asked left before now fell fallen) → EndsWell (budget_of (sum_by calls_of free.items)) status }
 {}
 
 /// [`replay_top`] over a source and a sink that never fail: neither `ReadFault` nor `WriteFault` comes, and all that is

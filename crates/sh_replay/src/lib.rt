@@ -1,21 +1,20 @@
-//! Words and a sheet of calls in, lines out: the calls are served one after another on one leaf.
+//! Words and a sheet of calls in, lines out: the calls are served turn by turn over one pool, by the sheet's schedule.
 #![tactic(auto)]
 
-mod decision;
+mod ending;
 mod laws;
-mod node;
-mod pairs;
+mod output;
 mod replay;
-mod run;
 mod serve;
 mod serving;
-mod world;
+mod turns;
 
+pub use ending::Finish;
 pub use laws::{replay_laws, replay_sure};
-pub use pairs::{pairs_in, sum_of};
 pub use replay::replay_top;
 pub use sh_sheet::generate;
-pub use world::World;
+pub use sh_world::World;
+pub use turns::finish;
 
 #[cfg(test)]
 mod tests;

@@ -31,13 +31,14 @@ fn is_one_key(call: &Call) -> bool
     }
 }
 
-// Whether an item is served: a get, a put or a delete by seat 0.
+// Whether an item is served: a get, a put, a delete, or turns.
 fn is_served(item: &Item) -> bool
     ensures { result ≡ is_served item.now }
 {
     match item {
-        Item::Ask { seat, call } => *seat == 0 && is_one_key(call),
-        Item::Mark { .. } | Item::After { .. } | Item::Turn { .. } => false,
+        Item::Ask { call, .. } => is_one_key(call),
+        Item::Turn { .. } => true,
+        Item::Mark { .. } | Item::After { .. } => false,
     }
 }
 

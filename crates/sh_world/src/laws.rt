@@ -1,5 +1,6 @@
 // What holds of a world after any calls and turns.
 ghost use Rattle.std.specs.Prelude.{◌<◌, ℕ, length};
+ghost use Rattle.sh_world.specs.Running.{IsRunning};
 ghost use Rattle.sh_world.specs.Laws.{Extends, IdlesRight, IsLawful};
 
 use crate::World;
@@ -13,6 +14,7 @@ impl World {
     pub fn keeps_the_laws(&self)
         requires { 0 < length self.now.seats }
         ensures lawful { IsLawful self.now }
+        ensures running { IsRunning self.now }
         ensures log { (seat : ℕ) → Extends self.now seat }
         ensures idle { (seat : ℕ) → seat < length self.now.seats → IdlesRight self.now seat }
     {

@@ -1,5 +1,6 @@
 use Rattle.std.proofs.Common.{subst}
 use Rattle.sh_world.specs.States.{State}
+use Rattle.sh_world.specs.Running.{IsRunning}
 use Rattle.sh_world.specs.Laws.{IdlesRight, IsLawful}
 use Rattle.sh_world.specs.contracts.state.World.{the_view}
 use Rattle.sh_world.proofs.LawLemmas.{extends, idle_at, lawful}
@@ -10,6 +11,11 @@ pub returns-clause-lawful : goal.returns-clause-lawful
 returns-clause-lawful c =
     let g = running (the_view c.self.inside) c.args.self.now _ 0 c.self.view_is c.self.invariant c.requires in
     subst IsLawful c.self.view_is (lawful (the_view c.self.inside) g.0)
+
+pub returns-clause-running : goal.returns-clause-running
+returns-clause-running c =
+    let g = running (the_view c.self.inside) c.args.self.now _ 0 c.self.view_is c.self.invariant c.requires in
+    subst IsRunning c.self.view_is g.0
 
 pub returns-clause-log : goal.returns-clause-log
 returns-clause-log c = λ seat. extends c.args.self.now seat

@@ -1,0 +1,138 @@
+-- The calls of a world are those that it was given, whatever turns are made; and a map has no more keys than its log has
+-- entries.
+use Rattle.std.proofs.Common.{◌≡◌, ◌≤◌, ℕ, zero, suc, ◌+◌, ◌-◌, Bool, true, false, cond, List, [], ◌∷◌, ◌++◌, map, length, Option, Some, None, refl, sym, ap, ◌∙◌, append_assoc, inl, inr, arith}
+use Rattle.std.specs.Prelude.{All, filter, slice_get, if◌then◌else◌}
+use Rattle.std.specs.List.{fold, range_with_len}
+use Rattle.std.specs.FinMap.{contains_key, len-insert, len-remove}
+use Rattle.std.proofs.lemmas.List.{append-nil, map-append}
+use Rattle.std.proofs.lemmas.List.Elements.{All-head, All-tail, filter-append}
+use Rattle.std.specs.Cmp.{nat_cmp_total}
+use Rattle.sh_base.specs.declared.config.ConfigParts.{ConfigParts}
+use Rattle.sh_base.specs.Setting.{all_seats}
+use Rattle.sh_map.specs.declared.call.Call.{Call}
+use Rattle.sh_map.specs.declared.call.Reply.{Reply}
+use Rattle.sh_map.specs.declared.log.Change.{Change}
+use Rattle.sh_map.specs.declared.log.Change.TheVariants as change
+use Rattle.sh_map.specs.declared.log.Entry.{Entry}
+use Rattle.sh_map.specs.Map.{Map, size}
+use Rattle.sh_map.specs.Log.{changed, map_from}
+use Rattle.sh_client.specs.declared.state.Want.{Want}
+use Rattle.sh_client.specs.declared.state.Want.TheVariants as want
+use Rattle.sh_client.specs.Wants.{want_of}
+use Rattle.sh_sheet.specs.declared.item.Item.{Item}
+use Rattle.sh_sheet.specs.declared.item.Item.TheVariants.{Ask, Mark, After, Turn}
+use Rattle.sh_world.specs.declared.state.Given.{Given}
+use Rattle.sh_world.specs.States.{Place, State, answered}
+use Rattle.sh_world.specs.Turning.{asked, give_at, took, turn_at, turn_of}
+use Rattle.sh_replay.specs.Course.{ask, given_by, last_round, round, rounds, turned_by, turns_by, Rounds}
+use Rattle.sh_replay.specs.Served.{is_call, item_of}
+use Rattle.sh_replay.specs.Serving.{IsServable}
+use Rattle.sh_replay.proofs.EndLemmas.{there_is}
+use Rattle.sh_replay.proofs.ItemLemmas.{given_keeps, turned_setting}
+use Rattle.sh_replay.proofs.TurnLemmas.{turn_setting}
+use Rattle.sh_replay.proofs.RoundLemmas.{asks}
+
+abbrev pub items_of : State → List Item
+items_of s = map item_of s.calls
+
+answered_same : (calls : List Given) (place : ℕ) (r : Reply) (first point : ℕ) → map item_of (answered calls place r first point) ≡ map item_of calls
+answered_same [] place r first point = refl
+answered_same (g ∷ calls) zero r first point = refl
+answered_same (g ∷ calls) (suc place) r first point = ap (λ l. item_of g ∷ l) (answered_same calls place r first point)
+
+by_end : (b : Bool) (calls : List Given) (place : ℕ) (r : Reply) (first point : ℕ) → map item_of (if b then answered calls place r first point else calls) ≡ map item_of calls
+by_end true calls place r first point = answered_same calls place r first point
+by_end false calls place r first point = refl
+
+took_same : (s : State) (seat : ℕ) (q : Place) (w : Want) → items_of (took s seat q w) ≡ items_of s
+took_same s seat q (want.Event e) = by_end _ s.calls _ _ _ _
+took_same s seat q (want.Draw lock) = by_end _ s.calls _ _ _ _
+took_same s seat q (want.Look lock) = by_end _ s.calls _ _ _ _
+took_same s seat q (want.Waiting lock) = by_end _ s.calls _ _ _ _
+took_same s seat q (want.Leave lock carry) = by_end _ s.calls _ _ _ _
+took_same s seat q want.Done = refl
+
+turn_at_same : (s : State) (seat : ℕ) (o : Option Place) → items_of (turn_at s seat o) ≡ items_of s
+turn_at_same s seat None = refl
+turn_at_same s seat (Some q) = took_same s seat (asked s.calls q (length s.log)) (want_of (asked s.calls q (length s.log)).client)
+
+turn_same : (s : State) (seat : ℕ) → items_of (turn_of s seat) ≡ items_of s
+turn_same s seat = turn_at_same s seat (slice_get s.seats seat)
+
+turns_same : (s : State) (seat count : ℕ) → items_of (turns_by s seat count) ≡ items_of s
+turns_same s seat zero = refl
+turns_same s seat (suc count) = turns_same (turn_of s seat) seat count ∙ turn_same s seat
+
+turned_same : (s : State) (item : Item) → items_of (turned_by s item) ≡ items_of s
+turned_same s (Ask seat call) = refl
+turned_same s (Mark seat n) = refl
+turned_same s (After seat n) = refl
+turned_same s (Turn seat count) = turns_same s seat count
+
+all_turned_same : (items : List Item) (s : State) → items_of (fold turned_by s items) ≡ items_of s
+all_turned_same [] s = refl
+all_turned_same (i ∷ is) s = all_turned_same is (turned_by s i) ∙ turned_same s i
+
+ask_same : (r : Rounds) (x : ℕ) → (items_of (ask r x).world ≡ items_of r.world) × ((ask r x).world.setting ≡ r.world.setting)
+ask_same r x = elim (asks r x) [
+  | inl same ↦ (ap (λ (t : Rounds). items_of t.world) same, ap (λ (t : Rounds). t.world.setting) same)
+  | inr turn ↦ (ap (λ (t : Rounds). items_of t.world) turn.0 ∙ turn_same r.world x, ap (λ (t : Rounds). t.world.setting) turn.0 ∙ turn_setting r.world x)
+]
+
+asked_same : (xs : List ℕ) (r : Rounds) → (items_of (fold ask r xs).world ≡ items_of r.world) × ((fold ask r xs).world.setting ≡ r.world.setting)
+asked_same [] r = (refl, refl)
+asked_same (x ∷ xs) r = ((asked_same xs (ask r x)).0 ∙ (ask_same r x).0, (asked_same xs (ask r x)).1 ∙ (ask_same r x).1)
+
+rounds_same : (count : ℕ) (r : Rounds) → (items_of (rounds count r).world ≡ items_of r.world) × ((rounds count r).world.setting ≡ r.world.setting)
+rounds_same zero r = (refl, refl)
+rounds_same (suc count) r =
+    let one = asked_same (range_with_len 0 (length r.world.seats)) r in
+    ((rounds_same count (round r)).0 ∙ one.0, (rounds_same count (round r)).1 ∙ one.1)
+
+-- what the rows of turns and the rounds leave
+pub finished_same : (items : List Item) (s : State) (budget : ℕ) → (items_of (last_round (record { world = fold turned_by s items; left = budget })).world ≡ items_of s) × ((last_round (record { world = fold turned_by s items; left = budget })).world.setting ≡ s.setting)
+finished_same items s budget =
+    let all = rounds_same budget (record { world = fold turned_by s items; left = budget }) in
+    (all.0 ∙ all_turned_same items s, all.1 ∙ turned_setting items s)
+
+-- ---- calls that are given
+
+give_more : (s : State) (seat : ℕ) (call : Call) (o : Option Place) (q : Place) → o ≡ Some q → items_of (give_at s seat call o) ≡ items_of s ++ Ask seat call ∷ []
+give_more s seat call None q e = absurd (cc)
+give_more s seat call (Some p) q e =
+    let g : Given = record { seat = seat; call = call; reply = None; first = 0; point = 0 } in
+    map-append item_of s.calls (g ∷ [])
+
+given_more : (p : ConfigParts) (s : State) (item : Item) → IsServable p item → length s.seats ≡ all_seats p → items_of (given_by s item) ≡ items_of s ++ filter is_call (item ∷ [])
+given_more p s (Ask seat call) can long =
+    let there = there_is s.seats seat (omega (arith, can.0, long)) in
+    give_more s seat call (slice_get s.seats seat) there.0 there.1
+given_more p s (Mark seat n) can long = absurd can
+given_more p s (After seat n) can long = absurd can
+given_more p s (Turn seat count) can long = sym (append-nil (items_of s))
+
+pub all_given : (p : ConfigParts) (items : List Item) (s : State) → All (IsServable p) items → length s.seats ≡ all_seats p → items_of (fold given_by s items) ≡ items_of s ++ filter is_call items
+all_given p [] s can long = sym (append-nil (items_of s))
+all_given p (i ∷ is) s can long =
+    all_given p is (given_by s i) (All-tail (IsServable p) i is can) ((given_keeps s i).1 ∙ long)
+    ∙ ap (λ l. l ++ filter is_call is) (given_more p s i (All-head (IsServable p) i is can) long)
+    ∙ append_assoc (items_of s) (filter is_call (i ∷ [])) (filter is_call is)
+    ∙ ap (λ l. items_of s ++ l) (sym (filter-append is_call (i ∷ []) is))
+
+-- ---- the map's rows
+
+one_at_most : (b : Bool) (n : ℕ) → cond b n (n + 1) ≤ n + 1
+one_at_most true n = omega arith
+one_at_most false n = omega arith
+
+no_more : (b : Bool) (n : ℕ) → cond b (n - 1) n ≤ n + 1
+no_more true n = omega arith
+no_more false n = omega arith
+
+changed_size : (m : Map) (c : Change) → size (changed m c) ≤ size m + 1
+changed_size m (change.Put key value) = omega (arith, len-insert nat_cmp_total m key value, one_at_most (contains_key m key) (size m))
+changed_size m (change.Del key) = omega (arith, len-remove nat_cmp_total m key, no_more (contains_key m key) (size m))
+
+pub map_size : (log : List Entry) (m : Map) → size (map_from m log) ≤ size m + length log
+map_size [] m = omega arith
+map_size (e ∷ log) m = omega (arith, changed_size m e.change, map_size log (changed m e.change))

@@ -1,0 +1,96 @@
+-- The items of a sheet, one after another.
+use Rattle.std.proofs.Common.{◌≡◌, ◌≤◌, ◌<◌, ℕ, zero, suc, ◌+◌, ◌-◌, ◌^◌, List, [], ◌∷◌, length, take, get_or, refl, sym, ap, subst, ◌∙◌, arith}
+use Rattle.std.specs.Prelude.{All, Option, Some, None}
+use Rattle.std.specs.List.{fold, sum_by}
+use Rattle.std.proofs.lemmas.List.{length-append}
+use Rattle.std.proofs.lemmas.List.Sums.{fold_more, sum_by-cons}
+use Rattle.sh_base.specs.declared.config.ConfigParts.{ConfigParts}
+use Rattle.sh_map.specs.declared.call.Call.{Call}
+use Rattle.sh_sheet.specs.declared.item.Item.{Item}
+use Rattle.sh_sheet.specs.declared.item.Item.TheVariants.{Ask, Mark, After, Turn}
+use Rattle.sh_sheet.specs.Sheet.{calls_of}
+use Rattle.sh_world.specs.declared.state.Given.{Given}
+use Rattle.sh_world.specs.States.{Place, State}
+use Rattle.sh_world.specs.Turning.{give_at}
+use Rattle.sh_replay.specs.Course.{given_by, turned_by}
+use Rattle.sh_replay.specs.Serving.{IsServable}
+use Rattle.sh_replay.proofs.TurnLemmas.{give_seats, give_setting, turns_seats, turns_setting}
+
+-- one item more
+pub item_more : (f : State → Item → State) (first world after : State) (items : List Item) (i : ℕ) (item : Item) → i < length items → item ≡ get_or items i item → world ≡ fold f first (take i items) → after ≡ f world item → after ≡ fold f first (take (i + 1) items)
+item_more f first world after items i item below is so e = e ∙ ap (λ (t : State). f t item) so ∙ ap (f (fold f first (take i items))) is ∙ sym (fold_more f first items i item below)
+
+-- an item that isn't one of turns, or isn't a call, changes nothing
+pub no_turns : (s : State) (item : Item) → ((seat count : ℕ) → item ≡ Turn seat count → ⊥) → turned_by s item ≡ s
+no_turns s (Ask seat call) not = refl
+no_turns s (Mark seat n) not = refl
+no_turns s (After seat n) not = refl
+no_turns s (Turn seat count) not = absurd (not seat count refl)
+
+pub no_call : (s : State) (item : Item) → ((seat : ℕ) (call : Call) → item ≡ Ask seat call → ⊥) → given_by s item ≡ s
+no_call s (Ask seat call) not = absurd (not seat call refl)
+no_call s (Mark seat n) not = refl
+no_call s (After seat n) not = refl
+no_call s (Turn seat count) not = refl
+
+-- ---- what the items leave
+
+turned_keeps : (s : State) (item : Item) → ((turned_by s item).setting ≡ s.setting) × (length (turned_by s item).seats ≡ length s.seats)
+turned_keeps s (Ask seat call) = (refl, refl)
+turned_keeps s (Mark seat n) = (refl, refl)
+turned_keeps s (After seat n) = (refl, refl)
+turned_keeps s (Turn seat count) = (turns_setting s seat count, turns_seats s seat count)
+
+pub given_keeps : (s : State) (item : Item) → ((given_by s item).setting ≡ s.setting) × (length (given_by s item).seats ≡ length s.seats)
+given_keeps s (Ask seat call) = (give_setting s seat call, give_seats s seat call)
+given_keeps s (Mark seat n) = (refl, refl)
+given_keeps s (After seat n) = (refl, refl)
+given_keeps s (Turn seat count) = (refl, refl)
+
+keeps_all : (f : State → Item → State) → ((s : State) (item : Item) → ((f s item).setting ≡ s.setting) × (length (f s item).seats ≡ length s.seats)) → (items : List Item) (s : State) → ((fold f s items).setting ≡ s.setting) × (length (fold f s items).seats ≡ length s.seats)
+keeps_all f keeps [] s = (refl, refl)
+keeps_all f keeps (i ∷ is) s = ((keeps_all f keeps is (f s i)).0 ∙ (keeps s i).0, (keeps_all f keeps is (f s i)).1 ∙ (keeps s i).1)
+
+pub turned_setting : (items : List Item) (s : State) → (fold turned_by s items).setting ≡ s.setting
+turned_setting items s = (keeps_all turned_by turned_keeps items s).0
+
+pub turned_seats : (items : List Item) (s : State) → length (fold turned_by s items).seats ≡ length s.seats
+turned_seats items s = (keeps_all turned_by turned_keeps items s).1
+
+pub given_setting : (items : List Item) (s : State) → (fold given_by s items).setting ≡ s.setting
+given_setting items s = (keeps_all given_by given_keeps items s).0
+
+pub given_seats : (items : List Item) (s : State) → length (fold given_by s items).seats ≡ length s.seats
+given_seats items s = (keeps_all given_by given_keeps items s).1
+
+-- ---- how many calls
+
+give_count : (s : State) (seat : ℕ) (call : Call) (o : Option Place) → length (give_at s seat call o).calls ≤ length s.calls + 1
+give_count s seat call None = omega arith
+give_count s seat call (Some q) =
+    let g : Given = record { seat = seat; call = call; reply = None; first = 0; point = 0 } in
+    omega (arith, length-append s.calls (g ∷ []))
+
+given_count : (s : State) (item : Item) → length (given_by s item).calls ≤ length s.calls + calls_of item
+given_count s (Ask seat call) = give_count s seat call _
+given_count s (Mark seat n) = omega arith
+given_count s (After seat n) = omega arith
+given_count s (Turn seat count) = omega arith
+
+pub given_counts : (items : List Item) (s : State) → length (fold given_by s items).calls ≤ length s.calls + sum_by calls_of items
+given_counts [] s = omega arith
+given_counts (i ∷ is) s = omega (arith, given_count s i, given_counts is (given_by s i), sum_by-cons calls_of i is)
+
+sum_take : (items : List Item) (i : ℕ) → sum_by calls_of (take i items) ≤ sum_by calls_of items
+sum_take [] zero = omega arith
+sum_take [] (suc i) = omega arith
+sum_take (x ∷ xs) zero = omega arith
+sum_take (x ∷ xs) (suc i) = omega (arith, sum_take xs i, sum_by-cons calls_of x xs, sum_by-cons calls_of x (take i xs))
+
+pub few_given : (first world : State) (items : List Item) (i : ℕ) → world ≡ fold given_by first (take i items) → first.calls ≡ [] → sum_by calls_of items ≤ 1000000 → length world.calls < 2 ^ 32 - 1
+few_given first world items i so none few = omega (arith, ap (λ (t : State). length t.calls) so, given_counts (take i items) first, ap length none, sum_take items i, few)
+
+-- ---- items that are served
+
+pub served_at : (p : ConfigParts) (items : List Item) (i : ℕ) (item other : Item) → All (IsServable p) items → i < length items → item ≡ get_or items i item → item ≡ other → IsServable p other
+served_at p items i item other all below is e = subst (IsServable p) (sym is ∙ e) (all i item below)

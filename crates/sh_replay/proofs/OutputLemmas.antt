@@ -1,0 +1,61 @@
+-- The lines of calls, one after another.
+use Rattle.std.proofs.Common.{◌≡◌, ◌<◌, ℕ, ◌+◌, true, List, [], ◌∷◌, ◌++◌, map, length, take, drop, get_or, Option, Some, None, refl, sym, ap, ◌∙◌, append_assoc, arith}
+use Rattle.std.proofs.lemmas.List.{append-nil, drop_more, length-take-le, take-append-drop, take_more}
+use Rattle.std.specs.Prelude.{is_some}
+use Rattle.sh_map.specs.declared.call.Reply.{Reply}
+use Rattle.sh_map.specs.declared.book.Done.{Done}
+use Rattle.sh_port.specs.Port.{AppendsFront}
+use Rattle.sh_port.proofs.Bytes.{appends_none}
+use Rattle.sh_text.specs.Text.{calls_text}
+use Rattle.sh_text.specs.declared.points.Points.TheVariants as points
+use Rattle.sh_text.proofs.Fronts.{front_more}
+use Rattle.sh_world.specs.declared.state.Given.{Given}
+use Rattle.sh_world.specs.States.{done_in, dones_from}
+use Rattle.sh_replay.specs.Course.{have_ended}
+use Rattle.sh_replay.specs.Output.{lines_from, text_with}
+use Rattle.sh_replay.specs.Served.{done_item, item_of}
+use Rattle.sh_replay.proofs.TurnLemmas.{both_left, both_right}
+
+-- a front of the first part is one of the whole
+pub front_of_first : (a b : Option (List ℕ)) (first second : List ℕ) → AppendsFront a b first → AppendsFront a b (first ++ second)
+front_of_first a b first second f = front_more a a b [] first second (first ++ second) refl (appends_none a) f
+
+lines_append : (n : ℕ) (xs ys : List Given) → lines_from n (xs ++ ys) ≡ lines_from n xs ++ lines_from (n + length xs) ys
+lines_append n [] ys = ap (λ k. lines_from k ys) (omega arith)
+lines_append n (x ∷ xs) ys =
+    let next : n + 1 + length xs ≡ n + length (x ∷ xs) = omega arith in
+    ap (λ t. text_with n x x.reply ++ t) (lines_append (n + 1) xs ys ∙ ap (λ k. lines_from (n + 1) xs ++ lines_from k ys) next) ∙ sym (append_assoc (text_with n x x.reply) (lines_from (n + 1) xs) (lines_from (n + length (x ∷ xs)) ys))
+
+module _ (calls : List Given) (i : ℕ) (g : Given) (n : ℕ) (below : i < length calls) (is : get_or calls i g ≡ g) (number : n ≡ i + 1) where
+  place : 1 + length (take i calls) ≡ n
+  place = omega (arith, length-take-le i calls (omega (arith, below)), number)
+
+  -- the lines before a call's, its own, and those behind it
+  pub lines_at : lines_from 1 calls ≡ lines_from 1 (take i calls) ++ (text_with n g g.reply ++ lines_from (n + 1) (drop (i + 1) calls))
+  lines_at = ap (lines_from 1) (sym (take-append-drop i calls)) ∙ lines_append 1 (take i calls) (drop i calls) ∙ ap (λ k. lines_from 1 (take i calls) ++ lines_from k (drop i calls)) place ∙ ap (λ l. lines_from 1 (take i calls) ++ lines_from n l) (drop_more calls i g below ∙ ap (λ x. x ∷ drop (i + 1) calls) is)
+
+  -- one line more
+  pub lines_more : lines_from 1 (take (i + 1) calls) ≡ lines_from 1 (take i calls) ++ text_with n g g.reply
+  lines_more = ap (lines_from 1) (take_more calls i g below ∙ ap (λ x. take i calls ++ x ∷ []) is) ∙ lines_append 1 (take i calls) (g ∷ []) ∙ ap (λ k. lines_from 1 (take i calls) ++ lines_from k (g ∷ [])) place ∙ ap (λ t. lines_from 1 (take i calls) ++ t) (append-nil (text_with n g g.reply))
+
+-- ---- where every call has ended
+
+item_head : (n : ℕ) (g : Given) (o : Option Reply) (ds : List Done) → is_some o ≡ true → map done_item (done_in n g o ++ ds) ≡ item_of g ∷ map done_item ds
+item_head n g None ds e = absurd (cc)
+item_head n g (Some r) ds e = refl
+
+pub done_items : (n : ℕ) (calls : List Given) → have_ended calls ≡ true → map done_item (dones_from n calls) ≡ map item_of calls
+done_items n [] e = refl
+done_items n (g ∷ calls) e =
+    item_head n g g.reply (dones_from (n + 1) calls) (both_left (is_some g.reply) (have_ended calls) e)
+    ∙ ap (λ l. item_of g ∷ l) (done_items (n + 1) calls (both_right (is_some g.reply) (have_ended calls) e))
+
+text_head : (n : ℕ) (g : Given) (o : Option Reply) (ds : List Done) → is_some o ≡ true → text_with n g o ++ calls_text points.Shown ds ≡ calls_text points.Shown (done_in n g o ++ ds)
+text_head n g None ds e = absurd (cc)
+text_head n g (Some r) ds e = refl
+
+pub done_lines : (n : ℕ) (calls : List Given) → have_ended calls ≡ true → lines_from n calls ≡ calls_text points.Shown (dones_from n calls)
+done_lines n [] e = refl
+done_lines n (g ∷ calls) e =
+    ap (λ t. text_with n g g.reply ++ t) (done_lines (n + 1) calls (both_right (is_some g.reply) (have_ended calls) e))
+    ∙ text_head n g g.reply (dones_from (n + 1) calls) (both_left (is_some g.reply) (have_ended calls) e)

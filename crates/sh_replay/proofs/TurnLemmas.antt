@@ -1,0 +1,140 @@
+-- What a turn of a seat leaves of a world.
+use Rattle.std.proofs.Common.{◌≡◌, ◌≢◌, ◌⊎◌, ◌<◌, ℕ, zero, suc, ◌+◌, ◌-◌, Bool, true, false, List, [], ◌∷◌, length, Option, Some, None, refl, ap, subst, ◌∙◌, inl, inr, arith}
+use Rattle.std.specs.Prelude.{◌&&◌, ◌==◌, slice_get, slice_set}
+use Rattle.std.proofs.lemmas.Bool.{cases_eq}
+use Rattle.std.proofs.lemmas.Bool.Decides.{nat_tests}
+use Rattle.std.proofs.lemmas.List.{length-set}
+use Rattle.std.proofs.lemmas.Option.{slice_get_past}
+use Rattle.sh_client.specs.declared.state.Want.{Want}
+use Rattle.sh_client.specs.declared.state.Want.TheVariants as want
+use Rattle.sh_client.specs.Wants.{want_of}
+use Rattle.sh_map.specs.declared.call.Call.{Call}
+use Rattle.sh_world.specs.States.{Place, State}
+use Rattle.sh_world.specs.Turning.{asked, asked_in, give_at, give_of, is_done, is_idle_at, starts_next, took, turn_at, turn_of}
+use Rattle.sh_replay.specs.Course.{turns_by}
+
+pub get_other : {X : Type 0} (xs : List X) (i j : ℕ) (y : X) → j ≢ i → slice_get (slice_set xs i y) j ≡ slice_get xs j
+get_other [] i j y ne = refl
+get_other (x ∷ xs) zero zero y ne = absurd (ne refl)
+get_other (x ∷ xs) zero (suc j) y ne = refl
+get_other (x ∷ xs) (suc i) zero y ne = refl
+get_other (x ∷ xs) (suc i) (suc j) y ne = get_other xs i j y (λ e. ne (ap suc e))
+
+pub set_same : {X : Type 0} (xs : List X) (i : ℕ) (x : X) → slice_get xs i ≡ Some x → slice_set xs i x ≡ xs
+set_same [] i x e = refl
+set_same (y ∷ ys) zero x e = cc
+set_same (y ∷ ys) (suc i) x e = ap (λ zs. y ∷ zs) (set_same ys i x e)
+
+-- only the place of this seat differs
+pub record Alters (s : State) (seat : ℕ) (t : State) : Type 0 where
+  pub place : Place
+  pub setting : t.setting ≡ s.setting
+  pub seats : t.seats ≡ slice_set s.seats seat place
+
+alters_took : (s : State) (seat : ℕ) (q : Place) (w : Want) → Alters s seat (took s seat q w)
+alters_took s seat q (want.Event e) = record { place = _; setting = refl; seats = refl }
+alters_took s seat q (want.Draw lock) = record { place = _; setting = refl; seats = refl }
+alters_took s seat q (want.Look lock) = record { place = _; setting = refl; seats = refl }
+alters_took s seat q (want.Waiting lock) = record { place = _; setting = refl; seats = refl }
+alters_took s seat q (want.Leave lock carry) = record { place = _; setting = refl; seats = refl }
+alters_took s seat q want.Done = record { place = _; setting = refl; seats = refl }
+
+alters_at : (s : State) (seat : ℕ) (o : Option Place) → (turn_at s seat o ≡ s) ⊎ Alters s seat (turn_at s seat o)
+alters_at s seat None = inl refl
+alters_at s seat (Some q) = inr (alters_took s seat (asked s.calls q (length s.log)) (want_of (asked s.calls q (length s.log)).client))
+
+alters : (s : State) (seat : ℕ) → (turn_of s seat ≡ s) ⊎ Alters s seat (turn_of s seat)
+alters s seat = alters_at s seat (slice_get s.seats seat)
+
+pub turn_setting : (s : State) (seat : ℕ) → (turn_of s seat).setting ≡ s.setting
+turn_setting s seat = elim (alters s seat) [
+  | inl same ↦ ap (λ (t : State). t.setting) same
+  | inr a ↦ a.setting
+]
+
+pub turn_seats : (s : State) (seat : ℕ) → length (turn_of s seat).seats ≡ length s.seats
+turn_seats s seat = elim (alters s seat) [
+  | inl same ↦ ap (λ (t : State). length t.seats) same
+  | inr a ↦ ap length a.seats ∙ length-set s.seats seat a.place
+]
+
+-- another seat's place stays
+pub turn_others : (s : State) (seat other : ℕ) → other ≢ seat → slice_get (turn_of s seat).seats other ≡ slice_get s.seats other
+turn_others s seat other ne = elim (alters s seat) [
+  | inl same ↦ ap (λ (t : State). slice_get t.seats other) same
+  | inr a ↦ ap (λ (xs : List Place). slice_get xs other) a.seats ∙ get_other s.seats seat other a.place ne
+]
+
+-- ---- idle seats
+
+done_want : (w : Want) → is_done w ≡ true → w ≡ want.Done
+done_want want.Done e = refl
+done_want (want.Event x) e = absurd (cc)
+done_want (want.Draw lock) e = absurd (cc)
+done_want (want.Look lock) e = absurd (cc)
+done_want (want.Waiting lock) e = absurd (cc)
+done_want (want.Leave lock carry) e = absurd (cc)
+
+pub both_left : (a b : Bool) → (a && b) ≡ true → a ≡ true
+both_left true b e = refl
+both_left false b e = absurd (cc)
+
+pub both_right : (a b : Bool) → (a && b) ≡ true → b ≡ true
+both_right true b e = e
+both_right false b e = absurd (cc)
+
+pub same_number : (a b : ℕ) → (a == b) ≡ true → a ≡ b
+same_number a b e = grind (arith, nat_tests)
+
+idle_asked : (s : State) (q : Place) → want_of q.client ≡ want.Done → slice_get q.numbers q.ended ≡ None → asked s.calls q (length s.log) ≡ q
+idle_asked s q done none = ap (asked_in s.calls q (length s.log)) done ∙ ap (starts_next s.calls q (length s.log)) none
+
+idle_at : (s : State) (seat : ℕ) (o : Option Place) → slice_get s.seats seat ≡ o → is_idle_at o ≡ true → turn_at s seat o ≡ s
+idle_at s seat None here idle = refl
+idle_at s seat (Some q) here idle =
+    let done = done_want (want_of q.client) (both_left (is_done (want_of q.client)) _ idle) in
+    let all : q.ended ≡ length q.numbers = same_number q.ended (length q.numbers) (both_right (is_done (want_of q.client)) _ idle) in
+    let same = idle_asked s q done (slice_get_past q.numbers q.ended (omega (arith, all))) in
+    ap (λ (r : Place). took s seat r (want_of r.client)) same ∙ ap (took s seat q) done ∙ ap (λ (xs : List Place). record s { seats = xs }) (set_same s.seats seat q here)
+
+-- a turn of an idle seat changes nothing
+pub turn_idle : (s : State) (seat : ℕ) → is_idle_at (slice_get s.seats seat) ≡ true → turn_of s seat ≡ s
+turn_idle s seat idle = idle_at s seat (slice_get s.seats seat) refl idle
+
+-- an idle seat stays idle
+pub idle_stays : (s : State) (seat other : ℕ) → is_idle_at (slice_get s.seats other) ≡ true → is_idle_at (slice_get (turn_of s seat).seats other) ≡ true
+idle_stays s seat other idle = elim (cases_eq other seat) [
+  | inl same ↦ subst (λ (n : ℕ). is_idle_at (slice_get (turn_of s n).seats other) ≡ true) same (ap (λ (t : State). is_idle_at (slice_get t.seats other)) (turn_idle s other idle) ∙ idle)
+  | inr ne ↦ ap is_idle_at (turn_others s seat other ne) ∙ idle
+]
+
+-- ---- so many turns
+
+pub turns_idle : (s : State) (seat count : ℕ) → is_idle_at (slice_get s.seats seat) ≡ true → turns_by s seat count ≡ s
+turns_idle s seat zero idle = refl
+turns_idle s seat (suc count) idle = ap (λ (t : State). turns_by t seat count) (turn_idle s seat idle) ∙ turns_idle s seat count idle
+
+pub turns_more : (s : State) (seat count i : ℕ) → i < count → turns_by s seat (count - i) ≡ turns_by (turn_of s seat) seat (count - (i + 1))
+turns_more s seat count i below =
+    let step : count - i ≡ suc (count - (i + 1)) = omega arith in
+    ap (turns_by s seat) step
+
+pub turns_setting : (s : State) (seat count : ℕ) → (turns_by s seat count).setting ≡ s.setting
+turns_setting s seat zero = refl
+turns_setting s seat (suc count) = turns_setting (turn_of s seat) seat count ∙ turn_setting s seat
+
+pub turns_seats : (s : State) (seat count : ℕ) → length (turns_by s seat count).seats ≡ length s.seats
+turns_seats s seat zero = refl
+turns_seats s seat (suc count) = turns_seats (turn_of s seat) seat count ∙ turn_seats s seat
+
+-- ---- calls that are given
+
+given_at : (s : State) (seat : ℕ) (call : Call) (o : Option Place) → ((give_at s seat call o).setting ≡ s.setting) × (length (give_at s seat call o).seats ≡ length s.seats)
+given_at s seat call None = (refl, refl)
+given_at s seat call (Some q) = (refl, length-set s.seats seat _)
+
+pub give_setting : (s : State) (seat : ℕ) (call : Call) → (give_of s seat call).setting ≡ s.setting
+give_setting s seat call = (given_at s seat call (slice_get s.seats seat)).0
+
+pub give_seats : (s : State) (seat : ℕ) (call : Call) → length (give_of s seat call).seats ≡ length s.seats
+give_seats s seat call = (given_at s seat call (slice_get s.seats seat)).1

@@ -1,0 +1,31 @@
+use Rattle.std.proofs.Common.{◌≡◌, ◌+◌, ◌-◌, length, sym, ap, ◌∙◌, arith}
+use Rattle.std.proofs.lemmas.Option.{slice_get_past}
+use Rattle.sh_world.specs.Turning.{is_idle_at}
+use Rattle.sh_replay.specs.Course.{turns_by}
+use Rattle.sh_replay.proofs.TurnLemmas.{turn_idle, turn_seats, turns_idle, turns_more}
+use Rattle.sh_replay.proofs.turns.take_turns.Goals as goal
+
+pub returns-then-seat-seats : goal.returns-then-seat-seats
+returns-then-seat-seats c = sym (turns_idle c.args.world.now c.args.seat c.args.count (ap is_idle_at (slice_get_past c.args.world.now.seats c.args.seat (omega (arith, c.seats.ensures, c.if-seat-seats.true)))))
+
+pub keeps_the_laws-requires : goal.keeps_the_laws-requires
+keeps_the_laws-requires c = omega (arith, c.seats.ensures, c.if-seat-seats.false, c.loop.invariant.1)
+
+pub turn-requires : goal.turn-requires
+turn-requires c = omega (arith, c.seats.ensures, c.if-seat-seats.false, c.loop.invariant.1)
+
+pub returns-in-Idle : goal.returns-in-Idle
+returns-in-Idle c =
+    let idle = (c.keeps_the_laws.ensures.idle c.args.seat (omega (arith, c.seats.ensures, c.if-seat-seats.false, c.loop.invariant.1))).cause.0 (sym c.turn.ensures.answer ∙ c.in-Idle.is) in
+    c.turn.ensures.world ∙ turn_idle c.loop.world c.args.seat idle ∙ sym (turns_idle c.loop.world c.args.seat (c.args.count - c.loop.counter) idle) ∙ c.loop.invariant.0
+
+pub loop-preserved : goal.loop-preserved
+loop-preserved c = (
+  ap (λ w. turns_by w c.args.seat (c.args.count - (c.loop.counter + 1))) c.turn.ensures.world ∙ sym (turns_more c.loop.world c.args.seat c.args.count c.loop.counter c.loop-test.true) ∙ c.loop.invariant.0,
+  ap (λ w. length w.seats) c.turn.ensures.world ∙ turn_seats c.loop.world c.args.seat ∙ c.loop.invariant.1,
+)
+
+pub returns : goal.returns
+returns c =
+    let over : c.args.count - c.loop.counter ≡ 0 = omega (arith, c.loop-test.false) in
+    sym (ap (turns_by c.loop.world c.args.seat) over) ∙ c.loop.invariant.0

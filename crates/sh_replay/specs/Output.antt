@@ -1,0 +1,46 @@
+-- The output of a replay: a line for each call, and the last lines.
+use Rattle.std.specs.Prelude.{ℕ, ◌+◌, Bool, List, [], ◌∷◌, ◌++◌, length, sum, Option, Some, None, is_some, if◌then◌else◌}
+use Rattle.std.specs.List.{flat_map, sum_by}
+use Rattle.sh_map.specs.declared.book.Row.{Row}
+use Rattle.sh_map.specs.declared.call.Reply.{Reply}
+use Rattle.sh_text.specs.declared.points.Points.TheVariants as points
+use Rattle.sh_text.specs.Text.{call_text, end_line, map_line, pending_line, unfinished_line}
+use Rattle.sh_world.specs.declared.state.Given.{Given}
+use Rattle.sh_replay.specs.Course.{have_ended}
+
+-- the line of a call that has ended so, or hasn't ended
+abbrev pub text_with : (n : ℕ) → Given → Option Reply → List ℕ
+text_with n g None = pending_line points.Shown n g.seat g.call
+text_with n g (Some reply) = call_text points.Shown (record { n = n; seat = g.seat; call = g.call; reply = reply; first = g.first; point = g.point; rows = [] })
+
+-- the lines of these calls, of which the first has the number n
+abbrev pub lines_from : (n : ℕ) → List Given → List ℕ
+lines_from n [] = []
+lines_from n (g ∷ calls) = text_with n g g.reply ++ lines_from (n + 1) calls
+
+-- whether a call has ended, as a number; and how many of them have
+abbrev pub ended_by : Given → ℕ
+ended_by g = if is_some g.reply then 1 else 0
+
+abbrev pub count_ended : List Given → ℕ
+count_ended calls = sum_by ended_by calls
+
+-- the sum of all words of all values
+abbrev pub sum_of : List Row → ℕ
+sum_of rows = sum_by (λ r. sum r.value) rows
+
+-- a line for each key, where the map is asked for
+abbrev pub map_lines : (asked : Bool) → List Row → List ℕ
+map_lines asked rows = if asked then flat_map map_line rows else []
+
+-- the lines behind the calls' lines, where every call has ended: the map, the numbers of calls and keys, and the sum of
+-- all words of the keys' values
+abbrev pub end_lines : (asked : Bool) → (calls : ℕ) → List Row → List ℕ
+end_lines asked calls rows = map_lines asked rows ++ end_line calls (length rows) (sum_of rows)
+
+abbrev pub last_lines : (asked : Bool) → List Given → List Row → List ℕ
+last_lines asked calls rows = if have_ended calls then end_lines asked (length calls) rows else unfinished_line (length calls) (count_ended calls)
+
+-- the output for these calls, and the rows that the words hold
+unfoldable pub text_of : (asked : Bool) → List Given → List Row → List ℕ
+text_of asked calls rows = lines_from 1 calls ++ last_lines asked calls rows

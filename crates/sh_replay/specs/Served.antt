@@ -1,0 +1,71 @@
+-- What is left of a sheet that was served.
+use Rattle.std.specs.Prelude.{◌≡◌, ◌≤◌, ℕ, Bool, true, false, List, [], map, filter, length}
+use Rattle.std.specs.FinMap.{entries}
+use Rattle.std.specs.List.{sum_by}
+use Rattle.sh_base.specs.declared.config.ConfigParts.{ConfigParts}
+use Rattle.sh_map.specs.declared.book.Done.{Done}
+use Rattle.sh_map.specs.declared.book.Row.{Row}
+use Rattle.sh_map.specs.Book.{IsClosed, IsLawful}
+use Rattle.sh_map.specs.Log.{map_of}
+use Rattle.sh_sheet.specs.declared.item.Item.{Item}
+use Rattle.sh_sheet.specs.declared.item.Item.TheVariants.{Ask, Mark, After, Turn}
+use Rattle.sh_sheet.specs.Sheet.{calls_of}
+use Rattle.sh_tree.specs.Tree.{IsTree, map_in}
+use Rattle.sh_world.specs.declared.state.Given.{Given}
+use Rattle.sh_own.specs.Laid.{AreLaid}
+use Rattle.sh_world.specs.States.{State, dones_of}
+use Rattle.sh_replay.specs.declared.ending.Finish.{Finish}
+use Rattle.sh_replay.specs.declared.ending.Finish.TheVariants as finish
+use Rattle.sh_replay.specs.Course.{budget_of, course, have_ended, HasFinished}
+
+-- the row of a key and its value
+abbrev pub row_of : ℕ × List ℕ → Row
+row_of x = record { key = x.0; value = x.1 }
+
+-- the words hold a tree, whose map is the log's and has these rows, and each entry is some ended call's own
+pub record HoldsAll (s : State) (rows : List Row) : Type 0 where
+  pub closed : IsClosed s.log (dones_of s.calls)
+  pub levels : List (List ℕ)
+  pub tree : IsTree s.setting s.words levels
+  pub holds : map_in s.setting s.words levels ≡ map_of s.log
+  pub rows_are : rows ≡ map row_of (entries (map_in s.setting s.words levels))
+
+-- what is said of the rows, by how the rounds ended
+abbrev pub HoldsRows : State → Finish → List Row → Type 0
+HoldsRows s (finish.Done turns) rows = HoldsAll s rows
+HoldsRows s (finish.Spent turns) rows = rows ≡ []
+
+-- every call has ended, where it is said so
+abbrev pub HasEnded : State → Finish → Type 0
+HasEnded s (finish.Done turns) = have_ended s.calls ≡ true
+HasEnded s (finish.Spent turns) = Unit {0}
+
+-- a call of the world, as the item that asks for it
+abbrev pub item_of : Given → Item
+item_of g = Ask g.seat g.call
+
+-- the same of a finished call
+abbrev pub done_item : Done → Item
+done_item d = Ask d.seat d.call
+
+-- an item is a call
+abbrev pub is_call : Item → Bool
+is_call (Ask seat call) = true
+is_call (Mark seat n) = false
+is_call (After seat n) = false
+is_call (Turn seat count) = false
+
+-- The world is the last one of the items' course, over laid words, and its rounds ended so. Its calls are the items'.
+-- The log and the ended calls are a lawful book, so each seat has at most one entry whose call hasn't ended. Where every
+-- call has ended the book is closed, and the words hold the log's map, whose rows these are.
+pub record HasServed (p : ConfigParts) (items : List Item) (s : State) (end : Finish) (rows : List Row) : Type 0 where
+  pub laid : List ℕ
+  pub are_laid : AreLaid p laid
+  pub last : s ≡ (course p laid items).world
+  pub end_is : HasFinished (budget_of (sum_by calls_of items)) (course p laid items) end
+  pub setting : s.setting ≡ p
+  pub calls : map item_of s.calls ≡ filter is_call items
+  pub lawful : IsLawful s.log (dones_of s.calls)
+  pub rows_are : HoldsRows s end rows
+  pub few_rows : length rows ≤ 4294967296
+  pub few_calls : length s.calls ≤ 1000000

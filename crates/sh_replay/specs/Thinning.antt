@@ -1,0 +1,13 @@
+-- Lists of seats from which idle ones are left out.
+use Rattle.std.specs.Prelude.{◌≡◌, ◌⊎◌, ℕ, true, List, [], ◌∷◌, slice_get}
+use Rattle.sh_world.specs.States.{State}
+use Rattle.sh_world.specs.Turning.{is_idle_at}
+
+-- every seat is idle
+abbrev pub AllIdle : State → Type 0
+AllIdle s = (seat : ℕ) → is_idle_at (slice_get s.seats seat) ≡ true
+
+-- the second list is the first without some seats that are idle
+abbrev pub Thins : State → List ℕ → List ℕ → Type 0
+Thins s [] ys = ys ≡ []
+Thins s (x ∷ xs) ys = ((is_idle_at (slice_get s.seats x) ≡ true) × Thins s xs ys) ⊎ ((rest : List ℕ) × (ys ≡ x ∷ rest) × Thins s xs rest)

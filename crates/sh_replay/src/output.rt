@@ -1,0 +1,192 @@
+// The lines of a replay.
+ghost use Rattle.std.specs.Prelude.{◌≡◌, ◌≤◌, ◌*◌, ◌^◌, length, sum, OnOk, OnErr};
+ghost use Rattle.std.specs.List.{sum_by};
+ghost use Rattle.std.specs.Io.KnownBytes.{Appends};
+ghost use Rattle.sh_port.specs.Port.{AppendsFront};
+ghost use Rattle.sh_text.specs.Write.{HasWriteCause};
+ghost use Rattle.sh_replay.specs.Output.{count_ended, ended_by, end_lines, last_lines, lines_from, map_lines, sum_of, text_of, text_with};
+
+use crate::turns::have_ended;
+use sh_base::Value;
+use sh_map::{Done, Row, Rows};
+use sh_port::Sink;
+use sh_text::{
+    Points, WriteError, write_call, write_end, write_map, write_pending, write_unfinished,
+};
+use sh_world::Given;
+use std::alloc::Global;
+
+// Writes the line of call `n`.
+fn write_given<K: Sink>(
+    alloc: Global,
+    sink: &mut K,
+    n: u32,
+    given: &Given,
+) -> Result<(), WriteError>
+    ensures ok { OnOk result (Appends (K.held sink.old) (K.held sink.new) (text_with n given.now given.now.reply)) }
+    ensures err { OnErr result (AppendsFront (K.held sink.old) (K.held sink.new) (text_with n given.now given.now.reply)) }
+    ensures cause { HasWriteCause (K.faults sink.old) (K.faults sink.new) result }
+{
+    match given.reply {
+        Some(reply) => write_call(
+            alloc,
+            sink,
+            Points::Shown,
+            &Done {
+                n,
+                seat: given.seat,
+                call: given.call,
+                reply,
+                first: u64::from(given.first),
+                point: u64::from(given.point),
+                rows: Rows::new(alloc),
+            },
+        ),
+        None => write_pending(alloc, sink, Points::Shown, n, given.seat, &given.call),
+    }
+}
+
+// Writes the lines of these calls.
+fn write_given_calls<K: Sink>(
+    alloc: Global,
+    sink: &mut K,
+    calls: &[Given],
+) -> Result<(), WriteError>
+    requires { length calls.now ≤ 1000000 }
+    ensures ok { OnOk result (Appends (K.held sink.old) (K.held sink.new) (lines_from 1 calls.now)) }
+    ensures err { OnErr result (AppendsFront (K.held sink.old) (K.held sink.new) (lines_from 1 calls.now)) }
+    ensures cause { HasWriteCause (K.faults sink.old) (K.faults sink.new) result }
+{
+    for i in 0..calls.len() {
+        match write_given(alloc, sink, i as u32 + 1, &calls[i]) {
+            Ok(()) => {}
+            Err(error) => return Err(error),
+        }
+    }
+    Ok(())
+}
+
+// The sum of a value's words.
+fn sum_of_value(value: &Value) -> u128
+    ensures sum { result ≡ sum value.now }
+    ensures small { result ≤ 8 * 2 ^ 64 }
+{
+    let words = value.words();
+    let mut total = 0;
+    for index in 0..value.len() {
+        total += u128::from(words[index]);
+    }
+    total
+}
+
+// The sum of all words of the rows' values. Condition: there are at most 2^32 rows.
+fn sum_of(rows: &[Row]) -> u128
+    requires { length rows.now ≤ 4294967296 }
+    ensures { result ≡ sum_of rows.now }
+{
+    let mut total = 0;
+    for row in rows {
+        total += sum_of_value(&row.value);
+    }
+    total
+}
+
+// Writes the map, where it is asked for.
+fn write_map_lines<K: Sink>(
+    alloc: Global,
+    sink: &mut K,
+    asked: bool,
+    rows: &[Row],
+) -> Result<(), WriteError>
+    ensures ok { OnOk result (Appends (K.held sink.old) (K.held sink.new) (map_lines asked rows.now)) }
+    ensures err { OnErr result (AppendsFront (K.held sink.old) (K.held sink.new) (map_lines asked rows.now)) }
+    ensures cause { HasWriteCause (K.faults sink.old) (K.faults sink.new) result }
+{
+    if asked {
+        write_map(alloc, sink, rows)
+    } else {
+        Ok(())
+    }
+}
+
+// Writes the lines behind the calls' lines where every call has ended.
+fn write_end_lines<K: Sink>(
+    alloc: Global,
+    sink: &mut K,
+    asked: bool,
+    calls: u64,
+    rows: &[Row],
+) -> Result<(), WriteError>
+    requires { length rows.now ≤ 4294967296 }
+    ensures ok { OnOk result (Appends (K.held sink.old) (K.held sink.new) (end_lines asked calls rows.now)) }
+    ensures err { OnErr result (AppendsFront (K.held sink.old) (K.held sink.new) (end_lines asked calls rows.now)) }
+    ensures cause { HasWriteCause (K.faults sink.old) (K.faults sink.new) result }
+{
+    match write_map_lines(alloc, sink, asked, rows) {
+        Ok(()) => write_end(alloc, sink, calls, rows.len() as u64, sum_of(rows)),
+        Err(error) => Err(error),
+    }
+}
+
+// Whether a call has ended, as a number.
+fn ended_by(given: &Given) -> u64
+    ensures { result ≡ ended_by given.now }
+{
+    if given.reply.is_some() { 1 } else { 0 }
+}
+
+// How many of the calls have ended.
+fn count_ended(calls: &[Given]) -> u64
+    requires { length calls.now ≤ 1000000 }
+    ensures { result ≡ count_ended calls.now }
+{
+    let mut count = 0;
+    for given in calls {
+        count += ended_by(given);
+    }
+    count
+}
+
+// Writes the lines behind the calls' lines.
+fn write_last_lines<K: Sink>(
+    alloc: Global,
+    sink: &mut K,
+    asked: bool,
+    calls: &[Given],
+    rows: &[Row],
+) -> Result<(), WriteError>
+    requires calls { length calls.now ≤ 1000000 }
+    requires rows { length rows.now ≤ 4294967296 }
+    ensures ok { OnOk result (Appends (K.held sink.old) (K.held sink.new) (last_lines asked calls.now rows.now)) }
+    ensures err { OnErr result (AppendsFront (K.held sink.old) (K.held sink.new) (last_lines asked calls.now rows.now)) }
+    ensures cause { HasWriteCause (K.faults sink.old) (K.faults sink.new) result }
+{
+    if have_ended(calls) {
+        write_end_lines(alloc, sink, asked, calls.len() as u64, rows)
+    } else {
+        write_unfinished(alloc, sink, calls.len() as u64, count_ended(calls))
+    }
+}
+
+/// Writes the lines of a replay: one for each call, in the order in which they were given; then, where every call has
+/// ended, the map where it is asked for and the last line, and else the line of a run that was given up. Conditions:
+/// at most 1,000,000 calls, and at most 2^32 rows.
+#[tactic(auto, unfolding(crate::specs::Output::text_of))]
+pub fn write_lines<K: Sink>(
+    alloc: Global,
+    sink: &mut K,
+    asked: bool,
+    calls: &[Given],
+    rows: &[Row],
+) -> Result<(), WriteError>
+    requires calls { length calls.now ≤ 1000000 }
+    requires rows { length rows.now ≤ 4294967296 }
+    ensures ok { OnOk result (Appends (K.held sink.old) (K.held sink.new) (text_of asked calls.now rows.now)) }
+    ensures err { OnErr result (AppendsFront (K.held sink.old) (K.held sink.new) (text_of asked calls.now rows.now)) }
+    ensures cause { HasWriteCause (K.faults sink.old) (K.faults sink.new) result }
+{
+    match write_given_calls(alloc, sink, calls) {
+        Ok(()) => write_last_lines(alloc, sink, asked, calls, rows),
+        Err(error) => Err(error),
+    }
+}

@@ -1,0 +1,134 @@
+// The turns of a replay: those that the sheet's rows name, and then the finishing rounds.
+ghost use Rattle.std.specs.Prelude.{◌≡◌, ◌≢◌, ◌≤◌, ◌<◌, ◌+◌, ℕ, [], All, length, take};
+ghost use Rattle.std.specs.List.{fold, range_with_len};
+ghost use Rattle.sh_replay.specs.Course.{ask, finished, have_ended, last_round, turned_by, turns_by, HasFinished};
+ghost use Rattle.sh_replay.specs.Thinning.{AllIdle, Thins};
+
+use crate::Finish;
+use sh_sheet::{Item, Sheet};
+use sh_world::{Given, Turn, World};
+
+// What a round leaves: how many seats took a turn, and how many turns may still be made.
+#[derive(Clone, Copy, Debug)]
+struct Left {
+    seats: usize,
+    turns: u64,
+}
+
+// The seat takes so many turns, where there is one. Once it is idle the rest is left out.
+fn take_turns(world: &mut World, seat: u32, count: u64)
+    ensures { world.new ≡ turns_by world.old seat count }
+{
+    if seat >= world.seats() {
+        return;
+    }
+    for _ in 0..count {
+        world.keeps_the_laws();
+        if let Turn::Idle = world.turn(seat) {
+            return;
+        }
+    }
+}
+
+// The turns of the sheet's rows, in their order.
+fn take_rows(world: &mut World, items: &[Item])
+    ensures { world.new ≡ fold turned_by world.old items.now }
+{
+    for item in items {
+        if let Item::Turn { seat, count } = item {
+            take_turns(world, *seat, *count);
+        }
+    }
+}
+
+// A round of the first so many of these seats: each is asked in its place. Those that took a turn come to the front, in
+// their order.
+fn round(world: &mut World, seats: &mut [u32], count: usize, turns: u64) -> Left
+    requires count { count ≤ length seats.old }
+    requires seats { All (λ x. x < length world.old.seats) (take count seats.old) }
+    ensures round { record { world = world.new; left = result.turns } ≡ fold ask (record { world = world.old; left = turns }) (take count seats.old) }
+    ensures made { result.seats + result.turns ≡ turns }
+    ensures count { result.seats ≤ count }
+    ensures length { length seats.new ≡ length seats.old }
+    ensures thins { result.turns ≢ 0 → Thins world.new (take count seats.old) (take result.seats seats.new) }
+{
+    let mut kept = 0;
+    let mut turns = turns;
+    for i in 0..count {
+        if turns == 0 {
+            return Left { seats: kept, turns };
+        }
+        let seat = seats[i];
+        world.keeps_the_laws();
+        match world.turn(seat) {
+            Turn::Idle => {}
+            _ => {
+                turns -= 1;
+                seats[kept] = seat;
+                kept += 1;
+            }
+        }
+    }
+    Left { seats: kept, turns }
+}
+
+// So many seats, rising.
+fn rising(count: usize) -> [u32; 64]
+    requires { count ≤ 64 }
+    ensures length { length result ≡ 64 }
+    ensures seats { take count result ≡ range_with_len 0 count }
+{
+    let mut seats = [0; 64];
+    for seat in 0..count {
+        seats[seat] = seat as u32;
+    }
+    seats
+}
+
+// Rounds of all seats, until none can take a turn or all turns were made. How many may still be made comes back.
+fn rounds(world: &mut World, budget: u64) -> u64
+    requires { length world.old.seats ≤ 64 }
+    ensures left { result ≤ budget }
+    ensures rest { result ≢ 0 → AllIdle world.new }
+    ensures rounds { record { world = world.new; left = result } ≡ last_round (record { world = world.old; left = budget }) }
+{
+    let mut count = world.seats() as usize;
+    let mut seats = rising(count);
+    let mut turns = budget;
+    while turns > 0 {
+        if count == 0 {
+            return turns;
+        }
+        let left = round(world, &mut seats, count, turns);
+        count = left.seats;
+        turns = left.turns;
+    }
+    turns
+}
+
+/// Whether every call has ended.
+pub fn have_ended(calls: &[Given]) -> bool
+    ensures { result ≡ have_ended calls.now }
+{
+    calls.iter().all(|given| given.reply.is_some())
+}
+
+/// Serves the calls that the world was given: first come the turns of the sheet's rows, in their order, then rounds of
+/// all seats, rising, in which each seat that isn't idle takes one turn. `Done` comes exactly where every call has ended,
+/// and `Spent` exactly where `budget` turns were made in the rounds and a call hasn't ended. It takes no memory.
+/// A row of turns by a seat that the world hasn't changes nothing. Condition: the world is laid.
+pub fn finish(world: &mut World, sheet: &Sheet, budget: u64) -> Finish
+    requires { 0 < length world.old.seats }
+    ensures course { world.new ≡ (finished world.old sheet.now.items budget).world }
+    ensures finish { HasFinished budget (finished world.old sheet.now.items budget) result }
+{
+    world.keeps_the_laws();
+    take_rows(world, sheet.as_slice());
+    let turns = budget - rounds(world, budget);
+    world.keeps_the_laws();
+    if have_ended(world.calls()) {
+        Finish::Done(turns)
+    } else {
+        Finish::Spent(turns)
+    }
+}

@@ -302,6 +302,35 @@ fn counted(world: &World, seat: u32) -> (u64, u64, u64, u64, u64) {
     }
 }
 
+// A word of a node of the small leaves, whose nodes are the last words of the pool: of 32 nodes, or of 512.
+fn part(world: &World, node: u64, offset: u64) -> u64 {
+    let words = world.words().len() as u64;
+    let nodes: u64 = if words < 2000 { 32 } else { 512 };
+    let before = words.saturating_sub(nodes * 23);
+    let at = before
+        .saturating_add(node.saturating_sub(1).saturating_mul(23))
+        .saturating_add(offset);
+    word(world, usize::try_from(at).unwrap_or(0))
+}
+
+fn first_child(world: &World, node: u64) -> u64 {
+    part(world, node, 7)
+}
+
+// How many nodes a level has from this one on.
+fn chain(world: &World, first: u64) -> u64 {
+    let mut count = 0;
+    let mut node = first;
+    for _ in 0..1000 {
+        if node == 0 {
+            return count;
+        }
+        count = u64::wrapping_add(count, 1);
+        node = part(world, node, 4);
+    }
+    count
+}
+
 #[test]
 fn puts_split_leaves_and_grow_the_tree(rt: HostRuntime) -> Result<(), Fail> {
     let alloc = rt.alloc();
@@ -366,6 +395,55 @@ fn puts_split_leaves_and_grow_the_tree(rt: HostRuntime) -> Result<(), Fail> {
     let calls = rising(alloc, 100)?;
     let world = run(alloc, large, &calls, &[])?;
     assert_eq!(rt; (world.log().len(), word(&world, 2)), (100, 9));
+    // the root, of level 3, and the numbers of nodes of the levels below it
+    let root = word(&world, 1);
+    let second = first_child(&world, root);
+    let first = first_child(&world, second);
+    let leaf = first_child(&world, first);
+    assert_eq!(rt; part(&world, root, 1), 3);
+    assert_eq!(rt;
+        [
+            chain(&world, root),
+            chain(&world, second),
+            chain(&world, first),
+            chain(&world, leaf)
+        ],
+        [1, 2, 12, 49]
+    );
+    Ok(())
+}
+
+#[test]
+fn the_lost_race_and_rewritten_leaves(rt: HostRuntime) -> Result<(), Fail> {
+    let alloc = rt.alloc();
+    let race = [
+        (2, 'p', 10, 1),
+        (2, 'p', 20, 2),
+        (2, 'p', 30, 3),
+        (2, 'p', 40, 4),
+        (0, 'p', 50, 5),
+        (1, 'p', 60, 6),
+        (1, 'p', 70, 7),
+    ];
+    let world = run(alloc, small(), &race, &[(2, 1000), (0, 148), (1, 1000)])?;
+    // node 18 is the root, with its pairs (0, 1), (30, 9) and (50, 17)
+    assert_eq!(rt; word(&world, 1), 18);
+    assert_eq!(rt;
+        [
+            part(&world, 18, 5),
+            part(&world, 18, 7),
+            part(&world, 18, 9),
+            part(&world, 18, 11)
+        ],
+        [3, 1, 9, 17]
+    );
+    let mut calls = Vec::new(alloc);
+    for value in 1..257 {
+        calls.push((0, 'p', 5, value))?;
+    }
+    let narrow = ConfigParts { bits: 4, ..small() };
+    let world = run(alloc, narrow, &calls, &[])?;
+    assert_eq!(rt; (counted(&world, 0).4, world.log().len()), (15, 255));
     Ok(())
 }
 

@@ -355,7 +355,8 @@ fn a_split_leaves_two_leaves_and_a_root(rt: HostRuntime) -> Result<(), Fail> {
 // Rows of puts by one seat, of keys that rise by `step`; put i has the value i.
 fn rising_puts(alloc: Global, seat: u32, count: u64, step: u64) -> Result<String, AllocError> {
     let mut text = String::new(alloc);
-    for i in 1..count + 1 {
+    for earlier in 0..count {
+        let i = earlier + 1;
         let key = i.wrapping_mul(step);
         write!(text, "put,{seat},{key},{i}\n")?;
     }

@@ -92,12 +92,14 @@ loads_more p setting left words room within node memory at word more at_is word_
     let some : 1 ≤ left = omega (arith, more) in
     let again : 0 < left - 1 = omega (arith, more) in
     let fits : left - 1 ≤ node_size p = omega (arith, within) in
+    let l = length_loaded p setting left words room within in
     record {
       at = sym (wants p setting left words room within node (omega (arith, more))) ∙ ap Some (sym at_is);
       word = word_is;
       fed = fed_more p setting left words room within node word some again;
       answer = sym (answers_more p setting left words room within node word some again);
       more = λ none. absurd (omega_some (sym none ∙ sym (wants p setting (left - 1) (set words (left - 1) word) (length-set words (left - 1) word ∙ room) fits node again)));
+      left = omega (arith, l, more, within);
     }
   where
     omega_some : {x : ℕ} → None ≡ Some x → ⊥

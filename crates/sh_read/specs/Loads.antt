@@ -1,5 +1,5 @@
 -- A load of a READ that isn't its last one.
-use Rattle.std.specs.Prelude.{◌≡◌, ◌≢◌, ℕ, ◌+◌, ◌≤◌, List, length, slice_index, Option, Some, None}
+use Rattle.std.specs.Prelude.{◌≡◌, ◌≢◌, ℕ, ◌+◌, ◌<◌, ◌≤◌, List, length, slice_index, Option, Some, None}
 use Rattle.sh_base.specs.Setting.{node_size}
 use Rattle.sh_read.specs.declared.state.Loaded.{Loaded}
 use Rattle.sh_read.specs.declared.state.Progress.TheVariants.{More}
@@ -12,6 +12,7 @@ pub record IsLoad (memory : List ℕ) (old new : Reader) (l : Loaded) : Type 0 w
   pub fed : new ≡ record old { reads = fed_by old.setting old.reads l.word }
   pub answer : progress_of old.setting old.reads l.word ≡ More
   pub more : wanted new.setting new.reads ≢ None
+  pub left : length old.reads.loaded + 1 < node_size old.setting
 
 -- A word was loaded; or nothing was done, since no more than the last one is wanted.
 abbrev pub HasLoaded : (memory : List ℕ) (old new : Reader) → Option Loaded → Type 0

@@ -6,7 +6,7 @@ use Rattle.std.proofs.lemmas.List.{drop_all, length-set, length-take-le}
 use Rattle.sh_base.specs.declared.config.ConfigParts.{ConfigParts}
 use Rattle.sh_base.specs.Setting.{node_size, IsNode, IsSetting}
 use Rattle.sh_base.specs.Layout.{node_word}
-use Rattle.sh_base.proofs.LayoutLemmas.{node_size_is, rear_at_small, take_set_in}
+use Rattle.sh_base.proofs.LayoutLemmas.{node_size_is, node_word_high, rear_at_small, take_set_in}
 use Rattle.sh_image.specs.declared.read.Seen.{Seen}
 use Rattle.sh_image.specs.declared.read.Seen.TheVariants.{Leaf as LeafSeen, Inner as InnerSeen, Torn, TornEntry, Odd as OddSeen}
 use Rattle.sh_read.specs.declared.state.Progress.TheVariants.{More}
@@ -87,14 +87,16 @@ module _ (p : ConfigParts) (setting : IsSetting p) where
       answers_last seen last is = rw (full last) (ap answer_to (is ∙ ap (seen_of p) (all_is last)))
 
 -- a word is loaded that isn't the last one
-pub loads_more : (p : ConfigParts) (setting : IsSetting p) (left : ℕ) (words : List ℕ) (room : length words ≡ 711) (within : left ≤ node_size p) (node : ℕ) (memory : List ℕ) (at word : ℕ) → 1 < left → at ≡ node_word p node + (left - 1) → word ≡ slice_index memory at → IsLoad memory (reader_of p node left words) (reader_of p node (left - 1) (set words (left - 1) word)) (record { at = at; word = word })
-loads_more p setting left words room within node memory at word more at_is word_is =
+pub loads_more : (p : ConfigParts) (setting : IsSetting p) (left : ℕ) (words : List ℕ) (room : length words ≡ 711) (within : left ≤ node_size p) (node : ℕ) (here : IsNode p node) (memory : List ℕ) (at word : ℕ) → 1 < left → at ≡ node_word p node + (left - 1) → word ≡ slice_index memory at → IsLoad memory (reader_of p node left words) (reader_of p node (left - 1) (set words (left - 1) word)) (record { at = at; word = word })
+loads_more p setting left words room within node here memory at word more at_is word_is =
+    let high = node_word_high p node here in
     let some : 1 ≤ left = omega (arith, more) in
     let again : 0 < left - 1 = omega (arith, more) in
     let fits : left - 1 ≤ node_size p = omega (arith, within) in
     let l = length_loaded p setting left words room within in
     record {
       at = sym (wants p setting left words room within node (omega (arith, more))) ∙ ap Some (sym at_is);
+      within = omega (arith, at_is, high, within, more);
       word = word_is;
       fed = fed_more p setting left words room within node word some again;
       answer = sym (answers_more p setting left words room within node word some again);

@@ -5,16 +5,17 @@ ghost use Rattle.sh_read.specs.Loads.{HasLoaded};
 ghost use Rattle.sh_client.specs.declared.state.Phase.TheVariants as phase;
 ghost use Rattle.sh_client.specs.Machine.{to};
 ghost use Rattle.sh_client.specs.Sound.{Stands};
-ghost use Rattle.sh_client.specs.Steps.{HasStepped, IsReading, IsStep};
+ghost use Rattle.sh_client.specs.Steps.{looks_of, HasStepped, IsReading};
 
 use crate::{Client, Phase, Step, Then, Write};
 use sh_base::Event;
-use sh_decide::Post;
+use sh_decide::{Aim, Post};
+use sh_lock::Grab;
 
 impl Client {
-    /// Makes the wanted event itself, where it's a step inside a READ or a WRITE, and not its last one: the client then
-    /// stands as `fed` leaves it, and nothing is to be logged. None exactly where the wanted turn is another; then nothing
-    /// changes. Condition: the words are a pool of its setting.
+    /// Makes the wanted event itself, where it's a step inside a READ or a WRITE, and not its last one, or an exchange on a
+    /// lock word that isn't 0: the client then stands as `fed` leaves it, and nothing is to be logged. None exactly where
+    /// the wanted turn is another; then nothing changes. Condition: the words are a pool of its setting.
     pub fn step(&mut self, words: &mut [u64]) -> Option<Step>
         requires { length words.old ≡ pool_words self.old.setting }
         ensures { HasStepped words.old words.new self.old self.new result }
@@ -22,6 +23,7 @@ impl Client {
         match self.phase {
             Phase::Read { .. } => self.load_step(words),
             Phase::Hold { .. } => self.load_step(words),
+            Phase::Grab { aim, node } => self.grab_step(words, aim, node),
             Phase::Fill {
                 node,
                 depth,
@@ -47,12 +49,36 @@ impl Client {
             | Phase::Root { .. }
             | Phase::Draw { .. }
             | Phase::Look { .. }
-            | Phase::Grab { .. }
             | Phase::Seek { .. }
             | Phase::Waiting { .. }
             | Phase::Unlock { .. }
             | Phase::Leave { .. }
             | Phase::Top { .. }
+            | Phase::Swap { .. }
+            | Phase::Ended => None,
+        }
+    }
+
+    /// The lock for whose ticket it looks: `Some` exactly where it wants a look.
+    pub fn looks(&self) -> Option<u32>
+        ensures { result ≡ looks_of self.now }
+    {
+        match self.phase {
+            Phase::Look { node, .. } => Some(self.cfg.lock_of(node)),
+            Phase::Idle
+            | Phase::Root { .. }
+            | Phase::Read { .. }
+            | Phase::Draw { .. }
+            | Phase::Grab { .. }
+            | Phase::Hold { .. }
+            | Phase::Seek { .. }
+            | Phase::Fill { .. }
+            | Phase::Waiting { .. }
+            | Phase::Body { .. }
+            | Phase::Unlock { .. }
+            | Phase::Leave { .. }
+            | Phase::Top { .. }
+            | Phase::Raise { .. }
             | Phase::Swap { .. }
             | Phase::Ended => None,
         }
@@ -71,6 +97,23 @@ impl Client {
             }),
             None => None,
         }
+    }
+
+    // Makes the exchange of a lock word, where it isn't 0.
+    fn grab_step(&mut self, words: &[u64], aim: Aim, node: u32) -> Option<Step>
+        requires pool { length words.now ≡ pool_words self.old.setting }
+        requires phase { self.old.phase ≡ phase.Grab aim node }
+        requires stands { Stands self.old (phase.Grab aim node) }
+        ensures { HasStepped words.now words.now self.old self.new result }
+    {
+        let lock = self.cfg.lock_of(node);
+        let at = self.cfg.lock_word(lock);
+        let found = words[at as usize];
+        if found == 0 {
+            return None;
+        }
+        let event = Grab::new(&self.cfg, lock, self.seat).event();
+        Some(Step { event, found })
     }
 
     // Makes a store of a right half, where it isn't the last one.

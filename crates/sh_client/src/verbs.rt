@@ -1,9 +1,7 @@
 // Steps inside a READ or a WRITE, which the client makes itself.
-ghost use Rattle.std.specs.Prelude.{◌≡◌, ◌+◌, ◌<◌, length};
-ghost use Rattle.sh_base.specs.Setting.{node_size, pool_words};
-ghost use Rattle.sh_read.specs.Loads.{HasLoaded};
+ghost use Rattle.std.specs.Prelude.{◌≡◌, ◌<◌, IfSome, length};
+ghost use Rattle.sh_base.specs.Setting.{all_locks, pool_words};
 ghost use Rattle.sh_client.specs.declared.state.Phase.TheVariants as phase;
-ghost use Rattle.sh_client.specs.Machine.{to};
 ghost use Rattle.sh_client.specs.Sound.{Stands};
 ghost use Rattle.sh_client.specs.Steps.{looks_of, HasStepped, IsReading};
 
@@ -61,7 +59,8 @@ impl Client {
 
     /// The lock for whose ticket it looks: `Some` exactly where it wants a look.
     pub fn looks(&self) -> Option<u32>
-        ensures { result ≡ looks_of self.now }
+        ensures here { result ≡ looks_of self.now }
+        ensures within { IfSome result (λ lock. lock < all_locks self.now.setting) }
     {
         match self.phase {
             Phase::Look { node, .. } => Some(self.cfg.lock_of(node)),

@@ -1,25 +1,30 @@
--- A step inside a verb, that a client makes itself, is the turn that it wants.
-use Rattle.std.proofs.Common.{◌≡◌, ℕ, ◌-◌, ◌<◌, Bool, false, List, [], ◌++◌, length, set, take, get_or, Some, refl, sym, ap, ◌∙◌}
-use Rattle.std.specs.Prelude.{if◌then◌else◌}
+-- A step that a seat makes at once, inside a verb or while it waits, is the turn that its client wants.
+use Rattle.std.proofs.Common.{◌≡◌, ℕ, ◌-◌, ◌<◌, Bool, true, false, List, [], ◌++◌, length, set, take, get_or, Some, None, refl, sym, ap, ◌∙◌, subst}
+use Rattle.std.specs.Prelude.{◌==◌, not, if◌then◌else◌}
 use Rattle.std.proofs.lemmas.List.{append-nil, set-get_or, take_at}
 use Rattle.std.proofs.lemmas.Option.{slice_get_read}
+use Rattle.sh_base.specs.declared.config.ConfigParts.{ConfigParts}
+use Rattle.sh_base.specs.Layout.{compute_of}
 use Rattle.sh_base.specs.Memory.{found_by}
+use Rattle.sh_base.specs.Setting.{all_locks}
 use Rattle.sh_client.specs.declared.state.Phase.{Phase}
 use Rattle.sh_client.specs.declared.state.Phase.TheVariants.{Idle, Root, Read, Draw, Look, Grab, Hold, Seek, Fill, Waiting, Body, Unlock, Leave, Top, Raise, Swap, Ended}
 use Rattle.sh_client.specs.declared.state.Step.{Step}
 use Rattle.sh_client.specs.declared.state.Want.TheVariants as want
-use Rattle.sh_client.specs.Feeds.{fed_by}
+use Rattle.sh_client.specs.Feeds.{fed_by, fed_in, turned_by}
 use Rattle.sh_client.specs.Giving.{makes}
 use Rattle.sh_client.specs.Machine.{Machine}
 use Rattle.sh_client.specs.Rests.{rests}
-use Rattle.sh_client.specs.Steps.{IsStep}
+use Rattle.sh_client.specs.Steps.{looks_in, looks_of, IsStep}
+use Rattle.sh_client.specs.Wants.{want_in}
 use Rattle.sh_map.specs.declared.log.Entry.{Entry}
 use Rattle.sh_core.specs.Actors.{has_ended, point_of}
 use Rattle.sh_world.specs.declared.state.Given.{Given}
-use Rattle.sh_world.specs.States.{Place, State, actor_of, answered}
-use Rattle.sh_world.specs.Turning.{asked_in, calls_after, going, place_after, resting, stepped, took}
+use Rattle.sh_world.specs.declared.state.Line.{Line}
+use Rattle.sh_world.specs.States.{Place, State, actor_of, answered, line_at}
+use Rattle.sh_world.specs.Turning.{asked_in, calls_after, going, looked_client, looked_line, place_after, resting, stepped, took}
 use Rattle.sh_world.specs.Running.{IsWorld}
-use Rattle.sh_world.proofs.WorldLemmas.{event_world, is_asked, running, IsAsked}
+use Rattle.sh_world.proofs.WorldLemmas.{event_world, is_asked, line_read, look_world, running, IsAsked}
 
 -- a client that isn't at rest has no ended call
 goes_on : (ph : Phase) → rests ph ≡ false → has_ended ph ≡ false
@@ -82,3 +87,60 @@ still_is s t i q x before after rest nw e read same words before_is nw_is =
     let w : take nw (after ++ rest) ≡ s.words = take_at after rest nw (ap length (words ∙ before_is) ∙ nw_is) ∙ words ∙ before_is in
     let p : set s.seats i x ≡ s.seats = ap (set s.seats i) (same ∙ read) ∙ set-get_or s.seats i q in
     (λ z. record { setting = s.setting; words = w z; log = s.log; seats = p z; calls = s.calls; lines = s.lines }) ∙ e
+
+-- ---- a look at a ticket that isn't served
+
+look_wants : (m : Machine) (ph : Phase) (lock : ℕ) → looks_in m ph ≡ Some lock → want_in m ph ≡ want.Look lock
+look_wants m (Look aim node) lock e = cc
+look_wants m ph lock e = cc
+
+look_stays : (m : Machine) (ph : Phase) (lock word : ℕ) → looks_in m ph ≡ Some lock → fed_in m word ph ≡ m
+look_stays m (Look aim node) lock word e = refl
+look_stays m ph lock word e = cc
+
+look_busy : (m : Machine) (ph : Phase) (lock : ℕ) → looks_in m ph ≡ Some lock → has_ended ph ≡ false
+look_busy m (Look aim node) lock e = refl
+look_busy m ph lock e = cc
+
+-- of the seat as it was seen
+pub looks_seen : (x q : Place) (lock : ℕ) → x ≡ q → Some lock ≡ looks_of x.client → looks_of q.client ≡ Some lock
+looks_seen x q lock e is = ap (λ (y : Place). looks_of y.client) (sym e) ∙ sym is
+
+is_false : (b : Bool) → true ≡ not b → b ≡ false
+is_false true e = cc
+is_false false e = refl
+
+-- the seat that looks was asked, and wants a look
+pub look_asked : (s t : State) (room i : ℕ) (q : Place) (lock : ℕ) → s ≡ t → IsWorld s room → i < length t.seats → q ≡ get_or s.seats i q → looks_of q.client ≡ Some lock → lock < all_locks q.client.setting → IsAsked s i room q (want.Look lock)
+look_asked s t room i q lock e h lt read looks within =
+    let wants = look_wants q.client q.client.phase lock looks in
+    is_asked s t room i q q s.calls (length s.log) (want.Look lock) (want.Look lock) e h lt read refl refl (sym (ap (asked_in s.calls q (length s.log)) wants)) (sym wants) within refl
+
+-- the lock is one of the world's
+pub look_within : (s t : State) (room i : ℕ) (q : Place) (lock : ℕ) → s ≡ t → IsWorld s room → i < length t.seats → q ≡ get_or s.seats i q → lock < all_locks q.client.setting → lock < all_locks s.setting
+look_within s t room i q lock e h lt read within = subst (λ (p : ConfigParts). lock < all_locks p) (seat_setting s t room i q e h lt read) within
+
+module _ (q : Place) (l : Line) (lock : ℕ) (looks : looks_of q.client ≡ Some lock) (waits : true ≡ not (l.served == q.ticket)) where
+  still_client : looked_client q l ≡ q.client
+  still_client = ap (λ (b : Bool). if b then turned_by q.client l.left else fed_by q.client l.served) (is_false _ waits) ∙ look_stays q.client q.client.phase lock l.served looks
+
+  still_line : looked_line q l ≡ l
+  still_line = ap (λ (b : Bool). if b then record l { left = None } else l) (is_false _ waits)
+
+  still_goes : has_ended q.client.phase ≡ false
+  still_goes = look_busy q.client q.client.phase lock looks
+
+  look_place : (log : List Entry) → record q { seen = length log } ≡ place_after q log [] (looked_client q l)
+  look_place log = sym (ap (place_after q log []) still_client ∙ ap (λ (b : Bool). if b then resting q log q.client else going q log [] q.client) still_goes)
+
+  look_calls : (cs : List Given) (log : List Entry) → cs ≡ calls_after cs q log (looked_client q l)
+  look_calls cs log = sym (ap (calls_after cs q log) still_client ∙ ap (λ (b : Bool). if b then answered cs (q.number - 1) q.client.reply q.first (point_of log q.first q.point q.client.call q.client.reply) else cs) still_goes)
+
+-- the world after it
+pub wait_world : (s : State) (i : ℕ) (q R x : Place) (lock k : ℕ) (l : Line) (seen : ℕ) → q ≡ R → looks_of q.client ≡ Some lock → true ≡ not (l.served == q.ticket) → k ≡ line_at s.setting lock (compute_of s.setting i) → k < length s.lines → l ≡ get_or s.lines k l → seen ≡ length s.log → x ≡ record q { seen = seen }
+    → record { setting = s.setting; words = s.words; log = s.log; seats = set s.seats i x; calls = s.calls; lines = s.lines } ≡ took s i R (want.Look lock)
+wait_world s i q R x lock k l seen R_is looks waits k_is lt read seen_is x_is =
+    let place = x_is ∙ ap (λ n. record q { seen = n }) seen_is ∙ look_place q l lock looks waits s.log in
+    let lines : s.lines ≡ set s.lines k (looked_line q l) = sym (set-get_or s.lines k l) ∙ ap (set s.lines k) (sym read ∙ sym (still_line q l lock looks waits)) in
+    (λ z. record { setting = s.setting; words = s.words; log = s.log; seats = set s.seats i x; calls = sym (take_at s.calls [] (length s.calls) refl) z; lines = lines z })
+    ∙ look_world s i q R R_is lock k l s.log s.calls s.calls [] x (length s.calls) refl refl k_is (line_read s i lock k l k_is lt read) refl (looked_line q l) refl place (look_calls q l lock looks waits s.calls s.log)

@@ -1,5 +1,5 @@
 // A seat's turns, each on the parts of the world that it needs.
-ghost use Rattle.std.specs.Prelude.{◌≡◌, ◌+◌, ◌-◌, ◌^◌, ◌<◌, ◌≤◌, ◌++◌, ℕ, [], IfSome, Some, length, slice_get, take, drop, vec_len};
+ghost use Rattle.std.specs.Prelude.{◌≡◌, ◌==◌, not, if◌then◌else◌, ◌+◌, ◌-◌, ◌^◌, ◌<◌, ◌≤◌, ◌++◌, ℕ, [], IfSome, Some, length, slice_get, take, drop, vec_len};
 ghost use Rattle.std.specs.Vec.{vec_capacity};
 ghost use Rattle.sh_base.specs.Memory.{apply, at_of, found_by};
 ghost use Rattle.sh_base.specs.Setting.{pool_words};
@@ -98,6 +98,19 @@ impl Seat {
             }
             None => None,
         }
+    }
+
+    // It looks while its ticket isn't served; the log is so long. False exactly where its ticket is served; then nothing
+    // changes.
+    pub(crate) fn waits(&mut self, line: &Line, seen: u64) -> bool
+        ensures served { result ≡ not (line.now.served == self.old.ticket) }
+        ensures seat { self.new ≡ (if result then record self.old { seen = seen } else self.old) }
+    {
+        if line.served == self.ticket {
+            return false;
+        }
+        self.seen = seen;
+        true
     }
 
     // It makes an event. The word that it found comes back.

@@ -104,8 +104,25 @@ impl World {
         let asked = &mut self.seats[seat as usize];
         match asked.step(&mut self.words, seen) {
             Some(step) => Turn::Event(step.event, step.found),
-            None => self.other_turn(seat),
+            None => self.wait(seat),
         }
+    }
+
+    // One turn of the seat: a look while its ticket isn't served, or what else its client wants.
+    fn wait(&mut self, seat: u32) -> Turn
+        requires { seat < length self.old.seats }
+        ensures world { self.new ≡ turn_of self.old seat }
+        ensures answer { result ≡ answer_of self.old seat }
+    {
+        let seen = self.log.len() as u64;
+        let place = &mut self.seats[seat as usize];
+        if let Some(lock) = place.client.looks() {
+            let line = &self.lines[line_at(&self.cfg, lock, seat)];
+            if place.waits(line, seen) {
+                return Turn::Local;
+            }
+        }
+        self.other_turn(seat)
     }
 
     // One turn of the seat, whatever its client wants.

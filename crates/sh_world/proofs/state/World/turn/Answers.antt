@@ -33,7 +33,7 @@ returns-in-Some-clause-answer c =
     told_is s c.args.seat _ c.index_mut-asked.result.now _ a c.args.self.now c.deref_mut.result.now _ c.self.view_is c.deref_mut.ensures.value (ap (λ (x : ℕ). Event c.in-Some.step.event x) c.in-Some.ensures.step.found)
 
 pub returns-in-None-clause-world : goal.returns-in-None-clause-world
-returns-in-None-clause-world c = c.other_turn.ensures.world ∙ ap (λ (x : State). turn_of x c.args.seat) (still_is (the_view c.self.inside) c.args.self.now c.args.seat c.index_mut-asked.result.now c.step.new.self _ _ _ _ c.self.view_is c.index_mut-asked.ensures.value c.in-None.ensures.seat c.in-None.ensures.step.words c.deref_mut.ensures.value (sym c.self.inside.words.ok.0))
+returns-in-None-clause-world c = c.wait.ensures.world ∙ ap (λ (x : State). turn_of x c.args.seat) (still_is (the_view c.self.inside) c.args.self.now c.args.seat c.index_mut-asked.result.now c.step.new.self _ _ _ _ c.self.view_is c.index_mut-asked.ensures.value c.in-None.ensures.seat c.in-None.ensures.step.words c.deref_mut.ensures.value (sym c.self.inside.words.ok.0))
 
 pub returns-in-None-clause-answer : goal.returns-in-None-clause-answer
-returns-in-None-clause-answer c = c.other_turn.ensures.answer ∙ ap (λ (x : State). answer_of x c.args.seat) (still_is (the_view c.self.inside) c.args.self.now c.args.seat c.index_mut-asked.result.now c.step.new.self _ _ _ _ c.self.view_is c.index_mut-asked.ensures.value c.in-None.ensures.seat c.in-None.ensures.step.words c.deref_mut.ensures.value (sym c.self.inside.words.ok.0))
+returns-in-None-clause-answer c = c.wait.ensures.answer ∙ ap (λ (x : State). answer_of x c.args.seat) (still_is (the_view c.self.inside) c.args.self.now c.args.seat c.index_mut-asked.result.now c.step.new.self _ _ _ _ c.self.view_is c.index_mut-asked.ensures.value c.in-None.ensures.seat c.in-None.ensures.step.words c.deref_mut.ensures.value (sym c.self.inside.words.ok.0))

@@ -14,10 +14,17 @@ use Rattle.sh_client.specs.Machine.{Machine}
 use Rattle.sh_client.specs.Rests.{is_resting}
 use Rattle.sh_client.specs.Wants.{lock_word_of, want_of}
 
--- It READs or WRITEs, and more than one word is left to load or to store; or it wants a lock that is taken.
+-- it READs, and more than one word is left to load
+abbrev pub loads_in : Machine → Phase → Bool
+loads_in m (Read aim top) = nat_lt (length m.reads.loaded + 1) (node_size m.setting)
+loads_in m (Hold aim depth) = nat_lt (length m.reads.loaded + 1) (node_size m.setting)
+loads_in m phase = false
+
+abbrev pub is_loading : Machine → Bool
+is_loading m = loads_in m m.phase
+
+-- it WRITEs, and more than one word is left to store; or it wants a lock that is taken
 abbrev pub steps_in : (words : List ℕ) → Machine → Phase → Bool
-steps_in words m (Read aim top) = nat_lt (length m.reads.loaded + 1) (node_size m.setting)
-steps_in words m (Hold aim depth) = nat_lt (length m.reads.loaded + 1) (node_size m.setting)
 steps_in words m (Fill node depth fresh done write after) = nat_lt (done + 1) (node_size m.setting)
 steps_in words m (Body node carry done write after) = nat_lt (done + 1) (length m.body)
 steps_in words m (Raise post root fresh done) = nat_lt (done + 1) (node_size m.setting)
@@ -35,7 +42,6 @@ IsReading phase = ⊥
 
 -- The wanted event was made, and the client was fed what it found. It logs nothing, and the call goes on.
 pub record IsStep (before after : List ℕ) (old new : Machine) (s : Step) : Type 0 where
-  pub inside : is_inside before old ≡ true
   pub event : want_of old ≡ want.Event s.event
   pub within : at_of s.event < pool_words old.setting
   pub found : s.found ≡ found_by before s.event
@@ -44,15 +50,15 @@ pub record IsStep (before after : List ℕ) (old new : Machine) (s : Step) : Typ
   pub log : makes old ≡ []
   pub busy : is_resting new ≡ false
 
--- A step was made; or nothing was done, since the wanted turn is none.
-pub record IsNoStep (before after : List ℕ) (old new : Machine) : Type 0 where
-  pub inside : is_inside before old ≡ false
-  pub words : after ≡ before
-  pub same : new ≡ old
+-- A load was made; or nothing was done, since the wanted turn is none.
+abbrev pub HasLoaded : (words : List ℕ) (old new : Machine) → Option Step → Type 0
+HasLoaded words old new (Some s) = IsStep words words old new s × (is_loading old ≡ true)
+HasLoaded words old new None = (new ≡ old) × (is_loading old ≡ false)
 
+-- A store or an exchange was made; or nothing was done, since the wanted turn is none.
 abbrev pub HasStepped : (before after : List ℕ) (old new : Machine) → Option Step → Type 0
-HasStepped before after old new (Some s) = IsStep before after old new s
-HasStepped before after old new None = IsNoStep before after old new
+HasStepped before after old new (Some s) = IsStep before after old new s × (is_inside before old ≡ true)
+HasStepped before after old new None = (new ≡ old) × (after ≡ before) × (is_inside before old ≡ false)
 
 -- the lock for whose ticket it looks
 abbrev pub looks_in : Machine → Phase → Option ℕ

@@ -1,9 +1,9 @@
-// Steps inside a READ or a WRITE, which the client makes itself.
+// Steps inside a READ or a WRITE, and exchanges on a lock that is taken, which the client makes itself.
 ghost use Rattle.std.specs.Prelude.{◌≡◌, ◌<◌, IfSome, length};
 ghost use Rattle.sh_base.specs.Setting.{all_locks, pool_words};
 ghost use Rattle.sh_client.specs.declared.state.Phase.TheVariants as phase;
 ghost use Rattle.sh_client.specs.Sound.{Stands};
-ghost use Rattle.sh_client.specs.Steps.{looks_of, HasStepped, IsReading};
+ghost use Rattle.sh_client.specs.Steps.{looks_of, HasLoaded, HasStepped, IsReading};
 
 use crate::{Client, Phase, Step, Then, Write};
 use sh_base::Event;
@@ -11,16 +11,58 @@ use sh_decide::{Aim, Post};
 use sh_lock::Grab;
 
 impl Client {
-    /// Makes the wanted event itself, where it's a step inside a READ or a WRITE, and not its last one, or an exchange on a
-    /// lock word that isn't 0: the client then stands as `fed` leaves it, and nothing is to be logged. None exactly where
-    /// the wanted turn is another; then nothing changes. Condition: the words are a pool of its setting.
+    /// Makes the wanted load itself, where it's one of a READ, and not its last one: the client then stands as `fed` leaves
+    /// it. None exactly where the wanted turn is another; then nothing changes. Condition: the words are a pool of its
+    /// setting.
+    #[inline]
+    pub fn load_from(&mut self, words: &[u64]) -> Option<Step>
+        requires { length words.now ≡ pool_words self.old.setting }
+        ensures { HasLoaded words.now self.old self.new result }
+    {
+        match self.phase {
+            Phase::Read { .. } => self.load_step(words),
+            Phase::Hold { .. } => self.load_step(words),
+            Phase::Idle
+            | Phase::Root { .. }
+            | Phase::Draw { .. }
+            | Phase::Look { .. }
+            | Phase::Grab { .. }
+            | Phase::Seek { .. }
+            | Phase::Fill { .. }
+            | Phase::Waiting { .. }
+            | Phase::Body { .. }
+            | Phase::Unlock { .. }
+            | Phase::Leave { .. }
+            | Phase::Top { .. }
+            | Phase::Raise { .. }
+            | Phase::Swap { .. }
+            | Phase::Ended => None,
+        }
+    }
+
+    // Makes a load of the READ, where it isn't the last one.
+    fn load_step(&mut self, words: &[u64]) -> Option<Step>
+        requires pool { length words.now ≡ pool_words self.old.setting }
+        requires reading { IsReading self.old.phase }
+        ensures { HasLoaded words.now self.old self.new result }
+    {
+        match self.reading.load(words) {
+            Some(loaded) => Some(Step {
+                event: Event::Load { at: loaded.at },
+                found: loaded.word,
+            }),
+            None => None,
+        }
+    }
+
+    /// Makes the wanted event itself, where it's a store of a WRITE, and not its last one, or an exchange on a lock word that
+    /// isn't 0: the client then stands as `fed` leaves it, and nothing is to be logged. None exactly where the wanted turn
+    /// is another; then nothing changes. Condition: the words are a pool of its setting.
     pub fn step(&mut self, words: &mut [u64]) -> Option<Step>
         requires { length words.old ≡ pool_words self.old.setting }
         ensures { HasStepped words.old words.new self.old self.new result }
     {
         match self.phase {
-            Phase::Read { .. } => self.load_step(words),
-            Phase::Hold { .. } => self.load_step(words),
             Phase::Grab { aim, node } => self.grab_step(words, aim, node),
             Phase::Fill {
                 node,
@@ -45,6 +87,8 @@ impl Client {
             } => self.raise_step(words, post, root, fresh, done),
             Phase::Idle
             | Phase::Root { .. }
+            | Phase::Read { .. }
+            | Phase::Hold { .. }
             | Phase::Draw { .. }
             | Phase::Look { .. }
             | Phase::Seek { .. }
@@ -80,21 +124,6 @@ impl Client {
             | Phase::Raise { .. }
             | Phase::Swap { .. }
             | Phase::Ended => None,
-        }
-    }
-
-    // Makes a load of the READ, where it isn't the last one.
-    fn load_step(&mut self, words: &[u64]) -> Option<Step>
-        requires pool { length words.now ≡ pool_words self.old.setting }
-        requires reading { IsReading self.old.phase }
-        ensures { HasStepped words.now words.now self.old self.new result }
-    {
-        match self.reading.load(words) {
-            Some(loaded) => Some(Step {
-                event: Event::Load { at: loaded.at },
-                found: loaded.word,
-            }),
-            None => None,
         }
     }
 

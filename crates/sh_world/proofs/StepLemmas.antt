@@ -144,3 +144,12 @@ wait_world s i q R x lock k l seen R_is looks waits k_is lt read seen_is x_is =
     let lines : s.lines ≡ set s.lines k (looked_line q l) = sym (set-get_or s.lines k l) ∙ ap (set s.lines k) (sym read ∙ sym (still_line q l lock looks waits)) in
     (λ z. record { setting = s.setting; words = s.words; log = s.log; seats = set s.seats i x; calls = sym (take_at s.calls [] (length s.calls) refl) z; lines = lines z })
     ∙ look_world s i q R R_is lock k l s.log s.calls s.calls [] x (length s.calls) refl refl k_is (line_read s i lock k l k_is lt read) refl (looked_line q l) refl place (look_calls q l lock looks waits s.calls s.log)
+
+-- ---- a load inside a READ
+
+-- the world after it
+pub load_world : (s : State) (i : ℕ) (q R x : Place) (m : Machine) (words : List ℕ) (seen : ℕ) (st : Step) → q ≡ R → IsStep words words q.client m st → words ≡ s.words → seen ≡ length s.log → x ≡ stepped q m seen (Some st)
+    → record { setting = s.setting; words = s.words; log = s.log; seats = set s.seats i x; calls = s.calls; lines = s.lines } ≡ took s i R (want.Event st.event)
+load_world s i q R x m words seen st R_is step words_is seen_is x_is =
+    (λ z. record { setting = s.setting; words = sym (take_at words [] (length s.words) (ap length words_is) ∙ words_is) z; log = s.log; seats = set s.seats i x; calls = s.calls; lines = s.lines })
+    ∙ step_world s i q R x m words words [] (length s.words) seen st R_is step words_is refl seen_is x_is

@@ -8,7 +8,7 @@ ghost use Rattle.sh_client.specs.declared.state.Phase.TheVariants.{Idle};
 ghost use Rattle.sh_client.specs.Feeds.{fed_by, turned_by};
 ghost use Rattle.sh_client.specs.Giving.{makes};
 ghost use Rattle.sh_client.specs.Sound.{IsPointCall};
-ghost use Rattle.sh_client.specs.Steps.{HasStepped};
+ghost use Rattle.sh_client.specs.Steps.{HasLoaded, HasStepped};
 ghost use Rattle.sh_client.specs.Wants.{want_of, IsWithin};
 ghost use Rattle.sh_world.specs.States.{answered};
 ghost use Rattle.sh_world.specs.Turning.{asked, behind, calls_after, drawn, is_idle, left_line, looked_client, looked_line, place_after, started, starts_next, stepped, with_ticket};
@@ -84,8 +84,25 @@ impl Seat {
         }
     }
 
-    // It makes a step inside a verb, where its client wants one; the log is so long. None exactly where it wants another
-    // turn; then nothing changes.
+    // It makes a load of a READ that isn't the last one, where its client wants one; the log is so long. None exactly where
+    // it wants another turn; then nothing changes.
+    #[inline]
+    pub(crate) fn load(&mut self, words: &[u64], seen: u64) -> Option<Step>
+        requires { length words.now ≡ pool_words self.old.client.setting }
+        ensures step { HasLoaded words.now self.old.client self.new.client result }
+        ensures seat { self.new ≡ stepped self.old self.new.client seen result }
+    {
+        match self.client.load_from(words) {
+            Some(step) => {
+                self.seen = seen;
+                Some(step)
+            }
+            None => None,
+        }
+    }
+
+    // It makes a store of a WRITE that isn't the last one, or an exchange on a lock that is taken, where its client wants
+    // one; the log is so long. None exactly where it wants another turn; then nothing changes.
     pub(crate) fn step(&mut self, words: &mut [u64], seen: u64) -> Option<Step>
         requires { length words.old ≡ pool_words self.old.client.setting }
         ensures step { HasStepped words.old words.new self.old.client self.new.client result }

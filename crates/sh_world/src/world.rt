@@ -102,7 +102,22 @@ impl World {
     {
         let seen = self.log.len() as u64;
         let asked = &mut self.seats[seat as usize];
-        match asked.step(&mut self.words, seen) {
+        match asked.load(&self.words, seen) {
+            Some(step) => Turn::Event(step.event, step.found),
+            None => self.step(seat),
+        }
+    }
+
+    // One turn of the seat: a store inside a WRITE or an exchange on a lock that is taken, or what else its client wants.
+    #[inline(never)]
+    fn step(&mut self, seat: u32) -> Turn
+        requires { seat < length self.old.seats }
+        ensures world { self.new ≡ turn_of self.old seat }
+        ensures answer { result ≡ answer_of self.old seat }
+    {
+        let seen = self.log.len() as u64;
+        let place = &mut self.seats[seat as usize];
+        match place.step(&mut self.words, seen) {
             Some(step) => Turn::Event(step.event, step.found),
             None => self.wait(seat),
         }

@@ -6,6 +6,7 @@ mod laws;
 mod leaf;
 mod read;
 mod read_inner;
+mod read_leaf;
 mod write;
 
 pub use inner::{Image, InnerImage, Pair};
@@ -14,7 +15,7 @@ pub use laws::{
     nodes_have_one_answer,
 };
 pub use leaf::{LeafEntry, LeafImage};
-pub use read::{Seen, read_image};
+pub use read::{Found, Seen, read_image, read_into};
 pub use write::{write_entry, write_inner, write_leaf};
 
 #[cfg(test)]

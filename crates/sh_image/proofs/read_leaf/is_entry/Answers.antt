@@ -1,6 +1,6 @@
 use Rattle.std.proofs.Common.{arith}
 use Rattle.sh_image.proofs.ReadLemmas.{empty_entry_tested}
-use Rattle.sh_image.proofs.read.is_entry.Goals as goal
+use Rattle.sh_image.proofs.read_leaf.is_entry.Goals as goal
 
 pub returns-then-entry-eq0 : goal.returns-then-entry-eq0
 returns-then-entry-eq0 c =

@@ -58,7 +58,7 @@ fn leaf_in_place(cfg: &Config, words: &[u64], image: &mut Image) -> bool
 }
 
 // Reads the words into a leaf's image, and answers whether they spell that leaf.
-#[tactic(auto, using(sh_base::proofs::LayoutLemmas::node_size_is, sh_base::proofs::LayoutLemmas::rear_at_low, sh_base::proofs::LayoutLemmas::entry_size_is))]
+#[tactic(auto, using(sh_base::proofs::LayoutLemmas::node_size_is, sh_base::proofs::LayoutLemmas::rear_at_low))]
 fn read_leaf(cfg: &Config, words: &[u64], image: &mut LeafImage) -> bool
     requires size { length words.now ≡ node_size (parts_of cfg.now) }
     requires untorn { IsUntorn (parts_of cfg.now) words.now }
@@ -69,9 +69,12 @@ fn read_leaf(cfg: &Config, words: &[u64], image: &mut LeafImage) -> bool
     if words[5] != 0 || words[4] > u64::from(cfg.nodes()) {
         return false;
     }
+    if !is_leaf(cfg, words) {
+        return false;
+    }
     image.begin(words[0], words[2], words[3], words[4] as u32, cfg.leaf());
     fill(cfg, words, image);
-    is_leaf(cfg, image)
+    true
 }
 
 // Writes the entries that the words spell, if they are a leaf's, into an image with as many.
@@ -89,39 +92,71 @@ fn fill(cfg: &Config, words: &[u64], image: &mut LeafImage)
             LeafEntry {
                 version: words[at],
                 key: words[at + 1],
-                value: Value::of(&words[at + 2..at + 2 + count]),
+                value: value_of(&words[at + 2..at + 2 + count]),
             },
         );
     }
 }
 
-// Whether the entries may all stand there.
-fn are_entries(cfg: &Config, image: &LeafImage) -> bool
-    requires { HaveWords (parts_of cfg.now) image.now.entries }
-    ensures { IsTrue result ↔ All (IsEntry (parts_of cfg.now) image.now.low image.now.high) image.now.entries }
+// The value of these words. A value of one word is made apart: there no words are copied, whose number isn't known.
+fn value_of(words: &[u64]) -> Value
+    requires low { 1 ≤ length words.now }
+    requires high { length words.now ≤ 8 }
+    ensures { result ≡ words.now }
 {
-    for index in 0..image.entries() {
-        if !is_entry(cfg, image.low(), image.high(), image.entry(index)) {
+    if words.len() == 1 {
+        Value::of(&words[..1])
+    } else {
+        Value::of(words)
+    }
+}
+
+// Whether the leaf that the words spell, if they are a leaf's, meets the rules, where its next leaf does.
+#[tactic(auto, using(sh_base::proofs::LayoutLemmas::node_size_is, sh_base::proofs::LayoutLemmas::rear_at_low))]
+fn is_leaf(cfg: &Config, words: &[u64]) -> bool
+    requires size { length words.now ≡ node_size (parts_of cfg.now) }
+    requires next { slice_index words.now 4 ≤ nodes (parts_of cfg.now) }
+    ensures { IsTrue result ↔ IsLeaf (parts_of cfg.now) (leaf_in (parts_of cfg.now) words.now) }
+{
+    let (low, high, next) = (words[2], words[3], words[4]);
+    if words[0] > cfg.last_version() || low >= high {
+        return false;
+    }
+    if (next == 0) != (high == u64::MAX) {
+        return false;
+    }
+    are_entries(cfg, words, low, high)
+}
+
+// Whether the entries that the words spell may all stand in a leaf with these fences.
+#[tactic(auto, using(sh_base::proofs::LayoutLemmas::node_size_is, sh_base::proofs::LayoutLemmas::entry_within))]
+fn are_entries(cfg: &Config, words: &[u64], low: u64, high: u64) -> bool
+    requires { length words.now ≡ node_size (parts_of cfg.now) }
+    ensures { IsTrue result ↔ All (IsEntry (parts_of cfg.now) low high) (entries_in cfg.now.parts.value_words cfg.now.parts.leaf (drop 6 words.now)) }
+{
+    let count = cfg.value_words() as usize;
+    for index in 0..cfg.leaf() {
+        let at = cfg.entry_at(index) as usize;
+        let value = &words[at + 2..at + 2 + count];
+        if !is_entry(cfg, low, high, words[at], words[at + 1], value) {
             return false;
         }
     }
     true
 }
 
-// Whether the image meets the rules of a leaf, where its next leaf, its number of entries and their values do.
-fn is_leaf(cfg: &Config, image: &LeafImage) -> bool
-    requires next { image.now.next ≤ nodes (parts_of cfg.now) }
-    requires count { length image.now.entries ≡ cfg.now.parts.leaf }
-    requires values { HaveWords (parts_of cfg.now) image.now.entries }
-    ensures { IsTrue result ↔ IsLeaf (parts_of cfg.now) image.now }
+// Whether an entry may stand in a leaf with these fences.
+fn is_entry(cfg: &Config, low: u64, high: u64, version: u64, key: u64, value: &[u64]) -> bool
+    requires { length value.now ≡ cfg.now.parts.value_words }
+    ensures { IsTrue result ↔ IsEntry (parts_of cfg.now) low high (record { version = version; key = key; value = value.now }) }
 {
-    if image.version() > cfg.last_version() || image.low() >= image.high() {
+    if version > cfg.last_entry_version() {
         return false;
     }
-    if (image.next() == 0) != (image.high() == u64::MAX) {
-        return false;
+    if key == 0 {
+        return are_empty(value);
     }
-    are_entries(cfg, image)
+    low <= key && key < high
 }
 
 // Whether all words are 0.
@@ -130,18 +165,4 @@ pub(crate) fn are_empty(words: &[u64]) -> bool
     ensures { IsTrue result ↔ (words.now ≡ replicate (length words.now) 0) }
 {
     count_empty(words) == words.len()
-}
-
-// Whether an entry may stand in a leaf with these fences.
-fn is_entry(cfg: &Config, low: u64, high: u64, entry: LeafEntry) -> bool
-    requires { length entry.value ≡ cfg.now.parts.value_words }
-    ensures { IsTrue result ↔ IsEntry (parts_of cfg.now) low high entry }
-{
-    if entry.version > cfg.last_entry_version() {
-        return false;
-    }
-    if entry.key == 0 {
-        return are_empty(entry.value.words());
-    }
-    low <= entry.key && entry.key < high
 }

@@ -10,6 +10,7 @@ use Rattle.sh_image.specs.Leaf.{Leaf, leaf_in, IsEntry}
 use Rattle.sh_image.proofs.EntriesLemmas.{length-entries_in}
 use Rattle.sh_image.proofs.ReadLemmas.{entry_read}
 
+-- the entries that the words spell, if they are a leaf's
 abbrev spelled : ConfigParts → List ℕ → List LeafEntry
 spelled p ws = entries_in p.value_words p.leaf (drop 6 ws)
 

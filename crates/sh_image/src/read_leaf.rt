@@ -3,7 +3,7 @@ ghost use Rattle.std.specs.Prelude.{◌≡◌, ◌↔◌, ◌≤◌, All, IsTrue
 ghost use Rattle.sh_base.specs.Parts.{parts_of};
 ghost use Rattle.sh_base.specs.Setting.{nodes, node_size};
 ghost use Rattle.sh_image.specs.Entries.{entries_in};
-ghost use Rattle.sh_image.specs.Leaf.{leaf_in, HaveWords, IsEntry, IsLeaf, Leaf, Spells};
+ghost use Rattle.sh_image.specs.Leaf.{leaf_in, IsEntry, IsLeaf, Leaf, Spells};
 ghost use Rattle.sh_image.specs.Node.{seen_of};
 ghost use Rattle.sh_image.specs.Seen.{HasWholeEntries, IsTornAt, IsUntorn, SeenBy};
 

@@ -7,3 +7,4 @@ pub mod Feeds
 pub mod Rests
 pub mod Sound
 pub mod Courses
+pub mod Steps

@@ -10,11 +10,12 @@ mod splits;
 mod state;
 mod steps;
 mod tally;
+mod verbs;
 mod wants;
 mod words;
 
 pub use laws::{senseless_words_lead_back, turns_keep_the_call, updates_store_their_words};
-pub use state::{Client, Phase, Tally, Then, Want, Write};
+pub use state::{Client, Phase, Step, Tally, Then, Want, Write};
 pub use words::Words;
 
 #[cfg(test)]

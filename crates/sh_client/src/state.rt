@@ -24,6 +24,13 @@ pub enum Want {
     Done,
 }
 
+/// An event that a client made itself, and the word that it found.
+#[derive(Clone, Copy, Debug, PartialEq, Eq)]
+pub struct Step {
+    pub event: Event,
+    pub found: u64,
+}
+
 /// What a client has counted since it was made. A counter stays at its last value, 2^64 - 1.
 #[derive(Clone, Copy, Debug, PartialEq, Eq)]
 pub struct Tally {

@@ -35,7 +35,7 @@ impl Client {
             },
             Phase::Grab { node, .. } => self.want_grab(node),
             Phase::Seek { .. } | Phase::Top { .. } => self.want_count(),
-            Phase::Fill { fresh, done, .. } => self.want_fresh(fresh, done),
+            Phase::Fill { fresh, done, .. } => Want::Event(self.store_fresh(fresh, done)),
             Phase::Waiting { node, .. } => Want::Waiting {
                 lock: self.cfg.lock_of(node),
             },
@@ -44,13 +44,13 @@ impl Client {
                 done,
                 write,
                 ..
-            } => self.want_body(node, done, write),
+            } => Want::Event(self.store_body(node, done, write)),
             Phase::Unlock { node, .. } => self.want_unlock(node),
             Phase::Leave { node, carry, .. } => Want::Leave {
                 lock: self.cfg.lock_of(node),
                 carry,
             },
-            Phase::Raise { fresh, done, .. } => self.want_fresh(fresh, done),
+            Phase::Raise { fresh, done, .. } => Want::Event(self.store_fresh(fresh, done)),
             Phase::Swap { root, fresh, .. } => Want::Event(Event::Exchange {
                 at: 1,
                 old: u64::from(root),
@@ -93,30 +93,30 @@ impl Client {
     }
 
     // The store of a word of a right half or a new root.
-    fn want_fresh(&self, fresh: u32, done: u32) -> Want
+    pub(crate) fn store_fresh(&self, fresh: u32, done: u32) -> Event
         requires node { IsNode self.now.setting fresh }
         requires done { done < length self.now.right }
         requires size { length self.now.right ≡ node_size self.now.setting }
-        ensures here { result ≡ want.Event (Store (node_word self.now.setting fresh + done) (slice_index self.now.right done)) }
-        ensures within { IsWithin self.now.setting result }
+        ensures here { result ≡ Store (node_word self.now.setting fresh + done) (slice_index self.now.right done) }
+        ensures within { node_word self.now.setting fresh + done < pool_words self.now.setting }
     {
         let word = self.right.word(done);
         let at = address(&self.cfg, fresh, done);
-        Want::Event(Event::Store { at, word })
+        Event::Store { at, word }
     }
 
     // The store of a word that is to be written.
     #[tactic(auto, using(sh_base::proofs::LayoutLemmas::node_size_is, sh_base::proofs::LayoutLemmas::rear_at_small))]
-    fn want_body(&self, node: u32, done: u32, write: Write) -> Want
+    pub(crate) fn store_body(&self, node: u32, done: u32, write: Write) -> Event
         requires node { IsNode self.now.setting node }
         requires filled { IsFilled self.now.setting write self.now.body }
         requires done { done < length self.now.body }
-        ensures here { result ≡ want.Event (Store (node_word self.now.setting node + (offset_of self.now.setting write + done)) (slice_index self.now.body done)) }
-        ensures within { IsWithin self.now.setting result }
+        ensures here { result ≡ Store (node_word self.now.setting node + (offset_of self.now.setting write + done)) (slice_index self.now.body done) }
+        ensures within { node_word self.now.setting node + (offset_of self.now.setting write + done) < pool_words self.now.setting }
     {
         let word = self.body.word(done);
         let at = address(&self.cfg, node, self.offset(write) + done);
-        Want::Event(Event::Store { at, word })
+        Event::Store { at, word }
     }
 
     // Where in its node a write begins.

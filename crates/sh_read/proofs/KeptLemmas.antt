@@ -1,18 +1,19 @@
 -- The words that a READ keeps, as they are loaded.
 use Rattle.std.proofs.Common.{◌≡◌, ◌≢◌, ℕ, zero, suc, ◌+◌, ◌-◌, ◌<◌, ◌≤◌, Bool, true, false, List, [], ◌∷◌, length, take, drop, set, refl, sym, ap, ◌∙◌, length-drop, arith}
-use Rattle.std.specs.Prelude.{nat_lt, Some, None}
+use Rattle.std.specs.Prelude.{nat_lt, slice_index, Some, None}
 use Rattle.std.proofs.lemmas.Bool.Decides.{nat_tests}
 use Rattle.std.proofs.lemmas.List.{drop_all, length-set, length-take-le}
 use Rattle.sh_base.specs.declared.config.ConfigParts.{ConfigParts}
 use Rattle.sh_base.specs.Setting.{node_size, IsNode, IsSetting}
 use Rattle.sh_base.specs.Layout.{node_word}
-use Rattle.sh_base.proofs.LayoutLemmas.{node_size_is, rear_at_small, take_set_in}
+use Rattle.sh_base.proofs.LayoutLemmas.{node_size_is, node_word_high, rear_at_small, take_set_in}
 use Rattle.sh_image.specs.declared.read.Seen.{Seen}
 use Rattle.sh_image.specs.declared.read.Seen.TheVariants.{Leaf as LeafSeen, Inner as InnerSeen, Torn, TornEntry, Odd as OddSeen}
 use Rattle.sh_read.specs.declared.state.Progress.TheVariants.{More}
 use Rattle.sh_read.specs.Judging.{seen_of}
 use Rattle.sh_read.specs.Reads.{reads_with, accepted, answer_to, fed_by, left_by, progress_of, wanted}
 use Rattle.sh_read.specs.Kept.{loaded_in, left_after, reader_of, IsKept}
+use Rattle.sh_read.specs.Loads.{IsLoad}
 
 less_test : (a b : ℕ) → a < b → nat_lt a b ≡ true
 less_test a b h = grind (arith, nat_tests)
@@ -84,6 +85,31 @@ module _ (p : ConfigParts) (setting : IsSetting p) where
 
       pub answers_last : (seen : Seen) → left - 1 ≡ 0 → seen ≡ seen_of p (take (node_size p) (set words (left - 1) word)) → answer_to seen ≡ progress_of p (reads_with node (loaded_in p left words)) word
       answers_last seen last is = rw (full last) (ap answer_to (is ∙ ap (seen_of p) (all_is last)))
+
+-- a word is loaded that isn't the last one
+pub loads_more : (p : ConfigParts) (setting : IsSetting p) (left : ℕ) (words : List ℕ) (room : length words ≡ 711) (within : left ≤ node_size p) (node : ℕ) (here : IsNode p node) (memory : List ℕ) (at word : ℕ) → 1 < left → at ≡ node_word p node + (left - 1) → word ≡ slice_index memory at → IsLoad memory (reader_of p node left words) (reader_of p node (left - 1) (set words (left - 1) word)) (record { at = at; word = word })
+loads_more p setting left words room within node here memory at word more at_is word_is =
+    let high = node_word_high p node here in
+    let some : 1 ≤ left = omega (arith, more) in
+    let again : 0 < left - 1 = omega (arith, more) in
+    let fits : left - 1 ≤ node_size p = omega (arith, within) in
+    let l = length_loaded p setting left words room within in
+    record {
+      at = sym (wants p setting left words room within node (omega (arith, more))) ∙ ap Some (sym at_is);
+      within = omega (arith, at_is, high, within, more);
+      word = word_is;
+      fed = fed_more p setting left words room within node word some again;
+      answer = sym (answers_more p setting left words room within node word some again);
+      more = λ none. absurd (omega_some (sym none ∙ sym (wants p setting (left - 1) (set words (left - 1) word) (length-set words (left - 1) word ∙ room) fits node again)));
+      left = omega (arith, l, more, within);
+    }
+  where
+    omega_some : {x : ℕ} → None ≡ Some x → ⊥
+    omega_some e = cc
+
+-- no more than the last word is wanted
+pub loads_none : (p : ConfigParts) (setting : IsSetting p) (left : ℕ) (words : List ℕ) (room : length words ≡ 711) (within : left ≤ node_size p) → left ≤ 1 → node_size p ≤ length (loaded_in p left words) + 1
+loads_none p setting left words room within last = let l = length_loaded p setting left words room within in omega (arith, l, last, within)
 
 module _ (p : ConfigParts) (setting : IsSetting p) (node : ℕ) (words : List ℕ) (room : length words ≡ 711) where
   all_words : length (take (node_size p) words) ≡ node_size p

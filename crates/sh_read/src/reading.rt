@@ -6,8 +6,9 @@ ghost use Rattle.sh_read.specs.declared.state.Progress.TheVariants.{Accepted};
 ghost use Rattle.sh_read.specs.Judging.{seen_of};
 ghost use Rattle.sh_read.specs.Reads.{accepted, answer_to, fed_by, image_in, progress_of, start_of, wanted};
 ghost use Rattle.sh_read.specs.Kept.{left_after};
+ghost use Rattle.sh_read.specs.Loads.{HasLoaded};
 
-use crate::{Progress, Reading};
+use crate::{Loaded, Progress, Reading};
 use sh_base::Config;
 use sh_image::{Image, Seen, read_image};
 
@@ -74,6 +75,25 @@ impl Reading {
         let progress = judge(&self.cfg, &self.words[..size as usize], &mut self.image);
         self.left = left(&progress, size);
         progress
+    }
+
+    /// Loads the wanted word from a memory, where it isn't the last one: the READ then stands as `fed` leaves it, and the
+    /// answer would be `More`. None exactly where no more than the last word is wanted; then nothing changes. Condition:
+    /// the memory is a pool of this setting.
+    #[tactic(auto, using(sh_base::proofs::LayoutLemmas::node_word_high))]
+    pub fn load(&mut self, memory: &[u64]) -> Option<Loaded>
+        requires { length memory.now ≡ pool_words self.old.setting }
+        ensures { HasLoaded memory.now self.old self.new result }
+    {
+        if self.left <= 1 {
+            return None;
+        }
+        let left = self.left - 1;
+        let at = self.cfg.node_word(self.node) + left;
+        let word = memory[at as usize];
+        self.words[left as usize] = word;
+        self.left = left;
+        Some(Loaded { at, word })
     }
 
     /// The node is one of the setting, and no more words are loaded than it has.

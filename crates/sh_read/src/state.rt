@@ -17,6 +17,13 @@ pub enum Progress {
     Odd,
 }
 
+/// A word that was loaded, and its address.
+#[derive(Clone, Copy, Debug, PartialEq, Eq)]
+pub struct Loaded {
+    pub at: u32,
+    pub word: u64,
+}
+
 /// A READ of one node under way. It has room for the 711 words of the largest node, and takes no memory.
 #[derive(Debug, Drop)]
 pub struct Reading {

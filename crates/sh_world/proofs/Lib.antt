@@ -17,3 +17,4 @@ pub mod NodeLemmas
 pub mod GiveLemmas
 pub mod OpenLemmas
 pub mod LawLemmas
+pub mod StepLemmas

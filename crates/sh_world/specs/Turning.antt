@@ -5,6 +5,7 @@ use Rattle.sh_base.specs.Layout.{compute_of}
 use Rattle.sh_base.specs.Memory.{apply, found_by}
 use Rattle.sh_map.specs.declared.call.Call.{Call}
 use Rattle.sh_map.specs.declared.log.Entry.{Entry}
+use Rattle.sh_client.specs.declared.state.Step.{Step}
 use Rattle.sh_client.specs.declared.state.Want.{Want}
 use Rattle.sh_client.specs.declared.state.Want.TheVariants as want
 use Rattle.sh_client.specs.declared.state.Phase.TheVariants.{Idle}
@@ -57,6 +58,11 @@ resting q log m = record q { client = to m Idle; ended = q.ended + 1; seen = len
 
 abbrev pub place_after : Place → List Entry → (more : List Entry) → Machine → Place
 place_after q log more m = if has_ended m.phase then resting q log m else going q log more m
+
+-- its client made a step inside a verb itself, with a log of this length, or did nothing
+abbrev pub stepped : Place → Machine → (seen : ℕ) → Option Step → Place
+stepped q m seen (Some step) = record q { client = m; seen = seen }
+stepped q m seen None = q
 
 -- the calls then: the one that has ended is answered
 abbrev pub calls_after : List Given → Place → List Entry → Machine → List Given

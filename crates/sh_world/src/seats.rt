@@ -2,21 +2,23 @@
 ghost use Rattle.std.specs.Prelude.{◌≡◌, ◌+◌, ◌-◌, ◌^◌, ◌<◌, ◌≤◌, ◌++◌, ℕ, [], IfSome, Some, length, slice_get, take, drop, vec_len};
 ghost use Rattle.std.specs.Vec.{vec_capacity};
 ghost use Rattle.sh_base.specs.Memory.{apply, at_of, found_by};
+ghost use Rattle.sh_base.specs.Setting.{pool_words};
 ghost use Rattle.sh_map.specs.Calls.{IsInRange};
 ghost use Rattle.sh_client.specs.declared.state.Phase.TheVariants.{Idle};
 ghost use Rattle.sh_client.specs.Feeds.{fed_by, turned_by};
 ghost use Rattle.sh_client.specs.Giving.{makes};
 ghost use Rattle.sh_client.specs.Sound.{IsPointCall};
+ghost use Rattle.sh_client.specs.Steps.{HasStepped};
 ghost use Rattle.sh_client.specs.Wants.{want_of, IsWithin};
 ghost use Rattle.sh_world.specs.States.{answered};
-ghost use Rattle.sh_world.specs.Turning.{asked, behind, calls_after, drawn, is_idle, left_line, looked_client, looked_line, place_after, started, starts_next, with_ticket};
+ghost use Rattle.sh_world.specs.Turning.{asked, behind, calls_after, drawn, is_idle, left_line, looked_client, looked_line, place_after, started, starts_next, stepped, with_ticket};
 ghost use Rattle.sh_world.specs.Seats.{CanAsk, CanSettle, CanStart};
 
 use crate::lines::behind;
 use crate::points::point_of;
 use crate::{Given, Line, Seat};
 use sh_base::Event;
-use sh_client::Want;
+use sh_client::{Step, Want};
 use sh_map::{Call, Entry, Log, Reply};
 
 // Answers the call at this place.
@@ -79,6 +81,22 @@ impl Seat {
         match self.client.want() {
             Want::Done => self.ended as usize == self.numbers.len(),
             _ => false,
+        }
+    }
+
+    // It makes a step inside a verb, where its client wants one; the log is so long. None exactly where it wants another
+    // turn; then nothing changes.
+    pub(crate) fn step(&mut self, words: &mut [u64], seen: u64) -> Option<Step>
+        requires { length words.old ≡ pool_words self.old.client.setting }
+        ensures step { HasStepped words.old words.new self.old.client self.new.client result }
+        ensures seat { self.new ≡ stepped self.old self.new.client seen result }
+    {
+        match self.client.step(words) {
+            Some(step) => {
+                self.seen = seen;
+                Some(step)
+            }
+            None => None,
         }
     }
 

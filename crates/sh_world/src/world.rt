@@ -94,7 +94,23 @@ impl World {
     /// ticket line as `Local`. A seat that rests begins its next call with it, and a turn that ends a call leaves the
     /// seat ready for the next. `Idle` comes exactly where the seat has no call under way and none left; then nothing
     /// changes. It takes no memory. Condition: it is laid, and the seat is one of its setting.
+    #[inline]
     pub fn turn(&mut self, seat: u32) -> Turn
+        requires { seat < length self.old.seats }
+        ensures world { self.new ≡ turn_of self.old seat }
+        ensures answer { result ≡ answer_of self.old seat }
+    {
+        let seen = self.log.len() as u64;
+        let asked = &mut self.seats[seat as usize];
+        match asked.step(&mut self.words, seen) {
+            Some(step) => Turn::Event(step.event, step.found),
+            None => self.other_turn(seat),
+        }
+    }
+
+    // One turn of the seat, whatever its client wants.
+    #[inline(never)]
+    fn other_turn(&mut self, seat: u32) -> Turn
         requires { seat < length self.old.seats }
         ensures world { self.new ≡ turn_of self.old seat }
         ensures answer { result ≡ answer_of self.old seat }

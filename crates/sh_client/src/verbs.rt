@@ -1,0 +1,168 @@
+// Steps inside a READ or a WRITE, which the client makes itself.
+ghost use Rattle.std.specs.Prelude.{◌≡◌, ◌+◌, ◌<◌, length};
+ghost use Rattle.sh_base.specs.Setting.{node_size, pool_words};
+ghost use Rattle.sh_read.specs.Loads.{HasLoaded};
+ghost use Rattle.sh_client.specs.declared.state.Phase.TheVariants as phase;
+ghost use Rattle.sh_client.specs.Machine.{to};
+ghost use Rattle.sh_client.specs.Sound.{Stands};
+ghost use Rattle.sh_client.specs.Steps.{HasStepped, IsReading, IsStep};
+
+use crate::{Client, Phase, Step, Then, Write};
+use sh_base::Event;
+use sh_decide::Post;
+
+impl Client {
+    /// Makes the wanted event itself, where it's a step inside a READ or a WRITE, and not its last one: the client then
+    /// stands as `fed` leaves it, and nothing is to be logged. None exactly where the wanted turn is another; then nothing
+    /// changes. Condition: the words are a pool of its setting.
+    pub fn step(&mut self, words: &mut [u64]) -> Option<Step>
+        requires { length words.old ≡ pool_words self.old.setting }
+        ensures { HasStepped words.old words.new self.old self.new result }
+    {
+        match self.phase {
+            Phase::Read { .. } => self.load_step(words),
+            Phase::Hold { .. } => self.load_step(words),
+            Phase::Fill {
+                node,
+                depth,
+                fresh,
+                done,
+                write,
+                after,
+            } => self.fill_step(words, node, depth, fresh, done, write, after),
+            Phase::Body {
+                node,
+                carry,
+                done,
+                write,
+                after,
+            } => self.body_step(words, node, carry, done, write, after),
+            Phase::Raise {
+                post,
+                root,
+                fresh,
+                done,
+            } => self.raise_step(words, post, root, fresh, done),
+            Phase::Idle
+            | Phase::Root { .. }
+            | Phase::Draw { .. }
+            | Phase::Look { .. }
+            | Phase::Grab { .. }
+            | Phase::Seek { .. }
+            | Phase::Waiting { .. }
+            | Phase::Unlock { .. }
+            | Phase::Leave { .. }
+            | Phase::Top { .. }
+            | Phase::Swap { .. }
+            | Phase::Ended => None,
+        }
+    }
+
+    // Makes a load of the READ, where it isn't the last one.
+    fn load_step(&mut self, words: &[u64]) -> Option<Step>
+        requires pool { length words.now ≡ pool_words self.old.setting }
+        requires reading { IsReading self.old.phase }
+        ensures { HasStepped words.now words.now self.old self.new result }
+    {
+        match self.reading.load(words) {
+            Some(loaded) => Some(Step {
+                event: Event::Load { at: loaded.at },
+                found: loaded.word,
+            }),
+            None => None,
+        }
+    }
+
+    // Makes a store of a right half, where it isn't the last one.
+    fn fill_step(
+        &mut self,
+        words: &mut [u64],
+        node: u32,
+        depth: u32,
+        fresh: u32,
+        done: u32,
+        write: Write,
+        after: Then,
+    ) -> Option<Step>
+        requires pool { length words.old ≡ pool_words self.old.setting }
+        requires phase { self.old.phase ≡ phase.Fill node depth fresh done write after }
+        requires stands { Stands self.old (phase.Fill node depth fresh done write after) }
+        ensures { HasStepped words.old words.new self.old self.new result }
+    {
+        let size = self.cfg.node_size();
+        if done + 1 == size {
+            return None;
+        }
+        let event = self.store_fresh(fresh, done);
+        let found = event.apply(words);
+        self.to(Phase::Fill {
+            node,
+            depth,
+            fresh,
+            done: done + 1,
+            write,
+            after,
+        });
+        Some(Step { event, found })
+    }
+
+    // Makes a store of what is to be written, where it isn't the last one.
+    fn body_step(
+        &mut self,
+        words: &mut [u64],
+        node: u32,
+        carry: Option<u32>,
+        done: u32,
+        write: Write,
+        after: Then,
+    ) -> Option<Step>
+        requires pool { length words.old ≡ pool_words self.old.setting }
+        requires phase { self.old.phase ≡ phase.Body node carry done write after }
+        requires stands { Stands self.old (phase.Body node carry done write after) }
+        ensures { HasStepped words.old words.new self.old self.new result }
+    {
+        let count = self.body.count();
+        if done + 1 == count {
+            return None;
+        }
+        let event = self.store_body(node, done, write);
+        let found = event.apply(words);
+        self.to(Phase::Body {
+            node,
+            carry,
+            done: done + 1,
+            write,
+            after,
+        });
+        Some(Step { event, found })
+    }
+
+    // Makes a store of a new root, where it isn't the last one.
+    fn raise_step(
+        &mut self,
+        words: &mut [u64],
+        post: Post,
+        root: u32,
+        fresh: u32,
+        done: u32,
+    ) -> Option<Step>
+        requires pool { length words.old ≡ pool_words self.old.setting }
+        requires phase { self.old.phase ≡ phase.Raise post root fresh done }
+        requires stands { Stands self.old (phase.Raise post root fresh done) }
+        ensures { HasStepped words.old words.new self.old self.new result }
+    {
+        let size = self.cfg.node_size();
+        if done + 1 == size {
+            return None;
+        }
+        let event = self.store_fresh(fresh, done);
+        let found = event.apply(words);
+        self.to(Phase::Raise {
+            post,
+            root,
+            fresh,
+            done: done + 1,
+        });
+        Some(Step { event, found })
+    }
+}

@@ -1,0 +1,14 @@
+use Rattle.std.proofs.Common.{◌+◌, ◌≤◌, ◌-◌, ap, arith, length, refl, subst}
+use Rattle.sh_base.specs.Setting.{node_size}
+use Rattle.sh_read.specs.Reads.{Reader}
+use Rattle.sh_read.proofs.KeptLemmas.{loads_more, loads_none, size_small}
+use Rattle.sh_read.proofs.state.Reading.load.Goals as goal
+
+pub returns-then-self-le1 : goal.returns-then-self-le1
+returns-then-self-le1 c = (refl, subst (λ (r : Reader). node_size r.setting ≤ length r.reads.loaded + 1) c.self.view_is (loads_none c.self.inside.cfg.parts c.self.inside.cfg.lawful c.self.inside.left c.self.inside.words c.self.invariant.room c.self.invariant.within c.if-self-le1.true))
+
+pub bounds-self-inside-left : goal.bounds-self-inside-left
+bounds-self-inside-left c = omega (arith, c.self.invariant.within, size_small c.self.inside.cfg.parts c.self.inside.cfg.lawful)
+
+pub returns : goal.returns
+returns c = rw (← c.self.view_is) (loads_more c.self.inside.cfg.parts c.self.inside.cfg.lawful c.self.inside.left c.self.inside.words c.self.invariant.room c.self.invariant.within c.self.inside.node c.self.invariant.here c.args.memory.now _ _ c.if-self-le1.false (ap (λ n. n + (c.self.inside.left - 1)) c.node_word.ensures) refl)

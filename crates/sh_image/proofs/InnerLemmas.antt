@@ -167,9 +167,6 @@ decoded_more p ws next i child image new is low high h now =
       children = subst (AllByRecursion (HasChild p)) (sym pairs) (all_push (HasChild p) image.pairs _ h.children (low, high));
     }
 
-pub decoded_all : (p : ConfigParts) (ws : List ℕ) (next count i : ℕ) (image : Inner) → next ≡ get_or ws 4 0 → count ≡ get_or ws 5 0 → i ≡ count → IsDecoded p ws next i image → (image ≡ inner_in ws) × AllByRecursion (HasChild p) image.pairs
-decoded_all p ws next count i image n k last h = (h.others ∙ (λ t. record { version = get_or ws 0 0; level = get_or ws 1 0; low = get_or ws 2 0; high = get_or ws 3 0; next = n t; pairs = (h.pairs ∙ ap (λ j. pairs_in j (drop 6 ws)) (last ∙ k)) t }), h.children)
-
 -- what an inner node that is spelled says of its words
 pub inner_spelled : (p : ConfigParts) (ws : List ℕ) (a : Inner) → SpellsInner p ws a → IsInner p (inner_in ws) × (get_or ws 4 0 ≤ nodes p) × (get_or ws 5 0 ≤ 2 * p.leaf) × (1 ≤ get_or ws 1 0)
 inner_spelled p ws a s =

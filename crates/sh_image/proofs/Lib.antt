@@ -1,4 +1,5 @@
 mod ColumnLemmas
+mod FillLemmas
 pub mod InnerLemmas
 mod PairLemmas
 pub mod EntriesLemmas

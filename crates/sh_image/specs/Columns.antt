@@ -1,8 +1,6 @@
 -- Columns: a part of each entry, one behind the other.
-use Rattle.std.specs.Prelude.{◌≡◌, ℕ, ◌+◌, ◌<◌, List, [], map, take, drop, slice_index, slice_index_or}
+use Rattle.std.specs.Prelude.{ℕ, List, [], map, slice_index, slice_index_or}
 use Rattle.std.specs.List.{range_with_len}
-use Rattle.sh_base.specs.declared.config.ConfigParts.{ConfigParts}
-use Rattle.sh_base.specs.Layout.{entry_at}
 use Rattle.sh_image.specs.declared.leaf.LeafEntry.{LeafEntry}
 
 -- the entry at an index of the columns
@@ -12,11 +10,3 @@ entry_of versions keys values i = record { version = slice_index versions i; key
 -- the first entries of the columns, count of them
 unfoldable pub entries_of : ℕ → List ℕ → List ℕ → List (List ℕ) → List LeafEntry
 entries_of count versions keys values = map (entry_of versions keys values) (range_with_len 0 count)
-
--- the words at this offset of each entry of a node
-abbrev pub IsEntryColumn : ConfigParts → List ℕ → ℕ → List ℕ → Type 0
-IsEntryColumn p ws offset column = (i : ℕ) → i < p.leaf → slice_index column i ≡ slice_index ws (entry_at p i + offset)
-
--- the words of the value of each entry of a node
-abbrev pub IsValueColumn : ConfigParts → List ℕ → List (List ℕ) → Type 0
-IsValueColumn p ws column = (i : ℕ) → i < p.leaf → slice_index_or column i [] ≡ take p.value_words (drop (entry_at p i + 2) ws)

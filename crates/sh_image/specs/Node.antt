@@ -6,7 +6,9 @@ use Rattle.sh_image.specs.Inner.{inner_words, IsInner, SpellsInner}
 use Rattle.sh_image.specs.declared.inner.Image.{Image}
 use Rattle.sh_image.specs.declared.inner.Image.TheVariants.{Leaf, Inner}
 use Rattle.sh_image.specs.declared.read.Seen.{Seen}
-use Rattle.sh_image.specs.declared.read.Seen.TheVariants.{Leaf as LeafSeen, Inner as InnerSeen}
+use Rattle.sh_image.specs.declared.read.Seen.TheVariants.{Leaf as LeafSeen, Inner as InnerSeen, Torn as TornSeen, TornEntry as TornEntrySeen, Odd as OddSeen}
+use Rattle.sh_image.specs.declared.read.Found.{Found}
+use Rattle.sh_image.specs.declared.read.Found.TheVariants.{Node, Torn, TornEntry, Odd}
 
 -- the words of a node
 abbrev pub words_of : ConfigParts → Image → List ℕ
@@ -27,3 +29,10 @@ SpellsImage p ws (Inner a) = SpellsInner p ws a
 abbrev pub seen_of : Image → Seen
 seen_of (Leaf a) = LeafSeen a
 seen_of (Inner a) = InnerSeen a
+
+-- what a reader saw of words that it read into an image, by its answer
+abbrev pub seen_with : Found → Image → Seen
+seen_with Node image = seen_of image
+seen_with (Torn rear front) image = TornSeen rear front
+seen_with (TornEntry index rear front) image = TornEntrySeen index rear front
+seen_with Odd image = OddSeen

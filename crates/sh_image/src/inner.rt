@@ -66,6 +66,18 @@ impl InnerImage {
         }
     }
 
+    // Begins another inner node in the place of this one, without pairs.
+    pub(crate) fn begin(&mut self, version: u64, level: u64, low: u64, high: u64, next: u32)
+        ensures { self.new ≡ record { version = version; level = level; low = low; high = high; next = next; pairs = [] } }
+    {
+        self.version = version;
+        self.level = level;
+        self.low = low;
+        self.high = high;
+        self.next = next;
+        self.count = 0;
+    }
+
     /// Its version.
     pub fn version(&self) -> u64
         ensures { result ≡ self.now.version }

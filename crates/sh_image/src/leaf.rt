@@ -1,6 +1,5 @@
 // A leaf as columns of its entries.
 ghost use Rattle.std.specs.Prelude.{◌≡◌, ◌<◌, ◌≤◌, length, replicate, slice_get, slice_set, Some};
-ghost use Rattle.sh_image.specs.Columns.{entries_of};
 ghost use Rattle.sh_image.specs.Entries.{keys_of};
 
 use sh_base::Value;
@@ -61,30 +60,18 @@ impl LeafImage {
         }
     }
 
-    // A leaf of the first entries of these columns. Condition: there are 64 at most.
-    pub(crate) fn of_columns(
-        version: u64,
-        low: u64,
-        high: u64,
-        next: u32,
-        count: u32,
-        versions: [u64; 64],
-        keys: [u64; 64],
-        values: [Value; 64],
-    ) -> LeafImage
-        requires { count ≤ 64 }
-        ensures { result ≡ record { version = version; low = low; high = high; next = next; entries = entries_of count versions keys values } }
+    // Begins another leaf in the place of this one, with so many entries that are yet to be written. Condition: there
+    // are 64 at most.
+    pub(crate) fn begin(&mut self, version: u64, low: u64, high: u64, next: u32, entries: u32)
+        requires { entries ≤ 64 }
+        ensures parts { self.new ≡ record { version = version; low = low; high = high; next = next; entries = self.new.entries } }
+        ensures count { length self.new.entries ≡ entries }
     {
-        LeafImage {
-            version,
-            low,
-            high,
-            next,
-            count,
-            versions,
-            keys,
-            values,
-        }
+        self.version = version;
+        self.low = low;
+        self.high = high;
+        self.next = next;
+        self.count = entries;
     }
 
     /// Its version.

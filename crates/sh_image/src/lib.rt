@@ -6,6 +6,7 @@ mod laws;
 mod leaf;
 mod read;
 mod read_inner;
+mod read_leaf;
 mod write;
 
 pub use inner::{Image, InnerImage, Pair};
@@ -14,7 +15,7 @@ pub use laws::{
     nodes_have_one_answer,
 };
 pub use leaf::{LeafEntry, LeafImage};
-pub use read::{Seen, read_image};
+pub use read::{Found, Seen, read_image, read_into};
 pub use write::{write_entry, write_inner, write_leaf};
 
 #[cfg(test)]
@@ -392,5 +393,80 @@ mod tests {
         let mut out = [0; 5];
         write_entry(4, 11, Value::of(&[500, 501]), &mut out);
         assert_eq!(rt; out, [4, 11, 500, 501, 4]);
+    }
+
+    // What is read into an image, and none of words that aren't as many as a node's.
+    fn found(cfg: &Config, words: &[u64], image: &mut Image) -> Option<Found> {
+        if words.len() == cfg.node_size() as usize {
+            Some(read_into(cfg, words, image))
+        } else {
+            None
+        }
+    }
+
+    // The level, the number of entries or pairs, and the key or the separator at an index.
+    fn shape(image: &Image, index: u32) -> (u64, u32, u64) {
+        match image {
+            Image::Leaf(leaf) => (0, leaf.entries(), key_at(leaf, index)),
+            Image::Inner(inner) => (inner.level(), inner.pairs(), separator_at(inner, index)),
+        }
+    }
+
+    fn key_at(leaf: &LeafImage, index: u32) -> u64 {
+        if index < leaf.entries() {
+            leaf.entry(index).key
+        } else {
+            u64::MAX
+        }
+    }
+
+    fn separator_at(inner: &InnerImage, index: u32) -> u64 {
+        if index < inner.pairs() {
+            inner.pair(index).separator
+        } else {
+            u64::MAX
+        }
+    }
+
+    #[test]
+    fn one_image_takes_leaves_and_inner_nodes(rt: HostRuntime) {
+        let Ok(cfg) = setting(4, 1) else {
+            assert!(rt; false, "no setting");
+            return;
+        };
+        let mut other = LEAF;
+        other[7] = 12;
+        let mut image = Image::Leaf(LeafImage::new(0, 0, 0, 0, 64, Value::of(&[9])));
+        for (node, index, want) in [
+            (LEAF, 1, (0, 4, 10)),
+            (INNER, 1, (1, 2, 15)),
+            (other, 0, (0, 4, 12)),
+            (LEAF, 0, (0, 4, 0)),
+        ] {
+            assert_eq!(rt; found(&cfg, &node, &mut image), Some(Found::Node));
+            assert_eq!(rt; shape(&image, index), want);
+        }
+    }
+
+    // Of an inner node with three pairs that is read before one with two, and after words that are none.
+    #[test]
+    fn nothing_stays_of_a_longer_inner_node(rt: HostRuntime) {
+        let Ok(cfg) = setting(4, 1) else {
+            assert!(rt; false, "no setting");
+            return;
+        };
+        let mut longer = INNER;
+        longer[5] = 3;
+        longer[10] = 17;
+        longer[11] = 1;
+        let mut odd = longer;
+        odd[11] = 3;
+        let mut image = Image::Leaf(LeafImage::new(0, 0, 0, 0, 0, Value::of(&[0])));
+        for (before, answer) in [(longer, Found::Node), (odd, Found::Odd)] {
+            assert_eq!(rt; found(&cfg, &before, &mut image), Some(answer));
+            assert_eq!(rt; found(&cfg, &INNER, &mut image), Some(Found::Node));
+            assert_eq!(rt; shape(&image, 1), (1, 2, 15));
+            assert_eq!(rt; shape(&image, 2), (1, 2, u64::MAX));
+        }
     }
 }

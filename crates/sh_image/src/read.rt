@@ -1,15 +1,14 @@
 // What the words of a node are.
-ghost use Rattle.std.specs.Prelude.{◌≡◌, ◌↔◌, ◌<◌, ◌≤◌, length, replicate, IsTrue, All, slice_index};
+ghost use Rattle.std.specs.Prelude.{◌≡◌, length};
 ghost use Rattle.sh_base.specs.Parts.{parts_of};
-ghost use Rattle.sh_base.specs.Setting.{nodes, node_size, entry_size};
-ghost use Rattle.sh_image.specs.Columns.{IsEntryColumn, IsValueColumn};
-ghost use Rattle.sh_image.specs.Leaf.{leaf_in, HaveWords, IsEntry, IsLeaf};
+ghost use Rattle.sh_base.specs.Setting.{node_size};
+ghost use Rattle.sh_image.specs.Node.{seen_of, seen_with};
 ghost use Rattle.sh_image.specs.Seen.{SeenBy};
 
-use crate::read_inner::read_inner;
-use crate::{InnerImage, LeafEntry, LeafImage};
+use crate::read_inner::inner_into;
+use crate::read_leaf::{first_torn, leaf_into};
+use crate::{Image, InnerImage, LeafImage};
 use sh_base::{Config, Value};
-use sh_lanes::{column, count_empty, first_differing};
 
 /// What the words of a node are.
 #[derive(Debug, Drop)]
@@ -26,143 +25,74 @@ pub enum Seen {
     Odd,
 }
 
-// The word at this offset of each entry, one behind the other.
-fn entry_column(cfg: &Config, words: &[u64], offset: u32) -> [u64; 64]
-    requires size { length words.now ≡ node_size (parts_of cfg.now) }
-    requires offset { offset < entry_size (parts_of cfg.now) }
-    ensures { IsEntryColumn (parts_of cfg.now) words.now offset result }
-{
-    let mut out = [0; 64];
-    column(
-        words,
-        6 + offset as usize,
-        cfg.entry_size() as usize,
-        &mut out[..cfg.leaf() as usize],
-    );
-    out
+/// What was found in the words of a node that were read into an image.
+#[derive(Clone, Copy, Debug, PartialEq, Eq)]
+pub enum Found {
+    /// They spell a node that meets the rules, and it is the image's.
+    Node,
+    /// The node's two versions differ.
+    Torn { rear: u64, front: u64 },
+    /// The node is a leaf, and this is its first entry whose two versions differ.
+    TornEntry { index: u32, rear: u64, front: u64 },
+    /// The versions agree, and the words spell no node.
+    Odd,
 }
 
-// The value of each entry, one behind the other.
-fn entry_values(cfg: &Config, words: &[u64]) -> [Value; 64]
+/// Reads a node's words into an image that is there, whatever it was, and answers what they are. Only what the node
+/// fills of the image is written. The image is the node that the words spell where it answers `Node`; else it may be
+/// any. Condition: the words are a node's, as many as the setting says.
+#[tactic(auto, using(sh_base::proofs::LayoutLemmas::node_size_is, sh_base::proofs::LayoutLemmas::rear_at_low, sh_base::proofs::LayoutLemmas::entry_within))]
+pub fn read_into(cfg: &Config, words: &[u64], image: &mut Image) -> Found
     requires { length words.now ≡ node_size (parts_of cfg.now) }
-    ensures { IsValueColumn (parts_of cfg.now) words.now result }
-{
-    let count = cfg.parts().value_words as usize;
-    let mut values = [Value::of(&[0]); 64];
-    for index in 0..cfg.leaf() {
-        let at = cfg.entry_at(index) as usize + 2;
-        values[index as usize] = Value::of(&words[at..at + count]);
-    }
-    values
-}
-
-// The leaf whose words these are, if they are a leaf's. `fronts` are the front versions of its entries.
-#[tactic(auto, using(sh_base::proofs::LayoutLemmas::node_size_is, sh_base::proofs::LayoutLemmas::rear_at_low, sh_base::proofs::LayoutLemmas::entry_size_is))]
-fn decoded(cfg: &Config, words: &[u64], next: u32, fronts: [u64; 64]) -> LeafImage
-    requires size { length words.now ≡ node_size (parts_of cfg.now) }
-    requires next { next ≡ slice_index words.now 4 }
-    requires fronts { IsEntryColumn (parts_of cfg.now) words.now 0 fronts }
-    ensures { result ≡ leaf_in (parts_of cfg.now) words.now }
-{
-    let keys = entry_column(cfg, words, 1);
-    let values = entry_values(cfg, words);
-    LeafImage::of_columns(
-        words[0],
-        words[2],
-        words[3],
-        next,
-        cfg.leaf(),
-        fronts,
-        keys,
-        values,
-    )
-}
-
-// Whether the entries may all stand there.
-fn are_entries(cfg: &Config, image: &LeafImage) -> bool
-    requires { HaveWords (parts_of cfg.now) image.now.entries }
-    ensures { IsTrue result ↔ All (IsEntry (parts_of cfg.now) image.now.low image.now.high) image.now.entries }
-{
-    for index in 0..image.entries() {
-        if !is_entry(cfg, image.low(), image.high(), image.entry(index)) {
-            return false;
-        }
-    }
-    true
-}
-
-// Whether the image meets the rules of a leaf, where its next leaf, its number of entries and their values do.
-fn is_leaf(cfg: &Config, image: &LeafImage) -> bool
-    requires next { image.now.next ≤ nodes (parts_of cfg.now) }
-    requires count { length image.now.entries ≡ cfg.now.parts.leaf }
-    requires values { HaveWords (parts_of cfg.now) image.now.entries }
-    ensures { IsTrue result ↔ IsLeaf (parts_of cfg.now) image.now }
-{
-    if image.version() > cfg.last_version() || image.low() >= image.high() {
-        return false;
-    }
-    if (image.next() == 0) != (image.high() == u64::MAX) {
-        return false;
-    }
-    are_entries(cfg, image)
-}
-
-/// What the words of a node are. Condition: they are a node's, as many as the setting says.
-#[tactic(auto, using(sh_base::proofs::LayoutLemmas::node_size_is, sh_base::proofs::LayoutLemmas::rear_at_low, sh_base::proofs::LayoutLemmas::entry_size_is))]
-pub fn read_image(cfg: &Config, words: &[u64]) -> Seen
-    requires { length words.now ≡ node_size (parts_of cfg.now) }
-    ensures { SeenBy (parts_of cfg.now) words.now result }
+    ensures { SeenBy (parts_of cfg.now) words.now (seen_with result image.new) }
 {
     let rear = words[cfg.rear_at() as usize];
     let front = words[0];
     if rear != front {
-        return Seen::Torn { rear, front };
+        return Found::Torn { rear, front };
     }
     if words[1] != 0 {
-        return match read_inner(cfg, words) {
-            Some(image) => Seen::Inner(image),
-            None => Seen::Odd,
+        return if inner_into(cfg, words, image) {
+            Found::Node
+        } else {
+            Found::Odd
         };
     }
-    let fronts = entry_column(cfg, words, 0);
-    let rears = entry_column(cfg, words, cfg.entry_size() - 1);
-    let count = cfg.leaf() as usize;
-    if let Some(index) = first_differing(&fronts[..count], &rears[..count]) {
-        return Seen::TornEntry {
-            index: index as u32,
-            rear: rears[index],
-            front: fronts[index],
+    if let Some(index) = first_torn(cfg, words) {
+        let at = cfg.entry_at(index) as usize;
+        return Found::TornEntry {
+            index,
+            rear: words[at + (2 + cfg.value_words() as usize)],
+            front: words[at],
         };
     }
-    if words[5] != 0 || words[4] > u64::from(cfg.nodes()) {
-        return Seen::Odd;
-    }
-    let image = decoded(cfg, words, words[4] as u32, fronts);
-    if is_leaf(cfg, &image) {
-        Seen::Leaf(image)
+    if leaf_into(cfg, words, image) {
+        Found::Node
     } else {
-        Seen::Odd
+        Found::Odd
     }
 }
 
-// Whether all words are 0.
-#[tactic(auto, using(crate::proofs::EmptyLemmas::empty_exactly))]
-pub(crate) fn are_empty(words: &[u64]) -> bool
-    ensures { IsTrue result ↔ (words.now ≡ replicate (length words.now) 0) }
+/// What the words of a node are. Condition: they are a node's, as many as the setting says.
+pub fn read_image(cfg: &Config, words: &[u64]) -> Seen
+    requires { length words.now ≡ node_size (parts_of cfg.now) }
+    ensures { SeenBy (parts_of cfg.now) words.now result }
 {
-    count_empty(words) == words.len()
+    let mut image = Image::Leaf(LeafImage::new(0, 0, 0, 0, 0, Value::of(&[0])));
+    match read_into(cfg, words, &mut image) {
+        Found::Node => node_seen(image),
+        Found::Torn { rear, front } => Seen::Torn { rear, front },
+        Found::TornEntry { index, rear, front } => Seen::TornEntry { index, rear, front },
+        Found::Odd => Seen::Odd,
+    }
 }
 
-// Whether an entry may stand in a leaf with these fences.
-fn is_entry(cfg: &Config, low: u64, high: u64, entry: LeafEntry) -> bool
-    requires { length entry.value ≡ cfg.now.parts.value_words }
-    ensures { IsTrue result ↔ IsEntry (parts_of cfg.now) low high entry }
+// What a reader sees where it sees this node.
+fn node_seen(image: Image) -> Seen
+    ensures { result ≡ seen_of image }
 {
-    if entry.version > cfg.last_entry_version() {
-        return false;
+    match image {
+        Image::Leaf(leaf) => Seen::Leaf(leaf),
+        Image::Inner(inner) => Seen::Inner(inner),
     }
-    if entry.key == 0 {
-        return are_empty(entry.value.words());
-    }
-    low <= entry.key && entry.key < high
 }

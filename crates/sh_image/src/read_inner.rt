@@ -5,53 +5,84 @@ ghost use Rattle.sh_base.specs.Parts.{parts_of};
 ghost use Rattle.sh_base.specs.Setting.{nodes, node_size};
 ghost use Rattle.sh_base.specs.Layout.{rear_at};
 ghost use Rattle.sh_image.specs.Inner.{inner_in, pairs_in, separator_at, words_behind, AreSeparators, HasChild, Inner, IsInner, SpellsInner};
+ghost use Rattle.sh_image.specs.Node.{seen_of};
+ghost use Rattle.sh_image.specs.Seen.{SeenBy};
 
-use crate::read::are_empty;
-use crate::{InnerImage, Pair};
+use crate::read_leaf::are_empty;
+use crate::{Image, InnerImage, Pair};
 use sh_base::Config;
 
-/// The inner node that a node's words spell, and none exactly where they spell no inner node. Conditions: they are as
-/// many as the setting says, and the node's two versions agree.
-#[tactic(auto, using(sh_base::proofs::LayoutLemmas::node_size_is, sh_base::proofs::LayoutLemmas::rear_at_low))]
-pub(crate) fn read_inner(cfg: &Config, words: &[u64]) -> Option<InnerImage>
+/// Reads the words into an image, and answers whether they spell an inner node: then it is the image's. Conditions:
+/// they are as many as the setting says, and the node's two versions agree.
+pub(crate) fn inner_into(cfg: &Config, words: &[u64], image: &mut Image) -> bool
     requires size { length words.now ≡ node_size (parts_of cfg.now) }
     requires untorn { slice_index words.now (rear_at (parts_of cfg.now)) ≡ slice_index words.now 0 }
-    ensures { MatchOption result ((a : Inner) → SpellsInner (parts_of cfg.now) words.now a → ⊥) (λ a. SpellsInner (parts_of cfg.now) words.now a) }
+    ensures spelled { IsTrue result → SeenBy (parts_of cfg.now) words.now (seen_of image.new) }
+    ensures always { (a : Inner) → SpellsInner (parts_of cfg.now) words.now a → IsTrue result }
 {
-    let count = words[5];
-    if words[4] > u64::from(cfg.nodes()) || count > 2 * u64::from(cfg.leaf()) {
-        return None;
-    }
-    let Some(image) = decoded_inner(cfg, words, words[4] as u32, count as u32) else {
-        return None;
-    };
-    if has_zeros_behind(cfg, words, count as usize) && is_inner(cfg, &image) {
-        Some(image)
-    } else {
-        None
+    match image {
+        Image::Inner(inner) => read_inner(cfg, words, inner),
+        Image::Leaf(_) => inner_in_place(cfg, words, image),
     }
 }
 
-// The inner node whose words these are, if they are an inner node's, and none where a child is no node of the setting.
+// The same, where the image is no inner node's.
+#[inline(never)]
+fn inner_in_place(cfg: &Config, words: &[u64], image: &mut Image) -> bool
+    requires size { length words.now ≡ node_size (parts_of cfg.now) }
+    requires untorn { slice_index words.now (rear_at (parts_of cfg.now)) ≡ slice_index words.now 0 }
+    ensures spelled { IsTrue result → SeenBy (parts_of cfg.now) words.now (seen_of image.new) }
+    ensures always { (a : Inner) → SpellsInner (parts_of cfg.now) words.now a → IsTrue result }
+{
+    let mut inner = InnerImage::new(0, 0, 0, 0, 0);
+    let spells = read_inner(cfg, words, &mut inner);
+    *image = Image::Inner(inner);
+    spells
+}
+
+// Reads the words into an inner node's image, and answers whether they spell that inner node.
 #[tactic(auto, using(sh_base::proofs::LayoutLemmas::node_size_is, sh_base::proofs::LayoutLemmas::rear_at_low))]
-fn decoded_inner(cfg: &Config, words: &[u64], next: u32, count: u32) -> Option<InnerImage>
+fn read_inner(cfg: &Config, words: &[u64], image: &mut InnerImage) -> bool
+    requires size { length words.now ≡ node_size (parts_of cfg.now) }
+    requires untorn { slice_index words.now (rear_at (parts_of cfg.now)) ≡ slice_index words.now 0 }
+    ensures spelled { IsTrue result → SpellsInner (parts_of cfg.now) words.now image.new }
+    ensures always { (a : Inner) → SpellsInner (parts_of cfg.now) words.now a → IsTrue result }
+{
+    let count = words[5];
+    if words[4] > u64::from(cfg.nodes()) || count > 2 * u64::from(cfg.leaf()) {
+        return false;
+    }
+    if !has_zeros_behind(cfg, words, count as usize) {
+        return false;
+    }
+    if !fill(cfg, words, words[4] as u32, count as u32, image) {
+        return false;
+    }
+    is_inner(cfg, image)
+}
+
+// Reads the inner node whose words these are, if they are an inner node's, and answers whether each child is a node of
+// the setting; where one isn't the image may be any.
+#[tactic(auto, using(sh_base::proofs::LayoutLemmas::node_size_is, sh_base::proofs::LayoutLemmas::rear_at_low))]
+fn fill(cfg: &Config, words: &[u64], next: u32, count: u32, image: &mut InnerImage) -> bool
     requires size { length words.now ≡ node_size (parts_of cfg.now) }
     requires next { next ≡ slice_index words.now 4 }
     requires count { count ≡ slice_index words.now 5 }
     requires few { count ≤ 2 * cfg.now.parts.leaf }
-    ensures { MatchOption result (AllByRecursion (HasChild (parts_of cfg.now)) (pairs_in count (drop 6 words.now)) → ⊥) (λ a. (a ≡ inner_in words.now) × AllByRecursion (HasChild (parts_of cfg.now)) a.pairs) }
+    ensures filled { IsTrue result → (image.new ≡ inner_in words.now) × AllByRecursion (HasChild (parts_of cfg.now)) image.new.pairs }
+    ensures always { AllByRecursion (HasChild (parts_of cfg.now)) (pairs_in count (drop 6 words.now)) → IsTrue result }
 {
-    let mut image = InnerImage::new(words[0], words[1], words[2], words[3], next);
+    image.begin(words[0], words[1], words[2], words[3], next);
     for index in 0..count as usize {
         let Some(child) = child_in(cfg, words[6 + 2 * index + 1]) else {
-            return None;
+            return false;
         };
         image.push(Pair {
             separator: words[6 + 2 * index],
             child,
         });
     }
-    Some(image)
+    true
 }
 
 // The node of the setting that a word names.

@@ -1,18 +1,24 @@
 -- The words that a READ keeps, as they are loaded.
-use Rattle.std.proofs.Common.{◌≡◌, ◌≢◌, ℕ, zero, suc, ◌+◌, ◌-◌, ◌<◌, ◌≤◌, Bool, true, false, List, [], ◌∷◌, length, take, drop, set, refl, sym, ap, ◌∙◌, length-drop, arith}
+use Rattle.std.proofs.Common.{◌≡◌, ◌≢◌, ℕ, zero, suc, ◌+◌, ◌-◌, ◌<◌, ◌≤◌, Bool, true, false, List, [], ◌∷◌, length, take, drop, set, refl, sym, ap, subst, ◌∙◌, length-drop, arith}
 use Rattle.std.specs.Prelude.{nat_lt, slice_index, Some, None}
 use Rattle.std.proofs.lemmas.Bool.Decides.{nat_tests}
-use Rattle.std.proofs.lemmas.List.{drop_all, length-set, length-take-le}
+use Rattle.std.proofs.lemmas.List.{drop_all, get_or-take, length-set, length-take-le}
 use Rattle.sh_base.specs.declared.config.ConfigParts.{ConfigParts}
 use Rattle.sh_base.specs.Setting.{node_size, IsNode, IsSetting}
 use Rattle.sh_base.specs.Layout.{node_word}
-use Rattle.sh_base.proofs.LayoutLemmas.{node_size_is, node_word_high, rear_at_small, take_set_in}
+use Rattle.sh_base.proofs.LayoutLemmas.{node_size_is, node_word_high, rear_at_low, rear_at_small, take_set_in}
 use Rattle.sh_image.specs.declared.read.Seen.{Seen}
 use Rattle.sh_image.specs.declared.read.Seen.TheVariants.{Leaf as LeafSeen, Inner as InnerSeen, Torn, TornEntry, Odd as OddSeen}
-use Rattle.sh_read.specs.declared.state.Progress.TheVariants.{More}
+use Rattle.sh_image.specs.declared.inner.Image.{Image}
+use Rattle.sh_image.specs.declared.inner.Image.TheVariants.{Leaf, Inner}
+use Rattle.sh_image.specs.declared.read.Found.{Found}
+use Rattle.sh_image.specs.declared.read.Found.TheVariants.{Node, Torn as FoundTorn, TornEntry as FoundTornEntry, Odd as FoundOdd}
+use Rattle.sh_image.specs.Node.{seen_with}
+use Rattle.sh_read.specs.declared.state.Progress.{Progress}
+use Rattle.sh_read.specs.declared.state.Progress.TheVariants.{More, Accepted, Again, Odd}
 use Rattle.sh_read.specs.Judging.{seen_of}
-use Rattle.sh_read.specs.Reads.{reads_with, accepted, answer_to, fed_by, left_by, progress_of, wanted}
-use Rattle.sh_read.specs.Kept.{loaded_in, left_after, reader_of, IsKept}
+use Rattle.sh_read.specs.Reads.{reads_with, answer_to, fed_by, image_in, left_by, progress_of, wanted}
+use Rattle.sh_read.specs.Kept.{answer_of, image_at, loaded_in, left_after, reader_of, IsKept, Keeps}
 use Rattle.sh_read.specs.Loads.{IsLoad}
 
 less_test : (a b : ℕ) → a < b → nat_lt a b ≡ true
@@ -126,9 +132,6 @@ module _ (p : ConfigParts) (setting : IsSetting p) (node : ℕ) (words : List �
   ended (TornEntry index rear front) = ap (reads_with node) none_words
   ended OddSeen = refl
 
-  none_found : None ≡ accepted p (reads_with node (loaded_in p (node_size p) words))
-  none_found = rw (none_words, less_test 0 (node_size p) (omega (arith, size_some p setting))) refl
-
 module _ (p : ConfigParts) (setting : IsSetting p) (left node word : ℕ) (words : List ℕ) (room : length words ≡ 711) (within : left ≤ node_size p) (some : 1 ≤ left) where
   pub fed_last : (seen : Seen) (after : ℕ) → left - 1 ≡ 0 → seen ≡ seen_of p (take (node_size p) (set words (left - 1) word)) → after ≡ left_after (answer_to seen) (node_size p) → reader_of p node after (set words (left - 1) word) ≡ record { setting = p; reads = fed_by p (reads_with node (loaded_in p left words)) word }
   fed_last seen after last is after_is =
@@ -140,10 +143,49 @@ module _ (p : ConfigParts) (setting : IsSetting p) (left node word : ℕ) (words
       ∙ sym (rw (full p setting left words room within node word some last) refl) in
       λ i. record { setting = p; reads = step i }
 
-pub kept_new : (p : ConfigParts) (setting : IsSetting p) (node left : ℕ) (words : List ℕ) → IsNode p node → length words ≡ 711 → left ≡ node_size p → IsKept p node left words None
-kept_new p setting node left words here room is = record {
-  here = here;
-  within = omega (arith, is);
-  room = room;
-  found = none_found p setting node words room ∙ sym (ap (λ n. accepted p (reads_with node (loaded_in p n words))) is);
-}
+module _ (p : ConfigParts) (setting : IsSetting p) (node first : ℕ) (words : List ℕ) (leaf inner : Image) (here : IsNode p node) (address : first ≡ node_word p node) (room : length words ≡ 711) where
+  -- some words are left to load
+  pub kept_under_way : (left : ℕ) → left ≤ node_size p → 0 < left → IsKept p node first left words leaf inner
+  kept_under_way left within some = record {
+    here = here;
+    address = address;
+    within = within;
+    room = room;
+    found = λ none. absurd (omega (arith, some, none));
+  }
+
+  -- nothing is loaded yet
+  pub kept_new : (left : ℕ) → left ≡ node_size p → IsKept p node first left words leaf inner
+  kept_new left is = kept_under_way left (omega (arith, is)) (omega (arith, is, size_some p setting))
+
+  -- all words were judged
+  pub kept_judged : (after : ℕ) → after ≤ node_size p → Keeps (image_in (seen_of p (take (node_size p) words))) (image_at (slice_index (take (node_size p) words) 1) leaf inner) → IsKept p node first after words leaf inner
+  kept_judged after within keeps = record {
+    here = here;
+    address = address;
+    within = within;
+    room = room;
+    found = λ none.
+        let all : loaded_in p after words ≡ take (node_size p) words = ap (λ n. drop n (take (node_size p) words)) none in
+        let full : nat_lt (length (take (node_size p) words)) (node_size p) ≡ false = not_less_test _ _ (omega (arith, all_words p setting node words room)) in
+        let level : slice_index (take (node_size p) words) 1 ≡ slice_index words 1 = get_or-take (node_size p) words 1 0 (omega (arith, node_size_is p, rear_at_low p)) in
+        rw (all, full, ← level) keeps;
+  }
+
+-- how many words are left behind an answer
+pub left_after_within : (a : Progress) (size after : ℕ) → after ≡ left_after a size → after ≤ size
+left_after_within More size after is = omega (arith, is)
+left_after_within Accepted size after is = omega (arith, is)
+left_after_within (Again rear front) size after is = omega (arith, is)
+left_after_within Odd size after is = omega (arith, is)
+
+-- what is answered to what was found, and the image that is kept, are those of what a reader sees
+pub found_seen : (found : Found) (image : Image) (seen : Seen) → seen_with found image ≡ seen → (answer_of found ≡ answer_to seen) × Keeps (image_in seen) image
+found_seen found image seen is = subst (λ (s : Seen). (answer_of found ≡ answer_to s) × Keeps (image_in s) image) is (by found image)
+  where
+    by : (found : Found) (image : Image) → (answer_of found ≡ answer_to (seen_with found image)) × Keeps (image_in (seen_with found image)) image
+    by Node (Leaf a) = (refl, refl)
+    by Node (Inner a) = (refl, refl)
+    by (FoundTorn rear front) image = (refl, tt)
+    by (FoundTornEntry index rear front) image = (refl, tt)
+    by FoundOdd image = (refl, tt)

@@ -1,8 +1,11 @@
 -- What a READ keeps of its words.
-use Rattle.std.specs.Prelude.{◌≡◌, ℕ, ◌≤◌, List, take, drop, length, Option}
+use Rattle.std.specs.Prelude.{◌≡◌, ℕ, ◌≤◌, ◌==◌, if◌then◌else◌, List, take, drop, length, slice_index, Option, Some, None}
 use Rattle.sh_base.specs.declared.config.ConfigParts.{ConfigParts}
 use Rattle.sh_base.specs.Setting.{node_size, IsNode}
+use Rattle.sh_base.specs.Layout.{node_word}
 use Rattle.sh_image.specs.declared.inner.Image.{Image}
+use Rattle.sh_image.specs.declared.read.Found.{Found}
+use Rattle.sh_image.specs.declared.read.Found.TheVariants.{Node, Torn, TornEntry, Odd as FoundOdd}
 use Rattle.sh_read.specs.declared.state.Progress.{Progress}
 use Rattle.sh_read.specs.declared.state.Progress.TheVariants.{More, Accepted, Again, Odd}
 use Rattle.sh_read.specs.Reads.{Reader, reads_with, accepted}
@@ -21,9 +24,26 @@ left_after More size = 0
 left_after Accepted size = 0
 left_after Odd size = 0
 
--- the room, and the image of the words that were accepted
-pub record IsKept (p : ConfigParts) (node left : ℕ) (words : List ℕ) (image : Option Image) : Type 0 where
+-- what is answered to what was found in all the words
+abbrev pub answer_of : Found → Progress
+answer_of Node = Accepted
+answer_of (Torn rear front) = Again rear front
+answer_of (TornEntry index rear front) = Again rear front
+answer_of FoundOdd = Odd
+
+-- the image of a node, by its level
+abbrev pub image_at : (level : ℕ) (leaf inner : Image) → Image
+image_at level leaf inner = if level == 0 then leaf else inner
+
+-- this is the image, where there is one
+abbrev pub Keeps : Option Image → Image → Type 0
+Keeps (Some a) image = image ≡ a
+Keeps None image = Unit {0}
+
+-- the address of the node, the room, and, where all words are loaded, the image of those that were accepted
+pub record IsKept (p : ConfigParts) (node first left : ℕ) (words : List ℕ) (leaf inner : Image) : Type 0 where
   pub here : IsNode p node
+  pub address : first ≡ node_word p node
   pub within : left ≤ node_size p
   pub room : length words ≡ 711
-  pub found : image ≡ accepted p (reads_with node (loaded_in p left words))
+  pub found : left ≡ 0 → Keeps (accepted p (reads_with node (loaded_in p left words))) (image_at (slice_index words 1) leaf inner)

@@ -152,4 +152,44 @@ mod tests {
         assert_eq!(rt; answer_to_zeros(&mut reading, 1), Progress::Odd);
         assert_eq!(rt; reading.want(), None);
     }
+
+    // The level of a node that is read from its start, and its number of entries or pairs.
+    fn shape(reading: &mut Reading, words: &[u64]) -> Option<(u64, u32)> {
+        let node = reading.node();
+        reading.within_its_node();
+        reading.start(node);
+        for place in 0..words.len() {
+            if reading.want().is_some() {
+                match reading.fed(words[words.len() - 1 - place]) {
+                    Progress::Accepted => return Some(shape_of(reading.image())),
+                    Progress::More | Progress::Again { .. } | Progress::Odd => {}
+                }
+            }
+        }
+        None
+    }
+
+    fn shape_of(image: &Image) -> (u64, u32) {
+        match image {
+            Image::Leaf(leaf) => (0, leaf.entries()),
+            Image::Inner(inner) => (inner.level(), inner.pairs()),
+        }
+    }
+
+    #[test]
+    fn leaves_and_inner_nodes_are_read_in_turn(rt: HostRuntime) {
+        let cfg = small();
+        assert_eq!(rt; cfg.nodes(), 2);
+        let mut reading = Reading::new(&cfg, 1);
+        for (words, want) in [
+            (INNER, Some((1, 2))),
+            (LEAF, Some((0, 4))),
+            (with(INNER, 9, 3), None),
+            (INNER, Some((1, 2))),
+            (with(LEAF, 0, 8), None),
+            (LEAF, Some((0, 4))),
+        ] {
+            assert_eq!(rt; shape(&mut reading, &words), want);
+        }
+    }
 }

@@ -1,16 +1,16 @@
 // A READ that is fed its words one at a time.
-ghost use Rattle.std.specs.Prelude.{◌≡◌, ◌≢◌, ◌<◌, ◌≤◌, IfSome, length, None, Some};
+ghost use Rattle.std.specs.Prelude.{◌≡◌, ◌≢◌, ◌<◌, ◌≤◌, IfSome, length, slice_index, None, Some};
 ghost use Rattle.sh_base.specs.Parts.{parts_of};
 ghost use Rattle.sh_base.specs.Setting.{node_size, pool_words, IsNode, IsSetting};
 ghost use Rattle.sh_read.specs.declared.state.Progress.TheVariants.{Accepted};
 ghost use Rattle.sh_read.specs.Judging.{seen_of};
 ghost use Rattle.sh_read.specs.Reads.{accepted, answer_to, fed_by, image_in, progress_of, start_of, wanted};
-ghost use Rattle.sh_read.specs.Kept.{left_after};
+ghost use Rattle.sh_read.specs.Kept.{answer_of, image_at, left_after, Keeps};
 ghost use Rattle.sh_read.specs.Loads.{HasLoaded};
 
 use crate::{Loaded, Progress, Reading};
-use sh_base::Config;
-use sh_image::{Image, Seen, read_image};
+use sh_base::{Config, Value};
+use sh_image::{Found, Image, InnerImage, LeafImage, read_into};
 
 impl Reading {
     /// A READ of a node, with nothing loaded. Condition: a node of this setting.
@@ -21,9 +21,11 @@ impl Reading {
         Reading {
             cfg: *cfg,
             node,
+            first: cfg.node_word(node),
             left: cfg.node_size(),
             words: blank(),
-            image: None,
+            leaf: no_leaf(),
+            inner: no_inner(),
         }
     }
 
@@ -33,8 +35,8 @@ impl Reading {
         ensures { self.new ≡ record self.old { reads = start_of node } }
     {
         self.node = node;
+        self.first = self.cfg.node_word(node);
         self.left = self.cfg.node_size();
-        self.image = None;
     }
 
     /// The node that is read.
@@ -54,7 +56,7 @@ impl Reading {
         if self.left == 0 {
             return None;
         }
-        Some(self.cfg.node_word(self.node) + (self.left - 1))
+        Some(self.first + (self.left - 1))
     }
 
     /// Takes the word that was wanted. The last one is judged with all the others: `Accepted` and `Odd` are the answers
@@ -72,7 +74,8 @@ impl Reading {
             return Progress::More;
         }
         let size = self.cfg.node_size();
-        let progress = judge(&self.cfg, &self.words[..size as usize], &mut self.image);
+        let words = &self.words[..size as usize];
+        let progress = judge(&self.cfg, words, &mut self.leaf, &mut self.inner);
         self.left = left(&progress, size);
         progress
     }
@@ -89,7 +92,7 @@ impl Reading {
             return None;
         }
         let left = self.left - 1;
-        let at = self.cfg.node_word(self.node) + left;
+        let at = self.first + left;
         let word = memory[at as usize];
         self.words[left as usize] = word;
         self.left = left;
@@ -110,7 +113,11 @@ impl Reading {
         requires { accepted self.now.setting self.now.reads ≢ None }
         ensures { accepted self.now.setting self.now.reads ≡ Some result.now }
     {
-        self.image.as_ref().unwrap()
+        if self.words[1] == 0 {
+            &self.leaf
+        } else {
+            &self.inner
+        }
     }
 }
 
@@ -121,38 +128,50 @@ fn blank() -> [u64; 711]
     [0; 711]
 }
 
+// Images that are yet to be read.
+fn no_leaf() -> Image {
+    Image::Leaf(LeafImage::new(0, 0, 0, 0, 0, Value::of(&[0])))
+}
+
+fn no_inner() -> Image {
+    Image::Inner(InnerImage::new(0, 0, 0, 0, 0))
+}
+
 // Judges a node's words, and keeps the image that they spell. It isn't put into its caller, whose other words would pay
-// for the room of an image.
+// for the room of what it needs.
 #[inline(never)]
-fn judge(cfg: &Config, words: &[u64], image: &mut Option<Image>) -> Progress
+#[tactic(auto, using(sh_base::proofs::LayoutLemmas::node_size_is, sh_base::proofs::LayoutLemmas::rear_at_low))]
+fn judge(cfg: &Config, words: &[u64], leaf: &mut Image, inner: &mut Image) -> Progress
     requires { length words.now ≡ node_size (parts_of cfg.now) }
     ensures progress { result ≡ answer_to (seen_of (parts_of cfg.now) words.now) }
-    ensures image { image.new ≡ image_in (seen_of (parts_of cfg.now) words.now) }
+    ensures image { Keeps (image_in (seen_of (parts_of cfg.now) words.now)) (image_at (slice_index words.now 1) leaf.new inner.new) }
 {
-    let seen = judged(cfg, words);
-    let progress = answer(&seen);
-    *image = image_of(seen);
-    progress
+    if words[1] == 0 {
+        judged(cfg, words, leaf)
+    } else {
+        judged(cfg, words, inner)
+    }
 }
 
-// What is judged of a node's words.
-fn judged(cfg: &Config, words: &[u64]) -> Seen
+// Judges a node's words, and keeps the image that they spell in this one.
+fn judged(cfg: &Config, words: &[u64], image: &mut Image) -> Progress
     requires { length words.now ≡ node_size (parts_of cfg.now) }
-    ensures { result ≡ seen_of (parts_of cfg.now) words.now }
+    ensures progress { result ≡ answer_to (seen_of (parts_of cfg.now) words.now) }
+    ensures image { Keeps (image_in (seen_of (parts_of cfg.now) words.now)) image.new }
 {
-    read_image(cfg, words)
+    let found = read_into(cfg, words, image);
+    answer(&found)
 }
 
-// The answer to what was judged.
-fn answer(seen: &Seen) -> Progress
-    ensures { result ≡ answer_to seen.now }
+// The answer to what was found.
+fn answer(found: &Found) -> Progress
+    ensures { result ≡ answer_of found.now }
 {
-    match *seen {
-        Seen::Leaf(_) => Progress::Accepted,
-        Seen::Inner(_) => Progress::Accepted,
-        Seen::Torn { rear, front } => Progress::Again { rear, front },
-        Seen::TornEntry { rear, front, .. } => Progress::Again { rear, front },
-        Seen::Odd => Progress::Odd,
+    match *found {
+        Found::Node => Progress::Accepted,
+        Found::Torn { rear, front } => Progress::Again { rear, front },
+        Found::TornEntry { rear, front, .. } => Progress::Again { rear, front },
+        Found::Odd => Progress::Odd,
     }
 }
 
@@ -165,18 +184,5 @@ fn left(progress: &Progress, size: u32) -> u32
         Progress::More => 0,
         Progress::Accepted => 0,
         Progress::Odd => 0,
-    }
-}
-
-// The image that was judged.
-fn image_of(seen: Seen) -> Option<Image>
-    ensures { result ≡ image_in seen }
-{
-    match seen {
-        Seen::Leaf(image) => Some(Image::Leaf(image)),
-        Seen::Inner(image) => Some(Image::Inner(image)),
-        Seen::Torn { .. } => None,
-        Seen::TornEntry { .. } => None,
-        Seen::Odd => None,
     }
 }

@@ -24,14 +24,20 @@ pub struct Loaded {
     pub word: u64,
 }
 
-/// A READ of one node under way. It has room for the 711 words of the largest node, and takes no memory.
+/// A READ of one node under way. It has room for the 711 words of the largest node and for its image, and takes no
+/// memory.
 #[derive(Debug, Drop)]
 pub struct Reading {
     pub(crate) cfg: Config,
     pub(crate) node: u32,
+    // The address of the node's first word.
+    pub(crate) first: u32,
     pub(crate) left: u32,
     pub(crate) words: [u64; 711],
-    pub(crate) image: Option<Image>,
+    // The image of the last leaf that was accepted, and that of the last inner node. Which one is the node's the level
+    // word says.
+    pub(crate) leaf: Image,
+    pub(crate) inner: Image,
 }
 
 impl Model for Reading {
@@ -42,5 +48,5 @@ impl Model for Reading {
 
     ghost view = { λ c. reader_of c.cfg.parts c.node c.left c.words };
 
-    ghost invariant = { λ c. IsKept c.cfg.parts c.node c.left c.words c.image };
+    ghost invariant = { λ c. IsKept c.cfg.parts c.node c.first c.left c.words c.leaf c.inner };
 }

@@ -11,4 +11,4 @@ pub bounds-self-inside-left : goal.bounds-self-inside-left
 bounds-self-inside-left c = omega (arith, c.self.invariant.within, size_small c.self.inside.cfg.parts c.self.inside.cfg.lawful)
 
 pub returns : goal.returns
-returns c = rw (← c.self.view_is) (loads_more c.self.inside.cfg.parts c.self.inside.cfg.lawful c.self.inside.left c.self.inside.words c.self.invariant.room c.self.invariant.within c.self.inside.node c.self.invariant.here c.args.memory.now _ _ c.if-self-le1.false (ap (λ n. n + (c.self.inside.left - 1)) c.node_word.ensures) refl)
+returns c = rw (← c.self.view_is) (loads_more c.self.inside.cfg.parts c.self.inside.cfg.lawful c.self.inside.left c.self.inside.words c.self.invariant.room c.self.invariant.within c.self.inside.node c.self.invariant.here c.args.memory.now _ _ c.if-self-le1.false (ap (λ n. n + (c.self.inside.left - 1)) c.self.invariant.address) refl)

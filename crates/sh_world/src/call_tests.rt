@@ -28,14 +28,9 @@ fn four(alloc: Global) -> Result<Calls, AllocError>
     ensures calls { IfOk result (λ c. length c.calls ≡ 4) }
 {
     let mut calls = Calls::new(alloc, 8);
-    calls.push(7, &Call::Get { key: 1 })?;
-    calls.push(
-        7,
-        &Call::Put {
-            key: 2,
-            value: eight(40),
-        },
-    )?;
+    let value = eight(40);
+    calls.push(7, &Call::Put { key: 1, value })?;
+    calls.push(7, &Call::Get { key: 2 })?;
     calls.push(7, &Call::Del { key: LAST })?;
     calls.push(7, &Call::Range { low: 4, high: LAST })?;
     Ok(calls)
@@ -44,8 +39,8 @@ fn four(alloc: Global) -> Result<Calls, AllocError>
 // Whether this is the call of that place.
 fn is_given(call: &Call, place: usize) -> bool {
     match call {
-        Call::Get { key } => place == 0 && *key == 1,
-        Call::Put { key, value } => place == 1 && *key == 2 && is_eight(value, 40),
+        Call::Get { key } => place == 1 && *key == 2,
+        Call::Put { key, value } => place == 0 && *key == 1 && is_eight(value, 40),
         Call::Del { key } => place == 2 && *key == LAST,
         Call::Range { low, high } => place == 3 && *low == 4 && *high == LAST,
     }

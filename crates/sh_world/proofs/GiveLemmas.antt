@@ -4,6 +4,7 @@ use Rattle.std.specs.Prelude.{◌==◌, if◌then◌else◌, slice_get}
 use Rattle.std.proofs.lemmas.Bool.{cases_eq}
 use Rattle.std.proofs.lemmas.Option.{slice_get_within}
 use Rattle.std.proofs.lemmas.List.{length-set, length_push}
+use Rattle.sh_base.specs.declared.config.ConfigParts.{ConfigParts}
 use Rattle.sh_base.specs.Setting.{all_seats}
 use Rattle.sh_map.specs.declared.call.Call.{Call}
 use Rattle.sh_map.specs.declared.book.Done.{Done}
@@ -140,7 +141,11 @@ give_is s t i n q x call calls log e at n_is x_is calls_is log_is =
     (λ z. record { setting = s.setting; words = s.words; log = log_is z; seats = set s.seats i ((x_is ∙ ap (queued q) n_is) z); calls = calls_is z; lines = s.lines })
     ∙ sym (ap (give_at s i call) at) ∙ ap (λ (u : State). give_of u i call) e
 
-pub given_world : (s t : State) (i room : ℕ) (q : Place) (call : Call) (u : State) → s ≡ t → IsRunning s → slice_get s.seats i ≡ Some q → IsInRange t.setting call → IsPointCall call → length t.calls < 2 ^ 32 - 1 → u ≡ give_of t i call → length u.calls < room → IsWorld u room
-given_world s t i room q call u e run at in_range point few u_is lt =
+pub given_long : (calls more : List Given) (g : Given) → more ≡ calls ++ g ∷ [] → length more ≡ length calls + 1
+given_long calls more g is = ap length is ∙ (let l = length_push calls g in omega (arith, l))
+
+pub given_world : (s t : State) (i room width : ℕ) (q : Place) (call : Call) (u : State) → s ≡ t → IsRunning s → slice_get s.seats i ≡ Some q → IsInRange t.setting call → IsPointCall call → length t.calls < 2 ^ 32 - 1 → u ≡ give_of t i call → length u.calls < room → width ≡ s.setting.value_words → IsWorld u room width
+given_world s t i room width q call u e run at in_range point few u_is lt wide =
     let r = given_runs s run i q at call (subst (λ (x : State). IsInRange x.setting call) (sym e) in_range) point (subst (λ (x : State). length x.calls < 2 ^ 32 - 1) (sym e) few) in
-    inr (subst IsRunning (sym (u_is ∙ ap (λ (x : State). give_of x i call) (sym e))) r, lt)
+    let same : u.setting ≡ s.setting = ap (λ (x : State). x.setting) (u_is ∙ ap (λ (x : State). give_of x i call) (sym e)) ∙ ap (λ (o : Option Place). (give_at s i call o).setting) at in
+    inr (subst IsRunning (sym (u_is ∙ ap (λ (x : State). give_of x i call) (sym e))) r, lt, wide ∙ ap (λ (p : ConfigParts). p.value_words) (sym same))

@@ -1,3 +1,5 @@
+pub mod ColumnLemmas
+pub mod WideLemmas
 pub mod PointLemmas
 pub mod DoneLemmas
 pub mod SettleLemmas

@@ -106,5 +106,5 @@ module _ (p : ConfigParts) (ok : IsSetting p) (words : List ℕ) (laid : AreLaid
   }
 
   -- and so it is a world
-  pub open_world : (t : State) (room : ℕ) → t ≡ fresh_state p words → 0 < room → IsWorld t room
-  open_world t room is lt = subst (λ (x : State). IsWorld x room) (sym is) (inr (laid_runs, lt))
+  pub open_world : (t : State) (room width : ℕ) → t ≡ fresh_state p words → 0 < room → width ≡ p.value_words → IsWorld t room width
+  open_world t room width is lt wide = subst (λ (x : State). IsWorld x room width) (sym is) (inr (laid_runs, lt, wide))

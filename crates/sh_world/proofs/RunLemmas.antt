@@ -19,6 +19,7 @@ use Rattle.sh_core.specs.Actors.{Actor, becomes, done_of, ending, going as actor
 use Rattle.sh_core.specs.Keeps.{Keeps, pending}
 use Rattle.sh_core.specs.Core.{Inv, Moves}
 use Rattle.sh_core.proofs.Calls.{rest_keeps}
+use Rattle.sh_core_books.proofs.Pending.{pending_stands}
 use Rattle.sh_world.specs.declared.state.Given.{Given}
 use Rattle.sh_world.specs.declared.state.Line.{Line}
 use Rattle.sh_world.specs.States.{Place, State, actor_of, answered, dones_by, dones_of, HasActor, IsLeft}
@@ -28,6 +29,7 @@ use Rattle.sh_world.specs.Running.{HasPoint, IsGiven, IsPlace, IsRunning, number
 use Rattle.sh_world.specs.Seats.{CanEnd}
 use Rattle.sh_world.proofs.CountLemmas.{call_sum, log_sum, numbers_few, pending_none, pending_one, sum_less, updates_few}
 use Rattle.sh_world.proofs.DoneLemmas.{length_answered}
+use Rattle.sh_world.proofs.WideLemmas.{in_by, in_from, own_entry, reply_wide, wide_append, wide_by, wide_none, wide_updates, AreWide}
 use Rattle.sh_world.proofs.MoveLemmas.{agree_ended, set_else, set_here, settled_keeps, instead_moves, AgreeBut, Instead, IsNext}
 use Rattle.sh_world.proofs.PlaceLemmas.{get_answered, next_is, place_other, place_own}
 
@@ -73,6 +75,22 @@ module _ (s : State) (run : IsRunning s) where
       let c = sum_less (all_seats p) (λ j. length (made_by j s.log)) (λ j. length (numbers_from j 1 s.calls)) (λ j lt. let q = seat_at j (omega (arith, lt, run.seats)) in one_seat j q.0 q.1) in
       omega (arith, a, b, c)
 
+  -- the log's values have the setting's words: each entry is an ended call's of its seat, or that of the call under way
+  pub log_wide : AreWide p.value_words s.log
+  log_wide k e h =
+      let lt = run.by_seats k e h in
+      let q = seat_at e.seat (omega (arith, lt, run.seats)) in
+      let a = run.inv.kept e.seat (actor_of s.calls e.seat q.0) (record { place = q.0; here = q.1; actor_is = refl }) in
+      let ds = dones_by e.seat (dones_of s.calls) in
+      let mine : made_by e.seat s.log ≡ updates ds ++ pending e.seat q.0.client q.0.client.phase = ap (λ (es : List Entry). made_by e.seat es) (sym run.inv.log_is) ∙ a.mine in
+      let ended : AreWide p.value_words (updates ds) = wide_updates p ds (in_by p e.seat (dones_of s.calls) (in_from p 1 s.calls (λ j g here. (run.given j g here).in_range))) in
+      let under : AreWide p.value_words (pending e.seat q.0.client q.0.client.phase) = elim (pending_stands p run.inv.scene e.seat q.0.first q.0.point q.0.seen q.0.client a.work.duty q.0.client.phase a.work.fits a.work.owes) [
+        | inl none ↦ subst (AreWide p.value_words) (sym none) (wide_none p.value_words)
+        | inr own ↦ subst (AreWide p.value_words) (sym own.0) (wide_by p e.seat q.0.client.call q.0.client.reply a.work.seated.in_range)
+      ] in
+      let there = own_entry s.log k e h in
+      wide_append p.value_words (updates ds) (pending e.seat q.0.client q.0.client.phase) ended under there.0 e (ap (λ (es : List Entry). slice_get es there.0) (sym mine) ∙ there.1)
+
 -- ---- what an ended call was answered
 
 answered_last : (log : List Entry) (i : ℕ) (ds : List Done) (d : Done) → AreAnswered log i (ds ++ d ∷ []) → IsAnswered log i d
@@ -107,7 +125,7 @@ module _ (s : State) (run : IsRunning s) (i : ℕ) (q : Place) (at : slice_get s
     next = next_is s.calls i q m (run.places i q at) busy same
 
     -- a call that has ended can be answered
-    pub can_end : has_ended m.phase ≡ true → more ≡ [] → CanEnd s.log s.calls q m
+    pub can_end : has_ended m.phase ≡ true → more ≡ [] → CanEnd s.log s.setting.value_words s.calls q m
     can_end e none =
         let inv = step (Instead (HasActor s.seats s.calls) i (becomes i A s.log more m)) (instead_moves (HasActor s.seats s.calls) i (becomes i A s.log more m)) in
         let is : becomes i A s.log more m ≡ ending i A s.log m = ap (λ (b : Bool). if b then ending i A s.log m else actor_going A s.log more m) e in
@@ -127,6 +145,7 @@ module _ (s : State) (run : IsRunning s) (i : ℕ) (q : Place) (at : slice_get s
           real = (n.real, omega (arith, below));
           call = λ g here. let one : g ≡ n.given = some_is (sym here ∙ n.here) in ap (λ (x : Given). x.call) one ∙ n.call_is;
           point = has_point s.log (done_of i A s.log m) m.call m.reply last.least;
+          wide = reply_wide P.value_words s.log (subst IsLegal run.inv.log_is run.inv.ground.legal) (log_wide s run) (done_of i A s.log m) m.call m.reply last.answers.row;
           first = omega (arith, e1, seen, few, run.few);
           place = omega (arith, run.points i q at, few, run.few);
           few = omega (arith, few, run.few);

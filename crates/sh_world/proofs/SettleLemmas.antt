@@ -14,8 +14,8 @@ use Rattle.sh_client.specs.Rests.{reply_in}
 use Rattle.sh_core.specs.Actors.{has_ended, point_after, point_of, seen_after}
 use Rattle.sh_core.proofs.Logs.{least_is}
 use Rattle.sh_world.specs.declared.state.Given.{Given}
-use Rattle.sh_world.specs.States.{answered, Place}
-use Rattle.sh_world.specs.Turning.{calls_after, going, place_after, resting}
+use Rattle.sh_world.specs.States.{Place}
+use Rattle.sh_world.specs.Turning.{going, place_after, resting}
 use Rattle.sh_world.specs.Running.{HasPoint}
 use Rattle.sh_world.specs.Seats.{CanEnd, CanSettle}
 
@@ -60,15 +60,8 @@ going_in m (Raise post root fresh done) e = refl
 going_in m (Swap post root fresh) e = refl
 
 -- an ended call can end, and is answered
-pub can_end : (log : List Entry) (calls : List Given) (x y : Place) → x ≡ y → CanSettle log calls y y.client → has_ended x.client.phase ≡ true → CanEnd log calls x x.client
-can_end log calls x y e h t = subst (λ (z : Place). CanEnd log calls z z.client) (sym e) (h (subst (λ (z : Place). has_ended z.client.phase ≡ true) e t))
-
-pub calls_ended : (log : List Entry) (calls new : List Given) (x y : Place) (r : Reply) (pt : ℕ) (c : Call) → x ≡ y → has_ended x.client.phase ≡ true → r ≡ x.client.reply → c ≡ x.client.call
-    → pt ≡ point_of log x.first x.point c r → new ≡ answered calls (x.number - 1) r x.first pt → new ≡ calls_after calls y log y.client
-calls_ended log calls new x y r pt c e t r_is c_is p_is new_is =
-    subst (λ (z : Place). new ≡ calls_after calls z log z.client) e
-    (new_is ∙ ap (answered calls (x.number - 1) r x.first) p_is ∙ (λ z. answered calls (x.number - 1) (r_is z) x.first (point_of log x.first x.point (c_is z) (r_is z)))
-    ∙ sym (ap (λ (b : Bool). if b then answered calls (x.number - 1) x.client.reply x.first (point_of log x.first x.point x.client.call x.client.reply) else calls) t))
+pub can_end : (log : List Entry) (width : ℕ) (calls : List Given) (x y : Place) → x ≡ y → CanSettle log width calls y y.client → has_ended x.client.phase ≡ true → CanEnd log width calls x x.client
+can_end log width calls x y e h t = subst (λ (z : Place). CanEnd log width calls z z.client) (sym e) (h (subst (λ (z : Place). has_ended z.client.phase ≡ true) e t))
 
 -- a call goes on
 pub place_going : (log more : List Entry) (x y w : Place) (seen point : ℕ) → x ≡ y → has_ended x.client.phase ≡ false → w ≡ record x { point = point } → seen ≡ seen_after more (length log) → point ≡ point_after more x.point (length log)

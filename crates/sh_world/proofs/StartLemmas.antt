@@ -152,8 +152,8 @@ ended_makes m word (Body n carry done write after) e = absurd (true_false (has_e
 ended_makes m word ph e = refl
 
 module _ (s : State) (run : IsRunning s) (i : ℕ) (q : Place) (at : slice_get s.seats i ≡ Some q) where
-  pub event_settles : (e : Event) → want_of q.client ≡ want.Event e → CanSettle s.log s.calls q (fed_by q.client (found_by s.words e))
+  pub event_settles : (e : Event) → want_of q.client ≡ want.Event e → CanSettle s.log s.setting.value_words s.calls q (fed_by q.client (found_by s.words e))
   event_settles e w ended = can_end s run i q at (event_busy s run i q at e w) (apply s.words e) (IsLeft s.setting s.lines) (makes q.client) (fed_by q.client (found_by s.words e)) (fed_keeps q.client (found_by s.words e)).2 (event_step s run i q at e w) ended (ended_makes q.client (found_by s.words e) q.client.phase ended)
 
-  pub leave_settles : (lock : ℕ) → lock < all_locks s.setting → (carry : Option ℕ) → want_of q.client ≡ want.Leave lock carry → CanSettle s.log s.calls q (fed_by q.client 0)
+  pub leave_settles : (lock : ℕ) → lock < all_locks s.setting → (carry : Option ℕ) → want_of q.client ≡ want.Leave lock carry → CanSettle s.log s.setting.value_words s.calls q (fed_by q.client 0)
   leave_settles lock lt carry w ended = can_end s run i q at (leave_busy s run i q at lock lt carry w) s.words _ [] (fed_by q.client 0) (fed_keeps q.client 0).2 (leave_step s run i q at lock lt carry w carry refl) ended refl

@@ -47,15 +47,15 @@ goes_on (Raise post root fresh done) e = refl
 goes_on (Swap post root fresh) e = refl
 
 -- the setting of a seat's client is the world's
-pub seat_setting : (s t : State) (room i : ℕ) (q : Place) → s ≡ t → IsWorld s room → i < length t.seats → q ≡ get_or s.seats i q → q.client.setting ≡ s.setting
-seat_setting s t room i q e h lt read =
-    let g = running s t room i e h lt in
+pub seat_setting : (s t : State) (room width i : ℕ) (q : Place) → s ≡ t → IsWorld s room width → i < length t.seats → q ≡ get_or s.seats i q → q.client.setting ≡ s.setting
+seat_setting s t room width i q e h lt read =
+    let g = running s t room width i e h lt in
     (g.0.inv.kept i (actor_of s.calls i q) (record { place = q; here = slice_get_read s.seats (length s.seats) i q refl g.2 read; actor_is = refl })).work.seated.setting_is
 
 -- the seat that makes a step was asked, and wants its event
-pub step_asked : (s t : State) (room i : ℕ) (q : Place) (m : Machine) (before after : List ℕ) (st : Step) → s ≡ t → IsWorld s room → i < length t.seats → q ≡ get_or s.seats i q → IsStep before after q.client m st → IsAsked s i room q (want.Event st.event)
-step_asked s t room i q m before after st e h lt read step =
-    is_asked s t room i q q s.calls (length s.log) (want.Event st.event) (want.Event st.event) e h lt read refl refl (sym (ap (asked_in s.calls q (length s.log)) step.event)) (sym step.event) step.within refl
+pub step_asked : (s t : State) (room width i : ℕ) (q : Place) (m : Machine) (before after : List ℕ) (st : Step) → s ≡ t → IsWorld s room width → i < length t.seats → q ≡ get_or s.seats i q → IsStep before after q.client m st → IsAsked s i room width q (want.Event st.event)
+step_asked s t room width i q m before after st e h lt read step =
+    is_asked s t room width i q q s.calls (length s.log) (want.Event st.event) (want.Event st.event) e h lt read refl refl (sym (ap (asked_in s.calls q (length s.log)) step.event)) (sym step.event) step.within refl
 
 module _ (q : Place) (m : Machine) (before after : List ℕ) (st : Step) (step : IsStep before after q.client m st) where
   not_ended : has_ended m.phase ≡ false
@@ -77,8 +77,7 @@ step_world s i q R x m before after rest nw seen st R_is step before_is nw_is se
     let place = x_is ∙ ap (λ n. record q { client = m; seen = n }) seen_is ∙ step_place q m before after st step s.log ∙ ap (place_after q s.log (makes q.client)) fed in
     let calls = step_calls q m before after st step s.calls s.log ∙ ap (calls_after s.calls q s.log) fed in
     let log = sym (append-nil s.log) ∙ ap (λ (more : List Entry). s.log ++ more) (sym step.log) in
-    (λ z. record { setting = s.setting; words = take nw (after ++ rest); log = s.log; seats = set s.seats i x; calls = sym (take_at s.calls [] (length s.calls) refl) z; lines = s.lines })
-    ∙ event_world s i q R R_is st.event before after rest s.log x s.calls s.calls [] nw (length s.calls) before_is refl step.words log place calls nw_is refl
+    event_world s i q R R_is st.event before after rest s.log x s.calls s.calls nw before_is refl step.words log place calls nw_is
 
 -- where no step was made the world is as it was
 pub still_is : (s t : State) (i : ℕ) (q x : Place) (before after rest : List ℕ) (nw : ℕ) → s ≡ t → q ≡ get_or s.seats i q → x ≡ q → after ≡ before → before ≡ s.words → length s.words ≡ nw
@@ -111,14 +110,14 @@ is_false true e = cc
 is_false false e = refl
 
 -- the seat that looks was asked, and wants a look
-pub look_asked : (s t : State) (room i : ℕ) (q : Place) (lock : ℕ) → s ≡ t → IsWorld s room → i < length t.seats → q ≡ get_or s.seats i q → looks_of q.client ≡ Some lock → lock < all_locks q.client.setting → IsAsked s i room q (want.Look lock)
-look_asked s t room i q lock e h lt read looks within =
+pub look_asked : (s t : State) (room width i : ℕ) (q : Place) (lock : ℕ) → s ≡ t → IsWorld s room width → i < length t.seats → q ≡ get_or s.seats i q → looks_of q.client ≡ Some lock → lock < all_locks q.client.setting → IsAsked s i room width q (want.Look lock)
+look_asked s t room width i q lock e h lt read looks within =
     let wants = look_wants q.client q.client.phase lock looks in
-    is_asked s t room i q q s.calls (length s.log) (want.Look lock) (want.Look lock) e h lt read refl refl (sym (ap (asked_in s.calls q (length s.log)) wants)) (sym wants) within refl
+    is_asked s t room width i q q s.calls (length s.log) (want.Look lock) (want.Look lock) e h lt read refl refl (sym (ap (asked_in s.calls q (length s.log)) wants)) (sym wants) within refl
 
 -- the lock is one of the world's
-pub look_within : (s t : State) (room i : ℕ) (q : Place) (lock : ℕ) → s ≡ t → IsWorld s room → i < length t.seats → q ≡ get_or s.seats i q → lock < all_locks q.client.setting → lock < all_locks s.setting
-look_within s t room i q lock e h lt read within = subst (λ (p : ConfigParts). lock < all_locks p) (seat_setting s t room i q e h lt read) within
+pub look_within : (s t : State) (room width i : ℕ) (q : Place) (lock : ℕ) → s ≡ t → IsWorld s room width → i < length t.seats → q ≡ get_or s.seats i q → lock < all_locks q.client.setting → lock < all_locks s.setting
+look_within s t room width i q lock e h lt read within = subst (λ (p : ConfigParts). lock < all_locks p) (seat_setting s t room width i q e h lt read) within
 
 module _ (q : Place) (l : Line) (lock : ℕ) (looks : looks_of q.client ≡ Some lock) (waits : true ≡ not (l.served == q.ticket)) where
   still_client : looked_client q l ≡ q.client
@@ -142,8 +141,8 @@ pub wait_world : (s : State) (i : ℕ) (q R x : Place) (lock k : ℕ) (l : Line)
 wait_world s i q R x lock k l seen R_is looks waits k_is lt read seen_is x_is =
     let place = x_is ∙ ap (λ n. record q { seen = n }) seen_is ∙ look_place q l lock looks waits s.log in
     let lines : s.lines ≡ set s.lines k (looked_line q l) = sym (set-get_or s.lines k l) ∙ ap (set s.lines k) (sym read ∙ sym (still_line q l lock looks waits)) in
-    (λ z. record { setting = s.setting; words = s.words; log = s.log; seats = set s.seats i x; calls = sym (take_at s.calls [] (length s.calls) refl) z; lines = lines z })
-    ∙ look_world s i q R R_is lock k l s.log s.calls s.calls [] x (length s.calls) refl refl k_is (line_read s i lock k l k_is lt read) refl (looked_line q l) refl place (look_calls q l lock looks waits s.calls s.log)
+    (λ z. record { setting = s.setting; words = s.words; log = s.log; seats = set s.seats i x; calls = s.calls; lines = lines z })
+    ∙ look_world s i q R R_is lock k l s.log s.calls s.calls x refl refl k_is (line_read s i lock k l k_is lt read) (looked_line q l) refl place (look_calls q l lock looks waits s.calls s.log)
 
 -- ---- a load inside a READ
 

@@ -33,9 +33,9 @@ some_is : {X : Type 0} {x y : X} → Some x ≡ Some y → x ≡ y
 some_is e = cc
 
 -- a world that has seats runs
-pub runs : (s : State) (room : ℕ) → IsWorld s room → s.seats ≢ [] → IsRunning s × (length s.calls < room)
-runs s room (inl blank) some = absurd (some blank.seats)
-runs s room (inr h) some = h
+pub runs : (s : State) (room width : ℕ) → IsWorld s room width → s.seats ≢ [] → IsRunning s × (length s.calls < room) × (width ≡ s.setting.value_words)
+runs s room width (inl blank) some = absurd (some blank.seats)
+runs s room width (inr h) some = h
 
 module _ (s : State) (run : IsRunning s) (i : ℕ) (q : Place) (at : slice_get s.seats i ≡ Some q) where
   -- the seat that was asked
@@ -87,9 +87,17 @@ module _ (s : State) (run : IsRunning s) (i : ℕ) (q : Place) (at : slice_get s
   took_long (want.Waiting lock) = calls_long (fed_by R.client (behind (line_of s i lock) R.ticket)) R
   took_long (want.Leave lock carry) = calls_long (fed_by R.client 0) R
 
+  took_setting : (w : Want) → (took s i R w).setting ≡ s.setting
+  took_setting want.Done = refl
+  took_setting (want.Event x) = refl
+  took_setting (want.Draw lock) = refl
+  took_setting (want.Look lock) = refl
+  took_setting (want.Waiting lock) = refl
+  took_setting (want.Leave lock carry) = refl
+
   -- a world of the same parts is one, with as much room
-  pub world_is : (w : Want) → want_of R.client ≡ w → IsWithin s.setting w → (t : State) (room new : ℕ) → t ≡ took s i R w → length s.calls < room → new ≡ room → IsWorld t new
-  world_is w e within t room new is lt same = subst (λ (x : State). IsWorld x new) (sym is) (let l = took_long w in inr (took_runs w e within, omega (arith, l, lt, same)))
+  pub world_is : (w : Want) → want_of R.client ≡ w → IsWithin s.setting w → (t : State) (room new width : ℕ) → t ≡ took s i R w → length s.calls < room → new ≡ room → width ≡ s.setting.value_words → IsWorld t new width
+  world_is w e within t room new width is lt same wide = subst (λ (x : State). IsWorld x new width) (sym is) (let l = took_long w in inr (took_runs w e within, omega (arith, l, lt, same), wide ∙ ap (λ (p : ConfigParts). p.value_words) (sym (took_setting w))))
 
 -- ---- from what a turn's parts do to the turn
 
@@ -103,75 +111,67 @@ length_apply ws (Exchange at old new) = by_test (get_or ws at 0 == old) where
   by_test false = refl
 
 -- what a world of these fields is
-pub running : (s t : State) (room i : ℕ) → s ≡ t → IsWorld s room → i < length t.seats → IsRunning s × (length s.calls < room) × (i < length s.seats)
-running s t room i e h lt =
+pub running : (s t : State) (room width i : ℕ) → s ≡ t → IsWorld s room width → i < length t.seats → IsRunning s × (length s.calls < room) × (i < length s.seats) × (width ≡ s.setting.value_words)
+running s t room width i e h lt =
     let here : i < length s.seats = subst (λ (x : State). i < length x.seats) (sym e) lt in
-    let r = runs s room h (λ none. let l = ap length none in absurd (omega (arith, here, l))) in
-    (r.0, r.1, here)
+    let r = runs s room width h (λ none. let l = ap length none in absurd (omega (arith, here, l))) in
+    (r.0, r.1, here, r.2)
 
 -- a line that was read is the one of its place
 pub line_read : (s : State) (i lock k : ℕ) (l : Line) → k ≡ line_at s.setting lock (compute_of s.setting i) → k < length s.lines → l ≡ get_or s.lines k l → l ≡ line_of s i lock
 line_read s i lock k l is lt read = ap or_free (sym (slice_get_read s.lines (length s.lines) k l refl lt read) ∙ ap (slice_get s.lines) is)
 
 module _ (s : State) (i : ℕ) (r R : Place) (r_is : r ≡ R) where
-  after_long : (cs : List Given) (x : Place) (log : List Entry) (m : Machine) → length (calls_after cs x log m) ≡ length cs
-  after_long cs x log m = by_end (has_ended m.phase) where
-    by_end : (b : Bool) → length (if b then answered cs (x.number - 1) m.reply x.first (point_of log x.first x.point m.call m.reply) else cs) ≡ length cs
-    by_end true = length_answered cs (x.number - 1) m.reply x.first (point_of log x.first x.point m.call m.reply)
-    by_end false = refl
-
-  pub event_world : (e : Event) (ws words rest_w : List ℕ) (log : List Entry) (x : Place) (cs calls rest_c : List Given) (nw nc : ℕ) → ws ≡ s.words → cs ≡ s.calls → words ≡ apply ws e → log ≡ s.log ++ makes r.client
-      → x ≡ place_after r s.log (makes r.client) (fed_by r.client (found_by ws e)) → calls ≡ calls_after cs r s.log (fed_by r.client (found_by ws e)) → length s.words ≡ nw → length s.calls ≡ nc
-      → record { setting = s.setting; words = take nw (words ++ rest_w); log = log; seats = set s.seats i x; calls = take nc (calls ++ rest_c); lines = s.lines } ≡ took s i R (want.Event e)
-  event_world e ws words rest_w log x cs calls rest_c nw nc ws_is cs_is words_is log_is x_is calls_is nw_is nc_is =
+  pub event_world : (e : Event) (ws words rest_w : List ℕ) (log : List Entry) (x : Place) (cs calls : List Given) (nw : ℕ) → ws ≡ s.words → cs ≡ s.calls → words ≡ apply ws e → log ≡ s.log ++ makes r.client
+      → x ≡ place_after r s.log (makes r.client) (fed_by r.client (found_by ws e)) → calls ≡ calls_after cs r s.log (fed_by r.client (found_by ws e)) → length s.words ≡ nw
+      → record { setting = s.setting; words = take nw (words ++ rest_w); log = log; seats = set s.seats i x; calls = calls; lines = s.lines } ≡ took s i R (want.Event e)
+  event_world e ws words rest_w log x cs calls nw ws_is cs_is words_is log_is x_is calls_is nw_is =
       let w : take nw (words ++ rest_w) ≡ apply s.words e = take_at words rest_w nw (ap length words_is ∙ length_apply ws e ∙ ap length ws_is ∙ nw_is) ∙ words_is ∙ ap (λ (v : List ℕ). apply v e) ws_is in
-      let c : take nc (calls ++ rest_c) ≡ calls_after s.calls R s.log (fed_by R.client (found_by s.words e)) = take_at calls rest_c nc (ap length calls_is ∙ after_long cs r s.log (fed_by r.client (found_by ws e)) ∙ ap length cs_is ∙ nc_is) ∙ calls_is ∙ (λ z. calls_after (cs_is z) (r_is z) s.log (fed_by (r_is z).client (found_by (ws_is z) e))) in
+      let c : calls ≡ calls_after s.calls R s.log (fed_by R.client (found_by s.words e)) = calls_is ∙ (λ z. calls_after (cs_is z) (r_is z) s.log (fed_by (r_is z).client (found_by (ws_is z) e))) in
       let l : log ≡ s.log ++ makes R.client = log_is ∙ ap (λ (y : Place). s.log ++ makes y.client) r_is in
       let p : x ≡ place_after R s.log (makes R.client) (fed_by R.client (found_by s.words e)) = x_is ∙ (λ z. place_after (r_is z) s.log (makes (r_is z).client) (fed_by (r_is z).client (found_by (ws_is z) e))) in
       λ z. record { setting = s.setting; words = w z; log = l z; seats = set s.seats i (p z); calls = c z; lines = s.lines }
 
-  module _ (lock k : ℕ) (l : Line) (lg : List Entry) (cs calls rest : List Given) (x : Place) (nc : ℕ) (lg_is : lg ≡ s.log) (cs_is : cs ≡ s.calls) (k_is : k ≡ line_at s.setting lock (compute_of s.setting i)) (l_is : l ≡ line_of s i lock) (nc_is : length s.calls ≡ nc) where
+  module _ (lock k : ℕ) (l : Line) (lg : List Entry) (cs calls : List Given) (x : Place) (lg_is : lg ≡ s.log) (cs_is : cs ≡ s.calls) (k_is : k ≡ line_at s.setting lock (compute_of s.setting i)) (l_is : l ≡ line_of s i lock) where
     none : s.log ≡ s.log ++ []
     none = sym (append-nil s.log)
 
-    cut : (m : Machine) → calls ≡ calls_after cs r lg m → take nc (calls ++ rest) ≡ calls
-    cut m is = take_at calls rest nc (ap length is ∙ after_long cs r lg m ∙ ap length cs_is ∙ nc_is)
-
     pub draw_world : (new : Line) → new ≡ drawn l → x ≡ place_after (with_ticket r l.next) lg [] (fed_by r.client l.next) → calls ≡ calls_after cs r lg (fed_by r.client l.next)
-        → record { setting = s.setting; words = s.words; log = s.log; seats = set s.seats i x; calls = take nc (calls ++ rest); lines = set s.lines k new } ≡ took s i R (want.Draw lock)
+        → record { setting = s.setting; words = s.words; log = s.log; seats = set s.seats i x; calls = calls; lines = set s.lines k new } ≡ took s i R (want.Draw lock)
     draw_world new new_is x_is calls_is =
-        let c = cut (fed_by r.client l.next) calls_is ∙ calls_is ∙ (λ z. calls_after (cs_is z) (r_is z) (lg_is z) (fed_by (r_is z).client (l_is z).next)) in
+        let c = calls_is ∙ (λ z. calls_after (cs_is z) (r_is z) (lg_is z) (fed_by (r_is z).client (l_is z).next)) in
         let p = x_is ∙ (λ z. place_after (with_ticket (r_is z) (l_is z).next) (lg_is z) [] (fed_by (r_is z).client (l_is z).next)) in
         let n = new_is ∙ ap drawn l_is in
         λ z. record { setting = s.setting; words = s.words; log = none z; seats = set s.seats i (p z); calls = c z; lines = set s.lines (k_is z) (n z) }
 
     pub look_world : (new : Line) → new ≡ looked_line r l → x ≡ place_after r lg [] (looked_client r l) → calls ≡ calls_after cs r lg (looked_client r l)
-        → record { setting = s.setting; words = s.words; log = s.log; seats = set s.seats i x; calls = take nc (calls ++ rest); lines = set s.lines k new } ≡ took s i R (want.Look lock)
+        → record { setting = s.setting; words = s.words; log = s.log; seats = set s.seats i x; calls = calls; lines = set s.lines k new } ≡ took s i R (want.Look lock)
     look_world new new_is x_is calls_is =
-        let c = cut (looked_client r l) calls_is ∙ calls_is ∙ (λ z. calls_after (cs_is z) (r_is z) (lg_is z) (looked_client (r_is z) (l_is z))) in
+        let c = calls_is ∙ (λ z. calls_after (cs_is z) (r_is z) (lg_is z) (looked_client (r_is z) (l_is z))) in
         let p = x_is ∙ (λ z. place_after (r_is z) (lg_is z) [] (looked_client (r_is z) (l_is z))) in
         let n = new_is ∙ (λ z. looked_line (r_is z) (l_is z)) in
         λ z. record { setting = s.setting; words = s.words; log = none z; seats = set s.seats i (p z); calls = c z; lines = set s.lines (k_is z) (n z) }
 
     pub count_world : x ≡ place_after r lg [] (fed_by r.client (behind l r.ticket)) → calls ≡ calls_after cs r lg (fed_by r.client (behind l r.ticket))
-        → record { setting = s.setting; words = s.words; log = s.log; seats = set s.seats i x; calls = take nc (calls ++ rest); lines = s.lines } ≡ took s i R (want.Waiting lock)
+        → record { setting = s.setting; words = s.words; log = s.log; seats = set s.seats i x; calls = calls; lines = s.lines } ≡ took s i R (want.Waiting lock)
     count_world x_is calls_is =
-        let c = cut (fed_by r.client (behind l r.ticket)) calls_is ∙ calls_is ∙ (λ z. calls_after (cs_is z) (r_is z) (lg_is z) (fed_by (r_is z).client (behind (l_is z) (r_is z).ticket))) in
+        let c = calls_is ∙ (λ z. calls_after (cs_is z) (r_is z) (lg_is z) (fed_by (r_is z).client (behind (l_is z) (r_is z).ticket))) in
         let p = x_is ∙ (λ z. place_after (r_is z) (lg_is z) [] (fed_by (r_is z).client (behind (l_is z) (r_is z).ticket))) in
         λ z. record { setting = s.setting; words = s.words; log = none z; seats = set s.seats i (p z); calls = c z; lines = s.lines }
 
     pub leave_world : (carry : Option ℕ) (new : Line) → new ≡ left_line l carry → x ≡ place_after r lg [] (fed_by r.client 0) → calls ≡ calls_after cs r lg (fed_by r.client 0)
-        → record { setting = s.setting; words = s.words; log = s.log; seats = set s.seats i x; calls = take nc (calls ++ rest); lines = set s.lines k new } ≡ took s i R (want.Leave lock carry)
+        → record { setting = s.setting; words = s.words; log = s.log; seats = set s.seats i x; calls = calls; lines = set s.lines k new } ≡ took s i R (want.Leave lock carry)
     leave_world carry new new_is x_is calls_is =
-        let c = cut (fed_by r.client 0) calls_is ∙ calls_is ∙ (λ z. calls_after (cs_is z) (r_is z) (lg_is z) (fed_by (r_is z).client 0)) in
+        let c = calls_is ∙ (λ z. calls_after (cs_is z) (r_is z) (lg_is z) (fed_by (r_is z).client 0)) in
         let p = x_is ∙ (λ z. place_after (r_is z) (lg_is z) [] (fed_by (r_is z).client 0)) in
         let n = new_is ∙ ap (λ (y : Line). left_line y carry) l_is in
         λ z. record { setting = s.setting; words = s.words; log = none z; seats = set s.seats i (p z); calls = c z; lines = set s.lines (k_is z) (n z) }
 
 -- the seat was asked, and wants this
-pub record IsAsked (s : State) (i room : ℕ) (r : Place) (w : Want) : Type 0 where
+pub record IsAsked (s : State) (i room width : ℕ) (r : Place) (w : Want) : Type 0 where
   pub run : IsRunning s
   pub room_is : length s.calls < room
+  pub wide : width ≡ s.setting.value_words
   pub place : Place
   pub here : slice_get s.seats i ≡ Some place
   pub asked_is : r ≡ asked s.calls place (length s.log)
@@ -181,14 +181,15 @@ pub record IsAsked (s : State) (i room : ℕ) (r : Place) (w : Want) : Type 0 wh
 asked_setting : (s : State) (run : IsRunning s) (i : ℕ) (q : Place) (at : slice_get s.seats i ≡ Some q) → (asked s.calls q (length s.log)).client.setting ≡ s.setting
 asked_setting s run i q at = let r1 = run1 s run i q at in (r1.inv.kept i (actor_of s.calls i (asked s.calls q (length s.log))) (record { place = asked s.calls q (length s.log); here = at1 s run i q at; actor_is = refl })).work.seated.setting_is
 
-pub is_asked : (s t : State) (room i : ℕ) (q r : Place) (calls : List Given) (seen : ℕ) (res w : Want) → s ≡ t → IsWorld s room → i < length t.seats → q ≡ get_or s.seats i q → calls ≡ s.calls → seen ≡ length s.log → r ≡ asked calls q seen → res ≡ want_of r.client → IsWithin r.client.setting res → res ≡ w → IsAsked s i room r w
-is_asked s t room i q r calls seen res w e h lt read calls_is seen_is r_is res_is inside w_is =
-    let g = running s t room i e h lt in
+pub is_asked : (s t : State) (room width i : ℕ) (q r : Place) (calls : List Given) (seen : ℕ) (res w : Want) → s ≡ t → IsWorld s room width → i < length t.seats → q ≡ get_or s.seats i q → calls ≡ s.calls → seen ≡ length s.log → r ≡ asked calls q seen → res ≡ want_of r.client → IsWithin r.client.setting res → res ≡ w → IsAsked s i room width r w
+is_asked s t room width i q r calls seen res w e h lt read calls_is seen_is r_is res_is inside w_is =
+    let g = running s t room width i e h lt in
     let at = slice_get_read s.seats (length s.seats) i q refl g.2 read in
     let all : r ≡ asked s.calls q (length s.log) = r_is ∙ (λ z. asked (calls_is z) q (seen_is z)) in
     record {
       run = g.0;
       room_is = g.1;
+      wide = g.3;
       place = q;
       here = at;
       asked_is = all;
@@ -196,7 +197,7 @@ is_asked s t room i q r calls seen res w e h lt read calls_is seen_is r_is res_i
       within = subst (λ (p : ConfigParts). IsWithin p w) (ap (λ (x : Place). x.client.setting) all ∙ asked_setting s g.0 i q at) (subst (IsWithin r.client.setting) w_is inside);
     }
 
-module _ (s : State) (i room : ℕ) (r : Place) (w : Want) (a : IsAsked s i room r w) where
+module _ (s : State) (i room width : ℕ) (r : Place) (w : Want) (a : IsAsked s i room width r w) where
   -- what comes of it is the turn
   pub value_is : (t u : State) → s ≡ u → t ≡ took s i (asked s.calls a.place (length s.log)) w → t ≡ turn_of u i
   value_is t u e is = is ∙ sym (turn_is s a.run i a.place a.here w a.want_is) ∙ ap (λ (x : State). turn_of x i) e
@@ -204,26 +205,28 @@ module _ (s : State) (i room : ℕ) (r : Place) (w : Want) (a : IsAsked s i room
   pub told_is : (u : State) (words : List ℕ) (x : Turn) → s ≡ u → words ≡ s.words → x ≡ answer_in words w → x ≡ answer_of u i
   told_is u words x e ws is = is ∙ ap (λ (v : List ℕ). answer_in v w) ws ∙ sym (answer_is s a.run i a.place a.here w a.want_is) ∙ ap (λ (y : State). answer_of y i) e
 
-  pub kept_is : (t : State) (new : ℕ) → t ≡ took s i (asked s.calls a.place (length s.log)) w → new ≡ room → IsWorld t new
-  kept_is t new is same = world_is s a.run i a.place a.here w a.want_is a.within t room new is a.room_is same
+  pub kept_is : (t : State) (new now : ℕ) → t ≡ took s i (asked s.calls a.place (length s.log)) w → new ≡ room → now ≡ width → IsWorld t new now
+  kept_is t new now is same wide = world_is s a.run i a.place a.here w a.want_is a.within t room new now is a.room_is same (wide ∙ a.wide)
 
-pub event_can : (s : State) (i room : ℕ) (r : Place) (e : Event) (cs : List Given) (ws : List ℕ) → IsAsked s i room r (want.Event e) → cs ≡ s.calls → ws ≡ s.words → CanSettle s.log cs r (fed_by r.client (found_by ws e))
-event_can s i room r e cs ws a cs_is ws_is =
+pub event_can : (s : State) (i room width : ℕ) (r : Place) (e : Event) (cs : List Given) (ws : List ℕ) → IsAsked s i room width r (want.Event e) → cs ≡ s.calls → ws ≡ s.words → CanSettle s.log width cs r (fed_by r.client (found_by ws e))
+event_can s i room width r e cs ws a cs_is ws_is =
     let h = event_settles (put_place s i (asked s.calls a.place (length s.log))) (run1 s a.run i a.place a.here) i (asked s.calls a.place (length s.log)) (at1 s a.run i a.place a.here) e a.want_is in
-    subst (λ (x : Place). CanSettle s.log cs x (fed_by x.client (found_by ws e))) (sym a.asked_is)
-    (subst (λ (v : List ℕ). CanSettle s.log cs (asked s.calls a.place (length s.log)) (fed_by (asked s.calls a.place (length s.log)).client (found_by v e))) (sym ws_is)
-    (subst (λ (c : List Given). CanSettle s.log c (asked s.calls a.place (length s.log)) (fed_by (asked s.calls a.place (length s.log)).client (found_by s.words e))) (sym cs_is) h))
+    subst (λ (n : ℕ). CanSettle s.log n cs r (fed_by r.client (found_by ws e))) (sym a.wide)
+    (subst (λ (x : Place). CanSettle s.log s.setting.value_words cs x (fed_by x.client (found_by ws e))) (sym a.asked_is)
+    (subst (λ (v : List ℕ). CanSettle s.log s.setting.value_words cs (asked s.calls a.place (length s.log)) (fed_by (asked s.calls a.place (length s.log)).client (found_by v e))) (sym ws_is)
+    (subst (λ (c : List Given). CanSettle s.log s.setting.value_words c (asked s.calls a.place (length s.log)) (fed_by (asked s.calls a.place (length s.log)).client (found_by s.words e))) (sym cs_is) h)))
 
-pub leave_can : (s : State) (i room : ℕ) (r : Place) (lock : ℕ) (carry : Option ℕ) (cs : List Given) (lg : List Entry) → IsAsked s i room r (want.Leave lock carry) → cs ≡ s.calls → lg ≡ s.log → CanSettle lg cs r (fed_by r.client 0)
-leave_can s i room r lock carry cs lg a cs_is lg_is =
+pub leave_can : (s : State) (i room width : ℕ) (r : Place) (lock : ℕ) (carry : Option ℕ) (cs : List Given) (lg : List Entry) → IsAsked s i room width r (want.Leave lock carry) → cs ≡ s.calls → lg ≡ s.log → CanSettle lg width cs r (fed_by r.client 0)
+leave_can s i room width r lock carry cs lg a cs_is lg_is =
     let h = leave_settles (put_place s i (asked s.calls a.place (length s.log))) (run1 s a.run i a.place a.here) i (asked s.calls a.place (length s.log)) (at1 s a.run i a.place a.here) lock a.within carry a.want_is in
-    subst (λ (x : Place). CanSettle lg cs x (fed_by x.client 0)) (sym a.asked_is)
-    (subst (λ (v : List Entry). CanSettle v cs (asked s.calls a.place (length s.log)) (fed_by (asked s.calls a.place (length s.log)).client 0)) (sym lg_is)
-    (subst (λ (c : List Given). CanSettle s.log c (asked s.calls a.place (length s.log)) (fed_by (asked s.calls a.place (length s.log)).client 0)) (sym cs_is) h))
+    subst (λ (n : ℕ). CanSettle lg n cs r (fed_by r.client 0)) (sym a.wide)
+    (subst (λ (x : Place). CanSettle lg s.setting.value_words cs x (fed_by x.client 0)) (sym a.asked_is)
+    (subst (λ (v : List Entry). CanSettle v s.setting.value_words cs (asked s.calls a.place (length s.log)) (fed_by (asked s.calls a.place (length s.log)).client 0)) (sym lg_is)
+    (subst (λ (c : List Given). CanSettle s.log s.setting.value_words c (asked s.calls a.place (length s.log)) (fed_by (asked s.calls a.place (length s.log)).client 0)) (sym cs_is) h)))
 
 -- what was left in a line is within the bound
-pub left_bound : (s : State) (i room : ℕ) (r : Place) (lock : ℕ) (l : Line) → IsAsked s i room r (want.Look lock) → l ≡ line_of s i lock → (d : ℕ) → l.left ≡ Some d → d ≤ r.client.setting.bound
-left_bound s i room r lock l a l_is d e =
+pub left_bound : (s : State) (i room width : ℕ) (r : Place) (lock : ℕ) (l : Line) → IsAsked s i room width r (want.Look lock) → l ≡ line_of s i lock → (d : ℕ) → l.left ≡ Some d → d ≤ r.client.setting.bound
+left_bound s i room width r lock l a l_is d e =
     let q = asked s.calls a.place (length s.log) in
     let r1 = run1 s a.run i a.place a.here in
     let seat = (r1.inv.kept i (actor_of s.calls i q) (record { place = q; here = at1 s a.run i a.place a.here; actor_is = refl })).work.seated.within in

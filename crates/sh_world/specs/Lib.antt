@@ -1,4 +1,5 @@
 pub mod States
+pub mod Columns
 pub mod Turning
 pub mod Lines
 pub mod Running

@@ -72,6 +72,7 @@ pub record IsRunning (s : State) : Type 0 where
   pub points : (seat : ℕ) (q : Place) → slice_get s.seats seat ≡ Some q → q.point ≤ length s.log
   pub by_seats : (place : ℕ) (e : Entry) → slice_get s.log place ≡ Some e → e.seat < all_seats s.setting
 
--- Any world: a blank one, or one that runs, with more room in its log than there are calls.
-abbrev pub IsWorld : State → (room : ℕ) → Type 0
-IsWorld s room = IsBlank s ⊎ (IsRunning s × (length s.calls < room))
+-- Any world: a blank one, or one that runs, with more room in its log than there are calls, and so many words for a value
+-- as the setting says.
+abbrev pub IsWorld : State → (room width : ℕ) → Type 0
+IsWorld s room width = IsBlank s ⊎ (IsRunning s × (length s.calls < room) × (width ≡ s.setting.value_words))

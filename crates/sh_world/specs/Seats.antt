@@ -11,6 +11,7 @@ use Rattle.sh_map.specs.Log.{IsLegal}
 use Rattle.sh_core.specs.Actors.{has_ended}
 use Rattle.sh_world.specs.declared.state.Given.{Given}
 use Rattle.sh_world.specs.States.{Place}
+use Rattle.sh_world.specs.Columns.{IsReplyWide}
 use Rattle.sh_world.specs.Running.{HasPoint}
 
 -- a seat at rest may begin this one of the calls
@@ -23,17 +24,19 @@ pub record CanStart (calls : List Given) (q : Place) (number : ℕ) : Type 0 whe
 abbrev pub CanAsk : List Given → Place → Type 0
 CanAsk calls q = want_of q.client ≡ want.Done → (number : ℕ) → slice_get q.numbers q.ended ≡ Some number → CanStart calls q number
 
--- a call that ends with this machine is one of the given calls, and has a point in this log
-pub record CanEnd (log : List Entry) (calls : List Given) (q : Place) (m : Machine) : Type 0 where
+-- a call that ends with this machine is one of the given calls, has a point in this log, and a reply's value has so many
+-- words
+pub record CanEnd (log : List Entry) (width : ℕ) (calls : List Given) (q : Place) (m : Machine) : Type 0 where
   pub legal : IsLegal log
   pub real : (1 ≤ q.number) × (q.number ≤ length calls)
   pub call : (g : Given) → slice_get calls (q.number - 1) ≡ Some g → g.call ≡ m.call
   pub point : HasPoint log q.first m.call m.reply
+  pub wide : IsReplyWide width m.reply
   pub first : q.first < 2 ^ 32
   pub place : q.point < 2 ^ 32
   pub few : length log < 2 ^ 32
   pub ended : q.ended < 2 ^ 32 - 1
 
 -- where a client has become this, its call can end if it has ended
-abbrev pub CanSettle : List Entry → List Given → Place → Machine → Type 0
-CanSettle log calls q m = has_ended m.phase ≡ true → CanEnd log calls q m
+abbrev pub CanSettle : List Entry → (width : ℕ) → List Given → Place → Machine → Type 0
+CanSettle log width calls q m = has_ended m.phase ≡ true → CanEnd log width calls q m

@@ -7,7 +7,7 @@ ghost use Rattle.sh_world.specs.Laid.{bare_words};
 ghost use Rattle.sh_world.specs.States.{dones_of, dones_from, free_line, fresh_from, fresh_place};
 
 use crate::node::write_node;
-use crate::{Given, Line, Seat};
+use crate::{Calls, Given, Line, Seat};
 use sh_base::{Config, Value};
 use sh_client::Client;
 use sh_image::{LeafImage, write_leaf};
@@ -90,21 +90,27 @@ pub(crate) fn free_lines(alloc: Global, cfg: &Config) -> Result<Vec<Line>, Alloc
 }
 
 /// The calls that have ended.
-pub(crate) fn ended_calls(alloc: Global, calls: &[Given]) -> Result<Dones, AllocError>
-    requires { length calls.now ≤ 4294967295 }
-    ensures { IfOk result (λ v. v.items ≡ dones_of calls.now) }
+pub(crate) fn ended_calls(alloc: Global, calls: &Calls) -> Result<Dones, AllocError>
+    requires { length calls.now.calls ≤ 4294967295 }
+    ensures { IfOk result (λ v. v.items ≡ dones_of calls.now.calls) }
 {
     let mut dones = Vec::new(alloc);
     for i in 0..calls.len() {
-        let given = &calls[i];
-        if let Some(reply) = given.reply {
+        let Given {
+            seat,
+            call,
+            reply,
+            first,
+            point,
+        } = calls.get(i);
+        if let Some(reply) = reply {
             dones.push(Done {
                 n: i as u32 + 1,
-                seat: given.seat,
-                call: given.call,
+                seat,
+                call,
                 reply,
-                first: u64::from(given.first),
-                point: u64::from(given.point),
+                first: u64::from(first),
+                point: u64::from(point),
                 rows: Rows::new(alloc),
             })?;
         }

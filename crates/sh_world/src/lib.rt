@@ -6,6 +6,8 @@
 //! the calls that have ended.
 #![tactic(auto)]
 
+mod calls;
+mod columns;
 mod laid;
 mod laws;
 mod lines;
@@ -16,10 +18,13 @@ mod state;
 mod turn;
 mod world;
 
+pub use calls::Calls;
 pub use sh_client::Tally;
 pub use state::{Given, World};
 pub(crate) use state::{Line, Seat};
 pub use turn::Turn;
 
+#[cfg(test)]
+mod call_tests;
 #[cfg(test)]
 mod tests;

@@ -10,33 +10,21 @@ ghost use Rattle.sh_client.specs.Giving.{makes};
 ghost use Rattle.sh_client.specs.Sound.{IsPointCall};
 ghost use Rattle.sh_client.specs.Steps.{HasLoaded, HasStepped};
 ghost use Rattle.sh_client.specs.Wants.{want_of, IsWithin};
-ghost use Rattle.sh_world.specs.States.{answered};
 ghost use Rattle.sh_world.specs.Turning.{asked, behind, calls_after, drawn, is_idle, left_line, looked_client, looked_line, place_after, started, starts_next, stepped, with_ticket};
 ghost use Rattle.sh_world.specs.Seats.{CanAsk, CanSettle, CanStart};
 
 use crate::lines::behind;
 use crate::points::point_of;
-use crate::{Given, Line, Seat};
+use crate::{Calls, Line, Seat};
 use sh_base::Event;
 use sh_client::{Step, Want};
-use sh_map::{Call, Entry, Log, Reply};
-
-// Answers the call at this place.
-fn answer(calls: &mut [Given], place: usize, reply: Reply, first: u32, point: u32)
-    requires { place < length calls.old }
-    ensures { calls.new ≡ answered calls.old place reply first point }
-{
-    let given = &mut calls[place];
-    given.reply = Some(reply);
-    given.first = first;
-    given.point = point;
-}
+use sh_map::{Call, Entry, Log};
 
 impl Seat {
     // The turn that it wants. At rest it begins its next call with it, where one is left.
-    pub(crate) fn ask(&mut self, calls: &[Given], seen: u64) -> Want
-        requires { CanAsk calls.now self.old }
-        ensures seat { self.new ≡ asked calls.now self.old seen }
+    pub(crate) fn ask(&mut self, calls: &Calls, seen: u64) -> Want
+        requires { CanAsk calls.now.calls self.old }
+        ensures seat { self.new ≡ asked calls.now.calls self.old seen }
         ensures want { result ≡ want_of self.new.client }
         ensures within { IsWithin self.new.client.setting result }
     {
@@ -50,13 +38,13 @@ impl Seat {
     }
 
     // It begins its next call, where one is left.
-    fn start_next(&mut self, calls: &[Given], seen: u64)
-        requires { (number : ℕ) → slice_get self.old.numbers self.old.ended ≡ Some number → CanStart calls.now self.old number }
-        ensures { self.new ≡ starts_next calls.now self.old seen (slice_get self.old.numbers self.old.ended) }
+    fn start_next(&mut self, calls: &Calls, seen: u64)
+        requires { (number : ℕ) → slice_get self.old.numbers self.old.ended ≡ Some number → CanStart calls.now.calls self.old number }
+        ensures { self.new ≡ starts_next calls.now.calls self.old seen (slice_get self.old.numbers self.old.ended) }
     {
         if let Some(number) = self.numbers.get(self.ended as usize) {
             let number = *number;
-            self.start(number, calls[(number - 1) as usize].call, seen);
+            self.start(number, calls.get((number - 1) as usize).call, seen);
         }
     }
 
@@ -136,17 +124,18 @@ impl Seat {
         event: Event,
         words: &mut [u64],
         log: &mut Log,
-        calls: &mut [Given],
+        calls: &mut Calls,
     ) -> u64
         requires at { at_of event < length words.old }
         requires room { vec_len log.old < vec_capacity log.old }
-        requires settles { CanSettle log.old.items calls.old self.old (fed_by self.old.client (found_by words.old event)) }
+        requires settles { CanSettle log.old.items calls.old.width calls.old.calls self.old (fed_by self.old.client (found_by words.old event)) }
         ensures found { result ≡ found_by words.old event }
         ensures words { words.new ≡ apply words.old event }
         ensures log { log.new.items ≡ log.old.items ++ makes self.old.client }
         ensures room { vec_capacity log.new ≡ vec_capacity log.old }
         ensures seat { self.new ≡ place_after self.old log.old.items (makes self.old.client) (fed_by self.old.client (found_by words.old event)) }
-        ensures calls { calls.new ≡ calls_after calls.old self.old log.old.items (fed_by self.old.client (found_by words.old event)) }
+        ensures calls { calls.new.calls ≡ calls_after calls.old.calls self.old log.old.items (fed_by self.old.client (found_by words.old event)) }
+        ensures width { calls.new.width ≡ calls.old.width }
     {
         let seen = log.len() as u64;
         let found = event.apply(words);
@@ -157,11 +146,12 @@ impl Seat {
     }
 
     // It draws a ticket of a line.
-    pub(crate) fn draw(&mut self, line: &mut Line, log: &[Entry], calls: &mut [Given])
-        requires settles { CanSettle log.now calls.old self.old (fed_by self.old.client line.old.next) }
+    pub(crate) fn draw(&mut self, line: &mut Line, log: &[Entry], calls: &mut Calls)
+        requires settles { CanSettle log.now calls.old.width calls.old.calls self.old (fed_by self.old.client line.old.next) }
         ensures line { line.new ≡ drawn line.old }
         ensures seat { self.new ≡ place_after (with_ticket self.old line.old.next) log.now [] (fed_by self.old.client line.old.next) }
-        ensures calls { calls.new ≡ calls_after calls.old self.old log.now (fed_by self.old.client line.old.next) }
+        ensures calls { calls.new.calls ≡ calls_after calls.old.calls self.old log.now (fed_by self.old.client line.old.next) }
+        ensures width { calls.new.width ≡ calls.old.width }
     {
         self.ticket = line.next;
         line.next = line.next.wrapping_add(1);
@@ -170,12 +160,13 @@ impl Seat {
     }
 
     // It looks whether its ticket is served, and then takes what was left.
-    pub(crate) fn look(&mut self, line: &mut Line, log: &[Entry], calls: &mut [Given])
+    pub(crate) fn look(&mut self, line: &mut Line, log: &[Entry], calls: &mut Calls)
         requires bound { IfSome line.old.left (λ d. d ≤ self.old.client.setting.bound) }
-        requires settles { CanSettle log.now calls.old self.old (looked_client self.old line.old) }
+        requires settles { CanSettle log.now calls.old.width calls.old.calls self.old (looked_client self.old line.old) }
         ensures line { line.new ≡ looked_line self.old line.old }
         ensures seat { self.new ≡ place_after self.old log.now [] (looked_client self.old line.old) }
-        ensures calls { calls.new ≡ calls_after calls.old self.old log.now (looked_client self.old line.old) }
+        ensures calls { calls.new.calls ≡ calls_after calls.old.calls self.old log.now (looked_client self.old line.old) }
+        ensures width { calls.new.width ≡ calls.old.width }
     {
         if line.served == self.ticket {
             self.client.fed_turn(line.left);
@@ -187,10 +178,11 @@ impl Seat {
     }
 
     // It counts the later tickets.
-    pub(crate) fn count(&mut self, line: &Line, log: &[Entry], calls: &mut [Given])
-        requires settles { CanSettle log.now calls.old self.old (fed_by self.old.client (behind line.now self.old.ticket)) }
+    pub(crate) fn count(&mut self, line: &Line, log: &[Entry], calls: &mut Calls)
+        requires settles { CanSettle log.now calls.old.width calls.old.calls self.old (fed_by self.old.client (behind line.now self.old.ticket)) }
         ensures seat { self.new ≡ place_after self.old log.now [] (fed_by self.old.client (behind line.now self.old.ticket)) }
-        ensures calls { calls.new ≡ calls_after calls.old self.old log.now (fed_by self.old.client (behind line.now self.old.ticket)) }
+        ensures calls { calls.new.calls ≡ calls_after calls.old.calls self.old log.now (fed_by self.old.client (behind line.now self.old.ticket)) }
+        ensures width { calls.new.width ≡ calls.old.width }
     {
         self.client.fed(behind(line, self.ticket));
         self.settle(log, log.len() as u64, calls);
@@ -202,12 +194,13 @@ impl Seat {
         line: &mut Line,
         carry: Option<u32>,
         log: &[Entry],
-        calls: &mut [Given],
+        calls: &mut Calls,
     )
-        requires settles { CanSettle log.now calls.old self.old (fed_by self.old.client 0) }
+        requires settles { CanSettle log.now calls.old.width calls.old.calls self.old (fed_by self.old.client 0) }
         ensures line { line.new ≡ left_line line.old carry }
         ensures seat { self.new ≡ place_after self.old log.now [] (fed_by self.old.client 0) }
-        ensures calls { calls.new ≡ calls_after calls.old self.old log.now (fed_by self.old.client 0) }
+        ensures calls { calls.new.calls ≡ calls_after calls.old.calls self.old log.now (fed_by self.old.client 0) }
+        ensures width { calls.new.width ≡ calls.old.width }
     {
         line.served = line.served.wrapping_add(1);
         line.left = carry;
@@ -216,19 +209,26 @@ impl Seat {
     }
 
     // Its client was fed; before, the log was so long. A call that has ended is answered and taken away.
-    fn settle(&mut self, log: &[Entry], seen: u64, calls: &mut [Given])
+    fn settle(&mut self, log: &[Entry], seen: u64, calls: &mut Calls)
         requires seen { seen ≤ length log.now }
         requires one { length log.now ≤ seen + 1 }
-        requires settles { CanSettle (take seen log.now) calls.old self.old self.old.client }
+        requires settles { CanSettle (take seen log.now) calls.old.width calls.old.calls self.old self.old.client }
         ensures seat { self.new ≡ place_after self.old (take seen log.now) (drop seen log.now) self.old.client }
-        ensures calls { calls.new ≡ calls_after calls.old self.old (take seen log.now) self.old.client }
+        ensures calls { calls.new.calls ≡ calls_after calls.old.calls self.old (take seen log.now) self.old.client }
+        ensures width { calls.new.width ≡ calls.old.width }
     {
         match self.client.reply() {
             Some(reply) => {
                 let before = &log[..seen as usize];
                 let place = (self.number - 1) as usize;
-                let point = point_of(before, self.first, self.point, &calls[place].call, &reply);
-                answer(calls, place, reply, self.first as u32, point as u32);
+                let point = point_of(
+                    before,
+                    self.first,
+                    self.point,
+                    &calls.get(place).call,
+                    &reply,
+                );
+                calls.answer(place, &reply, self.first as u32, point as u32);
                 self.client.finish();
                 self.ended += 1;
                 self.seen = seen;

@@ -1,4 +1,5 @@
 // What a world is made of.
+use crate::Calls;
 use sh_base::Config;
 use sh_client::Client;
 use sh_map::{Call, Log, Reply};
@@ -52,7 +53,7 @@ pub struct World {
     pub(crate) words: Vec<u64>,
     pub(crate) log: Log,
     pub(crate) seats: Vec<Seat>,
-    pub(crate) calls: Vec<Given>,
+    pub(crate) calls: Calls,
     pub(crate) lines: Vec<Line>,
 }
 
@@ -63,7 +64,7 @@ impl Model for World {
 
     ghost Value = { State };
 
-    ghost view = { λ w. record { setting = w.cfg.parts; words = w.words.items; log = w.log.items; seats = w.seats.items; calls = w.calls.items; lines = w.lines.items } };
+    ghost view = { λ w. record { setting = w.cfg.parts; words = w.words.items; log = w.log.items; seats = w.seats.items; calls = w.calls.calls; lines = w.lines.items } };
 
-    ghost invariant = { λ w. IsWorld (record { setting = w.cfg.parts; words = w.words.items; log = w.log.items; seats = w.seats.items; calls = w.calls.items; lines = w.lines.items }) (vec_capacity w.log) };
+    ghost invariant = { λ w. IsWorld (record { setting = w.cfg.parts; words = w.words.items; log = w.log.items; seats = w.seats.items; calls = w.calls.calls; lines = w.lines.items }) (vec_capacity w.log) w.calls.width };
 }

@@ -57,7 +57,7 @@ fn are_told(world: &World, told: &[Told]) -> bool {
         return false;
     }
     for i in 0..calls.len() {
-        if !is_told(&calls[i], &told[i]) {
+        if !is_told(&calls.get(i), &told[i]) {
             return false;
         }
     }
@@ -65,7 +65,7 @@ fn are_told(world: &World, told: &[Told]) -> bool {
 }
 
 // Gives a call, where it may be given.
-fn give(world: &mut World, seat: u32, call: &Call) -> Result<bool, AllocError> {
+pub(crate) fn give(world: &mut World, seat: u32, call: &Call) -> Result<bool, AllocError> {
     let may = seat < world.seats()
         && call.in_range(world.setting())
         && world.calls().len() < 4_294_967_295;
@@ -91,7 +91,7 @@ fn take(world: &mut World, seat: u32) -> Turn {
 }
 
 // Asks each seat in turn until all are idle, for a million rounds at most. How many turns were made comes back.
-fn finish(world: &mut World) -> u64 {
+pub(crate) fn finish(world: &mut World) -> u64 {
     let mut made = 0u64;
     for _ in 0..1_000_000 {
         let mut idle = true;

@@ -9,7 +9,7 @@ ghost use Rattle.sh_world.specs.Turning.{answer_of, give_of, is_idle_at, tally_a
 
 use crate::laid::{ended_calls, free_lines, fresh_seats, laid_words};
 use crate::lines::line_at;
-use crate::{Given, Turn, World};
+use crate::{Calls, Turn, World};
 use sh_base::Config;
 use sh_client::{Tally, Want};
 use sh_map::{Book, Call, Entry};
@@ -20,12 +20,13 @@ impl World {
     pub fn blank(alloc: Global) -> World
         ensures { IsBlank result }
     {
+        let cfg = Config::default();
         World {
-            cfg: Config::default(),
+            calls: Calls::new(alloc, cfg.value_words()),
+            cfg,
             words: Vec::new(alloc),
             log: Vec::new(alloc),
             seats: Vec::new(alloc),
-            calls: Vec::new(alloc),
             lines: Vec::new(alloc),
         }
     }
@@ -84,8 +85,8 @@ impl World {
     }
 
     /// The calls in the order in which they were given, numbered from 1, and how those that have ended were answered.
-    pub fn calls(&self) -> &[Given]
-        ensures { result.now ≡ self.now.calls }
+    pub fn calls(&self) -> &Calls
+        ensures { result.now.calls ≡ self.now.calls }
     {
         &self.calls
     }
@@ -190,17 +191,10 @@ impl World {
     {
         let number = self.calls.len() + 1;
         self.log.reserve(number + 1 - self.log.len())?;
-        self.calls.reserve(1)?;
         let given = &mut self.seats[seat as usize];
         given.numbers.reserve(1)?;
+        self.calls.push(seat, &call)?;
         given.numbers.push_reserved(number as u32);
-        self.calls.push_reserved(Given {
-            seat,
-            call,
-            reply: None,
-            first: 0,
-            point: 0,
-        });
         Ok(())
     }
 
@@ -217,6 +211,7 @@ impl World {
         let lines = free_lines(alloc, cfg)?;
         let log = Vec::with_capacity(alloc, 1)?;
         self.cfg = *cfg;
+        self.calls = Calls::new(alloc, cfg.value_words());
         self.words = words;
         self.log = log;
         self.seats = seats;

@@ -3,4 +3,4 @@ use Rattle.sh_world.specs.States.{dones_of}
 use Rattle.sh_world.proofs.laid.ended_calls.Given as goal
 
 abbrev pub invariant-loop-i : goal.invariant-loop-i
-invariant-loop-i l = l.dones.items ≡ dones_of (take l.i l.calls)
+invariant-loop-i l = l.dones.items ≡ dones_of (take l.i l.calls.calls)

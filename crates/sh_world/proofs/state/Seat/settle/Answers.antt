@@ -1,26 +1,15 @@
-use Rattle.std.proofs.Common.{◌-◌, ◌<◌, ◌∙◌, ap, length, arith, refl, sym}
-use Rattle.sh_world.specs.declared.state.Given.{Given}
-use Rattle.std.proofs.lemmas.Option.{slice_get_read}
+use Rattle.std.proofs.Common.{◌∙◌, ap, sym}
 use Rattle.sh_world.specs.contracts.state.Seat.{the_view}
-use Rattle.sh_world.proofs.SettleLemmas.{ended_in, going_in, can_end, calls_ended, place_going, point_fits, point_made, point_stays, seen_is}
+use Rattle.sh_world.proofs.SettleLemmas.{ended_in, going_in, can_end, place_going, point_fits, point_made, point_stays, seen_is}
 use Rattle.sh_world.proofs.state.Seat.settle.Goals as goal
 use Rattle.sh_world.proofs.state.Seat.settle.Goals.{then-seen-log, else-seen-log}
 
 pub overflow_cast-point : goal.overflow_cast-point
 overflow_cast-point c =
     let ended = ended_in c.self.inside.client _ _ (sym c.reply.ensures ∙ c.in-Some.is) in
-    let h = can_end _ _ _ _ c.self.view_is c.requires.settles ended.0 in
-    let lt : c.self.inside.number - 1 < length c.args.calls.now = omega (arith, h.real) in
-    let call = ap (λ (g : Given). g.call) (sym c.index-calls-place.is) ∙ h.call _ (slice_get_read _ _ _ _ refl lt c.index-calls-place.is) in
+    let h = can_end _ _ _ _ _ c.self.view_is c.requires.settles ended.0 in
+    let call = h.call _ c.get.ensures in
     record { fits = point_fits _ _ _ _ _ _ _ _ call ended.1 h.point h.few h.place c.point_of-point.ensures }
-
-pub returns-in-Some-clause-calls : goal.returns-in-Some-clause-calls
-returns-in-Some-clause-calls c =
-    let ended = ended_in c.self.inside.client _ _ (sym c.reply.ensures ∙ c.in-Some.is) in
-    let h = can_end _ _ _ _ c.self.view_is c.requires.settles ended.0 in
-    let lt : c.self.inside.number - 1 < length c.args.calls.now = omega (arith, h.real) in
-    let call = ap (λ (g : Given). g.call) (sym c.index-calls-place.is) ∙ h.call _ (slice_get_read _ _ _ _ refl lt c.index-calls-place.is) in
-    calls_ended _ _ _ _ _ _ _ _ c.self.view_is ended.0 ended.1 call c.point_of-point.ensures c.answer.ensures
 
 pub returns-after-seen-log-clause-seat : goal.returns-after-seen-log-clause-seat
 returns-after-seen-log-clause-seat c =

@@ -1,36 +1,38 @@
 use Rattle.std.specs.Vec.{vec_len, vec_capacity}
-use Rattle.std.proofs.Common.{◌+◌, ◌-◌, ◌≤◌, ◌∙◌, ◌∷◌, ◌++◌, [], ℕ, List, None, ap, arith, refl}
+use Rattle.std.proofs.Common.{◌+◌, ◌-◌, ◌≤◌, ◌∙◌, ◌∷◌, ◌++◌, [], ℕ, List, ap, arith, refl}
 use Rattle.std.proofs.lemmas.Option.{slice_get_read}
-use Rattle.sh_world.specs.declared.state.Given.{Given}
+use Rattle.sh_world.specs.Columns.{Listed}
 use Rattle.sh_world.specs.States.{Place}
 use Rattle.sh_world.specs.Turning.{queued}
 use Rattle.sh_world.specs.contracts.state.World.{the_view}
-use Rattle.sh_world.proofs.GiveLemmas.{give_is, given_world}
+use Rattle.sh_world.proofs.GiveLemmas.{give_is, given_long, given_world}
 use Rattle.sh_world.proofs.RunLemmas.{log_few}
 use Rattle.sh_world.proofs.WorldLemmas.{running}
 use Rattle.sh_world.proofs.state.World.give.Goals as goal
 
 pub overflow_sub-number : goal.overflow_sub-number
 overflow_sub-number c =
-    let g = running (the_view c.self.inside) c.args.self.now _ c.args.seat c.self.view_is c.self.invariant c.requires.seat in
-    omega (arith, log_few (the_view c.self.inside) g.0, c.len.ensures, c.len-number.ensures, c.self.inside.log.ok.0, c.self.inside.calls.ok.0)
+    let g = running (the_view c.self.inside) c.args.self.now _ _ c.args.seat c.self.view_is c.self.invariant c.requires.seat in
+    omega (arith, log_few (the_view c.self.inside) g.0, c.len.ensures, c.len-number.ensures, c.self.inside.log.ok.0)
 
 pub invariant_of-self-2 : goal.invariant_of-self-2
 invariant_of-self-2 c =
-    let g = running (the_view c.self.inside) c.args.self.now _ c.args.seat c.self.view_is c.self.invariant c.requires.seat in
+    let g = running (the_view c.self.inside) c.args.self.now _ _ c.args.seat c.self.view_is c.self.invariant c.requires.seat in
     let at = slice_get_read _ _ c.args.seat c.index_mut-given.result.now refl g.2 c.index_mut-given.ensures.value in
+    let calls = ap (λ (l : Listed). l.calls) c.in_ok-push.ensures.ok in
     let is = give_is (the_view c.self.inside) c.args.self.now c.args.seat (c.len-number.result + 1) c.index_mut-given.result.now _ c.args.call _ _ c.self.view_is at
-    (let e = c.len-number.ensures ∙ c.self.inside.calls.ok.0 in ap (λ (k : ℕ). k + 1) e)
-    (ap (λ (ns : List ℕ). record { client = c.given.inside.client; numbers = ns; ended = c.given.inside.ended; number = c.given.inside.number; ticket = c.given.inside.ticket; seen = c.given.inside.seen; first = c.given.inside.first; point = c.given.inside.point }) (c.push_reserved.ensures.items ∙ ap (λ (ns : List ℕ). ns ++ (c.len-number.result + 1) ∷ []) c.reserve-3.ensures.items) ∙ ap (λ (y : Place). queued y (c.len-number.result + 1)) c.given.view_is)
-    (c.push_reserved-2.ensures.items ∙ ap (λ (cs : List Given). cs ++ record { seat = c.args.seat; call = c.args.call; reply = None; first = 0; point = 0 } ∷ []) c.reserve-2.ensures.items) c.reserve.ensures.items in
-    given_world (the_view c.self.inside) c.args.self.now c.args.seat _ c.index_mut-given.result.now c.args.call _ c.self.view_is g.0 at c.requires.in_range c.requires.point c.requires.few is
-    (let room : vec_len c.reserve.new.self + (c.len-number.result + 1 + 1 - c.len.result) ≤ vec_capacity c.reserve.new.self = c.in_ok-reserve.ensures.ok in omega (arith, room, c.reserve.ensures.len, c.len.ensures, c.len-number.ensures, c.self.inside.calls.ok.0, c.push_reserved-2.ensures.len, c.reserve-2.ensures.len, c.push_reserved-2.new.self.ok.0, c.reserve-2.new.self.ok.0, log_few (the_view c.self.inside) g.0, c.self.inside.log.ok.0))
+    (ap (λ (k : ℕ). k + 1) c.len-number.ensures)
+    (ap (λ (ns : List ℕ). record { client = c.given.inside.client; numbers = ns; ended = c.given.inside.ended; number = c.given.inside.number; ticket = c.given.inside.ticket; seen = c.given.inside.seen; first = c.given.inside.first; point = c.given.inside.point }) (c.push_reserved.ensures.items ∙ ap (λ (ns : List ℕ). ns ++ (c.len-number.result + 1) ∷ []) c.reserve-2.ensures.items) ∙ ap (λ (y : Place). queued y (c.len-number.result + 1)) c.given.view_is)
+    calls c.reserve.ensures.items in
+    given_world (the_view c.self.inside) c.args.self.now c.args.seat _ _ c.index_mut-given.result.now c.args.call _ c.self.view_is g.0 at c.requires.in_range c.requires.point c.requires.few is
+    (let room : vec_len c.reserve.new.self + (c.len-number.result + 1 + 1 - c.len.result) ≤ vec_capacity c.reserve.new.self = c.in_ok-reserve.ensures.ok in omega (arith, room, c.reserve.ensures.len, c.len.ensures, c.len-number.ensures, given_long _ _ _ calls, log_few (the_view c.self.inside) g.0, c.self.inside.log.ok.0))
+    (ap (λ (l : Listed). l.width) c.in_ok-push.ensures.ok ∙ g.3)
 
 pub returns-clause-ok : goal.returns-clause-ok
 returns-clause-ok c =
-    let g = running (the_view c.self.inside) c.args.self.now _ c.args.seat c.self.view_is c.self.invariant c.requires.seat in
+    let g = running (the_view c.self.inside) c.args.self.now _ _ c.args.seat c.self.view_is c.self.invariant c.requires.seat in
     let at = slice_get_read _ _ c.args.seat c.index_mut-given.result.now refl g.2 c.index_mut-given.ensures.value in
     give_is (the_view c.self.inside) c.args.self.now c.args.seat (c.len-number.result + 1) c.index_mut-given.result.now _ c.args.call _ _ c.self.view_is at
-    (let e = c.len-number.ensures ∙ c.self.inside.calls.ok.0 in ap (λ (k : ℕ). k + 1) e)
-    (ap (λ (ns : List ℕ). record { client = c.given.inside.client; numbers = ns; ended = c.given.inside.ended; number = c.given.inside.number; ticket = c.given.inside.ticket; seen = c.given.inside.seen; first = c.given.inside.first; point = c.given.inside.point }) (c.push_reserved.ensures.items ∙ ap (λ (ns : List ℕ). ns ++ (c.len-number.result + 1) ∷ []) c.reserve-3.ensures.items) ∙ ap (λ (y : Place). queued y (c.len-number.result + 1)) c.given.view_is)
-    (c.push_reserved-2.ensures.items ∙ ap (λ (cs : List Given). cs ++ record { seat = c.args.seat; call = c.args.call; reply = None; first = 0; point = 0 } ∷ []) c.reserve-2.ensures.items) c.reserve.ensures.items
+    (ap (λ (k : ℕ). k + 1) c.len-number.ensures)
+    (ap (λ (ns : List ℕ). record { client = c.given.inside.client; numbers = ns; ended = c.given.inside.ended; number = c.given.inside.number; ticket = c.given.inside.ticket; seen = c.given.inside.seen; first = c.given.inside.first; point = c.given.inside.point }) (c.push_reserved.ensures.items ∙ ap (λ (ns : List ℕ). ns ++ (c.len-number.result + 1) ∷ []) c.reserve-2.ensures.items) ∙ ap (λ (y : Place). queued y (c.len-number.result + 1)) c.given.view_is)
+    (ap (λ (l : Listed). l.calls) c.in_ok-push.ensures.ok) c.reserve.ensures.items

@@ -9,12 +9,12 @@ use Rattle.sh_world.proofs.state.World.keeps_the_laws.Goals as goal
 
 pub returns-clause-lawful : goal.returns-clause-lawful
 returns-clause-lawful c =
-    let g = running (the_view c.self.inside) c.args.self.now _ 0 c.self.view_is c.self.invariant c.requires in
+    let g = running (the_view c.self.inside) c.args.self.now _ _ 0 c.self.view_is c.self.invariant c.requires in
     subst IsLawful c.self.view_is (lawful (the_view c.self.inside) g.0)
 
 pub returns-clause-running : goal.returns-clause-running
 returns-clause-running c =
-    let g = running (the_view c.self.inside) c.args.self.now _ 0 c.self.view_is c.self.invariant c.requires in
+    let g = running (the_view c.self.inside) c.args.self.now _ _ 0 c.self.view_is c.self.invariant c.requires in
     subst IsRunning c.self.view_is g.0
 
 pub returns-clause-log : goal.returns-clause-log
@@ -22,5 +22,5 @@ returns-clause-log c = λ seat. extends c.args.self.now seat
 
 pub returns-clause-idle : goal.returns-clause-idle
 returns-clause-idle c = λ seat lt.
-    let g = running (the_view c.self.inside) c.args.self.now _ seat c.self.view_is c.self.invariant lt in
+    let g = running (the_view c.self.inside) c.args.self.now _ _ seat c.self.view_is c.self.invariant lt in
     subst (λ (s : State). IdlesRight s seat) c.self.view_is (idle_at (the_view c.self.inside) g.0 seat g.2)

@@ -7,7 +7,7 @@ use Rattle.sh_world.proofs.WorldLemmas.{kept_is, told_is, value_is}
 use Rattle.sh_world.proofs.state.World.wait.Goals as goal
 
 pub line_at-requires-clause-lock : goal.line_at-requires-clause-lock
-line_at-requires-clause-lock c = look_within (the_view c.self.inside) c.args.self.now _ c.args.seat c.index_mut-place.result.now c.in-Some.lock c.self.view_is c.self.invariant c.requires c.index_mut-place.ensures.value (subst (λ (x : Place). c.in-Some.lock < all_locks x.client.setting) c.place.view_is c.in-Some.ensures.within)
+line_at-requires-clause-lock c = look_within (the_view c.self.inside) c.args.self.now _ _ c.args.seat c.index_mut-place.result.now c.in-Some.lock c.self.view_is c.self.invariant c.requires c.index_mut-place.ensures.value (subst (λ (x : Place). c.in-Some.lock < all_locks x.client.setting) c.place.view_is c.in-Some.ensures.within)
 
 pub invariant_of-self : goal.invariant_of-self
 invariant_of-self c =
@@ -15,8 +15,8 @@ invariant_of-self c =
     let q = c.index_mut-place.result.now in
     let looks = looks_seen _ q c.in-Some.lock c.place.view_is c.in-Some.ensures.here in
     let within = subst (λ (x : Place). c.in-Some.lock < all_locks x.client.setting) c.place.view_is c.in-Some.ensures.within in
-    let a = look_asked s c.args.self.now _ c.args.seat q c.in-Some.lock c.self.view_is c.self.invariant c.requires c.index_mut-place.ensures.value looks within in
-    kept_is s c.args.seat _ q _ a _ _ (wait_world s c.args.seat q _ c.waits.new.self c.in-Some.lock c.line_at.result c.index-line.result.now _ a.asked_is looks c.if-waits.ensures.served c.line_at.ensures.at (omega (arith, c.line_at.ensures.within, a.run.lines.count)) c.index-line.ensures (c.len-seen.ensures ∙ c.self.inside.log.ok.0) c.if-waits.ensures.seat) refl
+    let a = look_asked s c.args.self.now _ _ c.args.seat q c.in-Some.lock c.self.view_is c.self.invariant c.requires c.index_mut-place.ensures.value looks within in
+    kept_is s c.args.seat _ _ q _ a _ _ _ (wait_world s c.args.seat q _ c.waits.new.self c.in-Some.lock c.line_at.result c.index-line.result.now _ a.asked_is looks c.if-waits.ensures.served c.line_at.ensures.at (omega (arith, c.line_at.ensures.within, a.run.lines.count)) c.index-line.ensures (c.len-seen.ensures ∙ c.self.inside.log.ok.0) c.if-waits.ensures.seat) refl refl
 
 pub returns-then-waits-clause-world : goal.returns-then-waits-clause-world
 returns-then-waits-clause-world c =
@@ -24,8 +24,8 @@ returns-then-waits-clause-world c =
     let q = c.index_mut-place.result.now in
     let looks = looks_seen _ q c.in-Some.lock c.place.view_is c.in-Some.ensures.here in
     let within = subst (λ (x : Place). c.in-Some.lock < all_locks x.client.setting) c.place.view_is c.in-Some.ensures.within in
-    let a = look_asked s c.args.self.now _ c.args.seat q c.in-Some.lock c.self.view_is c.self.invariant c.requires c.index_mut-place.ensures.value looks within in
-    value_is s c.args.seat _ q _ a _ c.args.self.now c.self.view_is (wait_world s c.args.seat q _ c.waits.new.self c.in-Some.lock c.line_at.result c.index-line.result.now _ a.asked_is looks c.if-waits.ensures.served c.line_at.ensures.at (omega (arith, c.line_at.ensures.within, a.run.lines.count)) c.index-line.ensures (c.len-seen.ensures ∙ c.self.inside.log.ok.0) c.if-waits.ensures.seat)
+    let a = look_asked s c.args.self.now _ _ c.args.seat q c.in-Some.lock c.self.view_is c.self.invariant c.requires c.index_mut-place.ensures.value looks within in
+    value_is s c.args.seat _ _ q _ a _ c.args.self.now c.self.view_is (wait_world s c.args.seat q _ c.waits.new.self c.in-Some.lock c.line_at.result c.index-line.result.now _ a.asked_is looks c.if-waits.ensures.served c.line_at.ensures.at (omega (arith, c.line_at.ensures.within, a.run.lines.count)) c.index-line.ensures (c.len-seen.ensures ∙ c.self.inside.log.ok.0) c.if-waits.ensures.seat)
 
 pub returns-then-waits-clause-answer : goal.returns-then-waits-clause-answer
 returns-then-waits-clause-answer c =
@@ -33,5 +33,5 @@ returns-then-waits-clause-answer c =
     let q = c.index_mut-place.result.now in
     let looks = looks_seen _ q c.in-Some.lock c.place.view_is c.in-Some.ensures.here in
     let within = subst (λ (x : Place). c.in-Some.lock < all_locks x.client.setting) c.place.view_is c.in-Some.ensures.within in
-    let a = look_asked s c.args.self.now _ c.args.seat q c.in-Some.lock c.self.view_is c.self.invariant c.requires c.index_mut-place.ensures.value looks within in
-    told_is s c.args.seat _ q _ a c.args.self.now _ _ c.self.view_is refl refl
+    let a = look_asked s c.args.self.now _ _ c.args.seat q c.in-Some.lock c.self.view_is c.self.invariant c.requires c.index_mut-place.ensures.value looks within in
+    told_is s c.args.seat _ _ q _ a c.args.self.now _ _ c.self.view_is refl refl

@@ -1,0 +1,9 @@
+use Rattle.std.proofs.Common.{length, ap, ◌∙◌, sym}
+use Rattle.sh_world.specs.Columns.{Listed}
+use Rattle.sh_world.proofs.ColumnLemmas.{length_calls}
+use Rattle.sh_world.proofs.calls.Calls.len.Goals as goal
+
+pub returns : goal.returns
+returns c =
+    let i = c.self.inside in
+    c.len.ensures ∙ i.kept.ok.0 ∙ sym (ap (λ (l : Listed). length l.calls) (sym c.self.view_is) ∙ length_calls i.width i.kept.items i.words.items)

@@ -1,0 +1,169 @@
+// Calls in their columns.
+ghost use Rattle.std.specs.Prelude.{◌≡◌, ◌<◌, IfOk, length};
+ghost use Rattle.sh_world.specs.Columns.{IsReplyWide};
+
+use crate::tests::{finish, give};
+use crate::{Calls, World};
+use sh_base::{Config, ConfigParts, Value};
+use sh_map::{Call, Reply};
+use std::alloc::{AllocError, Global};
+use std::test::Fail;
+
+const LAST: u64 = u64::MAX;
+
+// A value of eight words, of which this is the first.
+fn eight(first: u64) -> Value
+    ensures { length result ≡ 8 }
+{
+    Value::of(&[first, 2, 3, 4, 5, 6, 7, LAST])
+}
+
+fn is_eight(value: &Value, first: u64) -> bool {
+    value.words() == [first, 2, 3, 4, 5, 6, 7, LAST].as_slice()
+}
+
+// A call of each kind.
+fn four(alloc: Global) -> Result<Calls, AllocError>
+    ensures width { IfOk result (λ c. c.width ≡ 8) }
+    ensures calls { IfOk result (λ c. length c.calls ≡ 4) }
+{
+    let mut calls = Calls::new(alloc, 8);
+    let value = eight(40);
+    calls.push(7, &Call::Put { key: 1, value })?;
+    calls.push(7, &Call::Get { key: 2 })?;
+    calls.push(7, &Call::Del { key: LAST })?;
+    calls.push(7, &Call::Range { low: 4, high: LAST })?;
+    Ok(calls)
+}
+
+// Whether this is the call of that place.
+fn is_given(call: &Call, place: usize) -> bool {
+    match call {
+        Call::Get { key } => place == 1 && *key == 2,
+        Call::Put { key, value } => place == 0 && *key == 1 && is_eight(value, 40),
+        Call::Del { key } => place == 2 && *key == LAST,
+        Call::Range { low, high } => place == 3 && *low == 4 && *high == LAST,
+    }
+}
+
+fn reply_of(kind: char) -> Reply
+    ensures { IsReplyWide 8 result }
+{
+    match kind {
+        's' => Reply::Some(eight(LAST)),
+        'r' => Reply::Rows { upto: LAST },
+        'f' => Reply::Full,
+        'w' => Reply::Worn { version: 65_535 },
+        _ => Reply::None,
+    }
+}
+
+// Whether a call was answered so: `s` for some with its value's first word, `n` for none, `r`, `f` and `w` for the
+// others, and `-` for not yet.
+fn is_reply(reply: &Option<Reply>, kind: char, first: u64) -> bool {
+    match reply {
+        None => kind == '-',
+        Some(Reply::Some(value)) => kind == 's' && is_eight(value, first),
+        Some(Reply::None) => kind == 'n',
+        Some(Reply::Rows { upto }) => kind == 'r' && *upto == LAST,
+        Some(Reply::Full) => kind == 'f',
+        Some(Reply::Worn { version }) => kind == 'w' && *version == 65_535,
+    }
+}
+
+// Whether the call at this place is that of the place, with this answer and these numbers.
+fn stands(calls: &Calls, place: usize, kind: char, first: u32, point: u32) -> bool {
+    if place >= calls.len() {
+        return false;
+    }
+    let given = calls.get(place);
+    given.seat == 7
+        && is_given(&given.call, place)
+        && is_reply(&given.reply, kind, LAST)
+        && given.first == first
+        && given.point == point
+}
+
+// Whether all four stand, this one answered and the others not.
+fn stand(calls: &Calls, answered: usize, kind: char) -> bool {
+    for place in 0..4 {
+        let right = if place == answered {
+            stands(calls, place, kind, 3, u32::MAX)
+        } else {
+            stands(calls, place, '-', 0, 0)
+        };
+        if !right {
+            return false;
+        }
+    }
+    true
+}
+
+// Of four calls this one is answered.
+fn answered(alloc: Global, place: usize, kind: char) -> Result<Calls, AllocError>
+    requires { place < 4 }
+{
+    let mut calls = four(alloc)?;
+    calls.answer(place, &reply_of(kind), 3, u32::MAX);
+    Ok(calls)
+}
+
+#[test]
+fn calls_of_each_kind_are_answered_by_each_reply(rt: HostRuntime) -> Result<(), Fail> {
+    let alloc = rt.alloc();
+    for place in 0..4 {
+        for kind in ['s', 'n', 'r', 'f', 'w'] {
+            let calls = answered(alloc, place, kind)?;
+            assert!(rt; stand(&calls, place, kind));
+        }
+    }
+    Ok(())
+}
+
+// Whether the world's call at this place was answered so.
+fn is_told(world: &World, place: usize, kind: char, first: u64) -> bool {
+    let calls = world.calls();
+    if place >= calls.len() {
+        return false;
+    }
+    is_reply(&calls.get(place).reply, kind, first)
+}
+
+#[test]
+fn a_world_keeps_values_of_eight_words(rt: HostRuntime) -> Result<(), Fail> {
+    let alloc = rt.alloc();
+    let cfg = Config::new(ConfigParts {
+        value_words: 8,
+        leaf: 4,
+        ..ConfigParts::default()
+    })
+    .unwrap_or_default();
+    let mut world = World::blank(alloc);
+    world.lay(alloc, &cfg)?;
+    give(
+        &mut world,
+        0,
+        &Call::Put {
+            key: 5,
+            value: eight(10),
+        },
+    )?;
+    give(&mut world, 0, &Call::Get { key: 5 })?;
+    give(
+        &mut world,
+        0,
+        &Call::Put {
+            key: 5,
+            value: eight(LAST),
+        },
+    )?;
+    give(&mut world, 0, &Call::Del { key: 5 })?;
+    give(&mut world, 0, &Call::Get { key: 5 })?;
+    finish(&mut world);
+    assert!(rt; is_told(&world, 0, 'n', 0));
+    assert!(rt; is_told(&world, 1, 's', 10));
+    assert!(rt; is_told(&world, 2, 's', 10));
+    assert!(rt; is_told(&world, 3, 's', LAST));
+    assert!(rt; is_told(&world, 4, 'n', 0));
+    Ok(())
+}

@@ -1,5 +1,5 @@
 -- The turns of a client under a lock that was fed senseless words.
-use Rattle.std.proofs.Common.{◌≡◌, ◌⊎◌, ℕ, ◌+◌, Option, Some, None, [], ◌∷◌, refl, sym, ap, subst, ◌∙◌}
+use Rattle.std.proofs.Common.{◌≡◌, ℕ, ◌+◌, Some, None, refl, sym, ap, subst, ◌∙◌}
 use Rattle.sh_image.specs.declared.inner.Image.{Image}
 use Rattle.sh_lock.specs.Locks.{release_of}
 use Rattle.sh_read.specs.declared.state.Progress.TheVariants.{Accepted, Odd}

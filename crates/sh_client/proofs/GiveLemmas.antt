@@ -1,5 +1,5 @@
 -- The turns of a client that gives a lock back.
-use Rattle.std.proofs.Common.{◌≡◌, ◌≢◌, ◌⊎◌, ℕ, zero, suc, ◌+◌, ◌-◌, ◌<◌, ◌≤◌, Bool, true, false, cond, Option, Some, None, List, [], ◌∷◌, length, drop, refl, sym, ap, subst, ◌∙◌, inl, inr, arith}
+use Rattle.std.proofs.Common.{◌≡◌, ◌≢◌, ◌⊎◌, ℕ, zero, suc, ◌+◌, ◌-◌, ◌<◌, ◌≤◌, Bool, true, false, cond, Option, None, List, [], ◌∷◌, length, drop, refl, sym, ap, subst, ◌∙◌, inl, inr, arith}
 use Rattle.std.specs.Prelude.{◌==◌, ◌||◌, slice_index}
 use Rattle.std.proofs.lemmas.Bool.Decides.{nat_tests}
 use Rattle.std.proofs.lemmas.List.{drop_all, length-replicate}
@@ -17,7 +17,6 @@ use Rattle.sh_client.proofs.ImageLemmas.{entry_is_whole, rewritten_count, rewrit
 use Rattle.sh_image.specs.Entries.{entry_words}
 use Rattle.sh_image.specs.declared.inner.Image.TheVariants.{Leaf as OfLeaf}
 use Rattle.sh_edit.specs.Rewriting.{rewritten}
-use Rattle.sh_lock.specs.declared.state.Release.{Release}
 use Rattle.sh_lock.specs.declared.state.Release.TheVariants.{Hand, Free}
 use Rattle.sh_lock.specs.Locks.{release_of}
 use Rattle.sh_decide.specs.declared.state.Aim.TheVariants.{Own}

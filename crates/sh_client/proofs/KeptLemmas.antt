@@ -1,5 +1,5 @@
 -- What no turn changes: the setting, the seat and the call.
-use Rattle.std.proofs.Common.{◌≡◌, ℕ, ◌+◌, ◌==◌, Bool, true, false, cond, Option, Some, None, length, refl}
+use Rattle.std.proofs.Common.{ℕ, ◌+◌, ◌==◌, Bool, true, false, cond, Option, Some, None, length, refl}
 use Rattle.sh_base.specs.Setting.{node_size}
 use Rattle.sh_alloc.specs.declared.state.ChunkWant.{ChunkWant}
 use Rattle.sh_alloc.specs.declared.state.ChunkWant.TheVariants as chunk
@@ -31,7 +31,7 @@ use Rattle.sh_decide.specs.Deciding.{decision_of}
 use Rattle.sh_client.specs.Feeds.{arrived, did, fed_by, fed_in, held_by, hold_by, loaded, read_by, reading, turned, turned_by, turned_in, went}
 use Rattle.sh_client.specs.Giving.{carried, counted, followed, left, released, writing}
 use Rattle.sh_client.specs.Machine.{Machine, handed_over, rewrite_done, sparing, split_done, to}
-use Rattle.sh_client.specs.Splitting.{all_spent, chunk_taken, growing, grown, halved, halved_by, raised, sought_by, splitting, topped_by, walked}
+use Rattle.sh_client.specs.Splitting.{all_spent, chunk_taken, growing, grown, halved, halved_by, sought_by, splitting, topped_by, walked}
 use Rattle.sh_decide.specs.Ways.{way_of}
 
 either : (m x y : Machine) (b : Bool) → Keeps m x → Keeps m y → Keeps m (cond b x y)

@@ -1,5 +1,5 @@
 -- What a READ leaves behind a word.
-use Rattle.std.proofs.Common.{◌≡◌, ◌≢◌, ℕ, ◌+◌, ◌-◌, ◌<◌, ◌≤◌, Bool, true, false, List, [], ◌∷◌, length, Some, None, refl, sym, ap, arith}
+use Rattle.std.proofs.Common.{◌≡◌, ◌≢◌, ℕ, ◌+◌, ◌-◌, ◌<◌, Bool, true, false, ◌∷◌, length, Some, None, refl, arith}
 use Rattle.std.specs.Prelude.{nat_lt}
 use Rattle.std.proofs.lemmas.Bool.Decides.{nat_tests}
 use Rattle.sh_base.specs.declared.config.ConfigParts.{ConfigParts}
@@ -9,7 +9,7 @@ use Rattle.sh_base.proofs.LayoutLemmas.{node_size_is}
 use Rattle.sh_image.specs.declared.read.Seen.{Seen}
 use Rattle.sh_image.specs.declared.read.Seen.TheVariants.{Leaf as LeafSeen, Inner as InnerSeen, Torn, TornEntry, Odd as OddSeen}
 use Rattle.sh_read.specs.Judging.{seen_of}
-use Rattle.sh_read.specs.Reads.{Reads, accepted, answer_to, fed_by, image_in, left_by, progress_of, reads_with, start_of, wanted}
+use Rattle.sh_read.specs.Reads.{Reads, answer_to, fed_by, left_by, progress_of, reads_with, start_of}
 use Rattle.sh_client.specs.Sound.{IsLoading, Leaves}
 
 some_is : {X : Type 0} (x : X) → Some x ≢ None

@@ -3,8 +3,6 @@ use Rattle.std.specs.Prelude.{Bool, true, false, Option, Some, None}
 use Rattle.sh_map.specs.declared.call.Reply.{Reply}
 use Rattle.sh_client.specs.declared.state.Phase.{Phase}
 use Rattle.sh_client.specs.declared.state.Phase.TheVariants.{Idle, Root, Read, Draw, Look, Grab, Hold, Seek, Fill, Waiting, Body, Unlock, Leave, Top, Raise, Swap, Ended}
-use Rattle.sh_client.specs.declared.state.Want.{Want}
-use Rattle.sh_client.specs.declared.state.Want.TheVariants as want
 use Rattle.sh_client.specs.Machine.{Machine}
 
 -- it has no call, or its call has ended

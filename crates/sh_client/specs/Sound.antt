@@ -1,7 +1,8 @@
 -- What a client keeps to, whatever words it is fed.
 use Rattle.std.specs.Prelude.{◌≡◌, ◌≢◌, ℕ, ◌+◌, ◌<◌, ◌≤◌, List, length, Option, Some, None}
 use Rattle.sh_base.specs.declared.config.ConfigParts.{ConfigParts}
-use Rattle.sh_base.specs.Setting.{all_seats, entry_size, node_size, nodes, IsNode}
+use Rattle.sh_base.specs.Layout.{lock_of}
+use Rattle.sh_base.specs.Setting.{all_locks, all_seats, entry_size, node_size, nodes, IsNode}
 use Rattle.sh_map.specs.declared.call.Call.{Call}
 use Rattle.sh_map.specs.declared.call.Call.TheVariants.{Get, Put, Del, Range}
 use Rattle.sh_map.specs.Calls.{IsInRange}
@@ -148,10 +149,23 @@ abbrev pub CanAddIn : ConfigParts → Aim → Option Image → Type 0
 CanAddIn p aim (Some image) = HasRoom p aim image × HasVersion image
 CanAddIn p aim None = ⊥
 
+-- while a client waits for a lock it keeps the lock's number
+abbrev pub KeepsLock : ConfigParts → (lock : ℕ) → Phase → Type 0
+KeepsLock p lock (Look aim node) = (lock ≡ lock_of p node) × (lock < all_locks p)
+KeepsLock p lock (Grab aim node) = (lock ≡ lock_of p node) × (lock < all_locks p)
+KeepsLock p lock phase = Unit {0}
+
+-- a phase for which no number is kept
+abbrev pub NeedsNoLock : Phase → Type 0
+NeedsNoLock (Look aim node) = ⊥
+NeedsNoLock (Grab aim node) = ⊥
+NeedsNoLock phase = Unit {0}
+
 -- the parts of a client are of one setting, and fit what it is at
-pub record IsClient (p : ConfigParts) (seat : ℕ) (spare : NodeRange) (call : Call) (reader : Reader) (chunks : Chunks) (body right : List ℕ) (phase : Phase) : Type 0 where
+pub record IsClient (p : ConfigParts) (seat : ℕ) (spare : NodeRange) (call : Call) (reader : Reader) (chunks : Chunks) (body right : List ℕ) (lock : ℕ) (phase : Phase) : Type 0 where
   pub one_setting : (reader.setting ≡ p) × (chunks.cfg.parts ≡ p)
   pub seat_is : seat < all_seats p
   pub in_range : IsInRange p call
   pub spares : AreSpare p spare
   pub sound : IsSound p spare call reader.reads chunks.walk body right phase
+  pub keeps_lock : KeepsLock p lock phase

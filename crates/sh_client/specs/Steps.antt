@@ -1,6 +1,5 @@
 -- A step inside a verb, or an exchange on a lock that is taken: the event that a client wants, which it makes itself.
 use Rattle.std.specs.Prelude.{◌≡◌, ℕ, ◌+◌, ◌<◌, ◌==◌, not, nat_lt, Bool, true, false, List, [], length, slice_index, Option, Some, None}
-use Rattle.sh_base.specs.declared.event.Event.{Event}
 use Rattle.sh_base.specs.Layout.{lock_of}
 use Rattle.sh_base.specs.Memory.{apply, at_of, found_by}
 use Rattle.sh_base.specs.Setting.{node_size, pool_words}

@@ -36,6 +36,7 @@ impl Client {
             chunks: Chunks::new(cfg, seat),
             body: Words::none(),
             right: Words::none(),
+            lock: 0,
             phase: Phase::Idle,
         })
     }

@@ -100,7 +100,8 @@ impl Client {
         requires { Stands self.old (phase.Draw aim node) }
         ensures { self.new ≡ to self.old (phase.Look aim node) }
     {
-        self.to(Phase::Look { aim, node });
+        self.lock = self.cfg.lock_of(node);
+        self.phase = Phase::Look { aim, node };
     }
 
     // The lock was handed over.
@@ -115,14 +116,13 @@ impl Client {
 
     // The exchange of the lock word found this.
     pub(crate) fn fed_grab(&mut self, aim: Aim, node: u32, word: u64)
-        requires { Stands self.old (phase.Grab aim node) }
+        requires stands { Stands self.old (phase.Grab aim node) }
+        requires phase { self.old.phase ≡ phase.Grab aim node }
         ensures { self.new ≡ fed_in self.old word (phase.Grab aim node) }
     {
         if word == 0 {
             self.start(node);
             self.to(Phase::Hold { aim, depth: 0 });
-        } else {
-            self.to(Phase::Grab { aim, node });
         }
     }
 

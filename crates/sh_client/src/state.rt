@@ -182,6 +182,8 @@ pub struct Client {
     pub(crate) chunks: Chunks,
     pub(crate) body: Words,
     pub(crate) right: Words,
+    // The lock for which it waits, where it does: it's worked out once, and not at each turn.
+    pub(crate) lock: u32,
     pub(crate) phase: Phase,
 }
 
@@ -193,5 +195,5 @@ impl Model for Client {
 
     ghost view = { λ c. record { setting = c.cfg.parts; seat = c.seat; spare = c.spare.range; tally = c.tally; call = c.call; reply = c.reply; reads = c.reading.reads; walk = c.chunks.walk; body = c.body; right = c.right; phase = c.phase } };
 
-    ghost invariant = { λ c. IsClient c.cfg.parts c.seat c.spare.range c.call c.reading c.chunks c.body c.right c.phase };
+    ghost invariant = { λ c. IsClient c.cfg.parts c.seat c.spare.range c.call c.reading c.chunks c.body c.right c.lock c.phase };
 }

@@ -12,7 +12,7 @@ ghost use Rattle.sh_client.specs.declared.state.Phase.TheVariants as phase;
 ghost use Rattle.sh_client.specs.Bodies.{answer_in};
 ghost use Rattle.sh_client.specs.Feeds.{back, loaded, reading};
 ghost use Rattle.sh_client.specs.Machine.{again, answering, handed_over, rewrite_done, right_hop, skipped_spent, skipped_worn, sparing, split_done, to};
-ghost use Rattle.sh_client.specs.Sound.{IsBody, IsLoading, IsThen, Leaves, Stands};
+ghost use Rattle.sh_client.specs.Sound.{IsBody, IsLoading, IsThen, Leaves, NeedsNoLock, Stands};
 ghost use Rattle.sh_client.specs.Splitting.{chunk_taken, walked, walking};
 
 use crate::tally::up;
@@ -46,9 +46,10 @@ fn answer_in(call: &Call, image: &Image) -> Reply
 }
 
 impl Client {
-    // Goes to another phase.
+    // Goes to another phase, but none in which it waits for a lock.
     pub(crate) fn to(&mut self, phase: Phase)
-        requires { Stands self.old phase }
+        requires stands { Stands self.old phase }
+        requires lock { NeedsNoLock phase }
         ensures { self.new ≡ to self.old phase }
     {
         self.phase = phase;

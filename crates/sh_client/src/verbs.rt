@@ -107,7 +107,7 @@ impl Client {
         ensures within { IfSome result (λ lock. lock < all_locks self.now.setting) }
     {
         match self.phase {
-            Phase::Look { node, .. } => Some(self.cfg.lock_of(node)),
+            Phase::Look { .. } => Some(self.lock),
             Phase::Idle
             | Phase::Root { .. }
             | Phase::Read { .. }
@@ -134,13 +134,12 @@ impl Client {
         requires stands { Stands self.old (phase.Grab aim node) }
         ensures { HasStepped words.now words.now self.old self.new result }
     {
-        let lock = self.cfg.lock_of(node);
-        let at = self.cfg.lock_word(lock);
+        let at = self.cfg.lock_word(self.lock);
         let found = words[at as usize];
         if found == 0 {
             return None;
         }
-        let event = Grab::new(&self.cfg, lock, self.seat).event();
+        let event = Grab::new(&self.cfg, self.lock, self.seat).event();
         Some(Step { event, found })
     }
 

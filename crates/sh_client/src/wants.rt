@@ -30,9 +30,7 @@ impl Client {
             Phase::Draw { node, .. } => Want::Draw {
                 lock: self.cfg.lock_of(node),
             },
-            Phase::Look { node, .. } => Want::Look {
-                lock: self.cfg.lock_of(node),
-            },
+            Phase::Look { .. } => Want::Look { lock: self.lock },
             Phase::Grab { node, .. } => self.want_grab(node),
             Phase::Seek { .. } | Phase::Top { .. } => self.want_count(),
             Phase::Fill { fresh, done, .. } => Want::Event(self.store_fresh(fresh, done)),

@@ -22,6 +22,7 @@ invariant_of-self c =
       in_range = c.self.invariant.in_range;
       spares = spare_left c.self.inside.cfg.parts _ _ _ h.0 h.1 h.2 (c.take-lowest.ensures.rest ∙ ap without_lowest c.fill.ensures);
       sound = tt;
+      keeps_lock = tt;
     }
 
 pub returns-clause-node : goal.returns-clause-node

@@ -1,4 +1,4 @@
-use Rattle.std.proofs.Common.{◌∙◌, ◌<◌, ap, subst}
+use Rattle.std.proofs.Common.{◌∙◌, ◌<◌, subst}
 use Rattle.sh_base.specs.Memory.{at_of}
 use Rattle.sh_base.specs.Setting.{pool_words}
 use Rattle.sh_client.specs.Machine.{Machine}

@@ -1,8 +1,8 @@
 -- The items of a sheet, one after another.
-use Rattle.std.proofs.Common.{◌≡◌, ◌≤◌, ◌<◌, ℕ, zero, suc, ◌+◌, ◌-◌, ◌^◌, List, [], ◌∷◌, length, take, get_or, refl, sym, ap, subst, ◌∙◌, arith}
+use Rattle.std.proofs.Common.{◌≡◌, ◌≤◌, ◌<◌, ℕ, zero, suc, ◌+◌, ◌-◌, ◌^◌, List, [], ◌∷◌, ◌++◌, length, take, get_or, refl, sym, ap, subst, ◌∙◌, arith}
 use Rattle.std.specs.Prelude.{All, Option, Some, None}
 use Rattle.std.specs.List.{fold, sum_by}
-use Rattle.std.proofs.lemmas.List.{length-append}
+use Rattle.std.proofs.lemmas.List.{append-nil, length-append, take_more}
 use Rattle.std.proofs.lemmas.List.Sums.{fold_more, sum_by-cons}
 use Rattle.sh_base.specs.declared.config.ConfigParts.{ConfigParts}
 use Rattle.sh_map.specs.declared.call.Call.{Call}
@@ -12,7 +12,9 @@ use Rattle.sh_sheet.specs.Sheet.{calls_of}
 use Rattle.sh_world.specs.declared.state.Given.{Given}
 use Rattle.sh_world.specs.States.{Place, State}
 use Rattle.sh_world.specs.Turning.{give_at}
-use Rattle.sh_replay.specs.Course.{given_by, turned_by}
+use Rattle.sh_replay.specs.declared.turns.TurnRow.{TurnRow}
+use Rattle.sh_replay.specs.Course.{given_by, turned_by, turns_by}
+use Rattle.sh_replay.specs.TurnRows.{made_by, turn_rows}
 use Rattle.sh_replay.specs.Serving.{IsServable}
 use Rattle.sh_replay.proofs.TurnLemmas.{give_seats, give_setting, turns_seats, turns_setting}
 
@@ -94,3 +96,31 @@ few_given first world items i so none few = omega (arith, ap (λ (t : State). le
 
 pub served_at : (p : ConfigParts) (items : List Item) (i : ℕ) (item other : Item) → All (IsServable p) items → i < length items → item ≡ get_or items i item → item ≡ other → IsServable p other
 served_at p items i item other all below is e = subst (IsServable p) (sym is ∙ e) (all i item below)
+
+-- ---- turn rows
+
+rows_append : (xs ys : List Item) → turn_rows (xs ++ ys) ≡ turn_rows xs ++ turn_rows ys
+rows_append [] ys = refl
+rows_append (Ask seat call ∷ xs) ys = rows_append xs ys
+rows_append (Mark seat n ∷ xs) ys = rows_append xs ys
+rows_append (After seat n ∷ xs) ys = rows_append xs ys
+rows_append (Turn seat count ∷ xs) ys = ap (λ (rs : List TurnRow). record { seat = seat; count = count } ∷ rs) (rows_append xs ys)
+
+-- one item more
+pub rows_more : (items : List Item) (i : ℕ) (item : Item) (old new : List TurnRow) → i < length items → item ≡ get_or items i item → old ≡ turn_rows (take i items) → new ≡ old ++ turn_rows (item ∷ []) → new ≡ turn_rows (take (i + 1) items)
+rows_more items i item old new below is so e =
+    e ∙ ap (λ (rs : List TurnRow). rs ++ turn_rows (item ∷ [])) so ∙ sym (rows_append (take i items) (item ∷ [])) ∙ ap turn_rows (ap (λ (x : Item). take i items ++ x ∷ []) is ∙ sym (take_more items i item below))
+
+pub no_row : (old : List TurnRow) (item : Item) → ((seat count : ℕ) → item ≡ Turn seat count → ⊥) → old ≡ old ++ turn_rows (item ∷ [])
+no_row old (Ask seat call) not = sym (append-nil old)
+no_row old (Mark seat n) not = sym (append-nil old)
+no_row old (After seat n) not = sym (append-nil old)
+no_row old (Turn seat count) not = absurd (not seat count refl)
+
+-- their turns are those of the items
+pub rows_turn : (items : List Item) (s : State) → fold made_by s (turn_rows items) ≡ fold turned_by s items
+rows_turn [] s = refl
+rows_turn (Ask seat call ∷ items) s = rows_turn items s
+rows_turn (Mark seat n ∷ items) s = rows_turn items s
+rows_turn (After seat n ∷ items) s = rows_turn items s
+rows_turn (Turn seat count ∷ items) s = rows_turn items (turns_by s seat count)

@@ -1,7 +1,10 @@
 -- The lines of calls, one after another.
-use Rattle.std.proofs.Common.{◌≡◌, ◌<◌, ℕ, ◌+◌, true, List, [], ◌∷◌, ◌++◌, map, length, take, drop, get_or, Option, Some, None, refl, sym, ap, ◌∙◌, append_assoc, arith}
+use Rattle.std.proofs.Common.{◌≡◌, ◌<◌, ◌≤◌, Bool, ℕ, ◌+◌, true, false, List, [], ◌∷◌, ◌++◌, map, length, take, drop, get_or, Option, Some, None, refl, sym, ap, ◌∙◌, append_assoc, arith}
 use Rattle.std.proofs.lemmas.List.{append-nil, drop_more, length-take-le, take-append-drop, take_more}
-use Rattle.std.specs.Prelude.{is_some}
+use Rattle.std.proofs.lemmas.List.Folds.{list_all_at, list_all_more}
+use Rattle.std.proofs.lemmas.List.Sums.{sum_by_more}
+use Rattle.std.proofs.lemmas.Option.{get_or_from_slice_get, slice_get_within}
+use Rattle.std.specs.Prelude.{◌&&◌, if◌then◌else◌, is_some, slice_get}
 use Rattle.sh_map.specs.declared.call.Reply.{Reply}
 use Rattle.sh_map.specs.declared.book.Done.{Done}
 use Rattle.sh_port.specs.Port.{AppendsFront}
@@ -12,7 +15,7 @@ use Rattle.sh_text.proofs.Fronts.{front_more}
 use Rattle.sh_world.specs.declared.state.Given.{Given}
 use Rattle.sh_world.specs.States.{done_in, dones_from}
 use Rattle.sh_replay.specs.Course.{have_ended}
-use Rattle.sh_replay.specs.Output.{lines_from, text_with}
+use Rattle.sh_replay.specs.Output.{count_ended, ended_by, lines_from, text_with}
 use Rattle.sh_replay.specs.Served.{done_item, item_of}
 use Rattle.sh_replay.proofs.TurnLemmas.{both_left, both_right}
 
@@ -37,6 +40,33 @@ module _ (calls : List Given) (i : ℕ) (g : Given) (n : ℕ) (below : i < lengt
   -- one line more
   pub lines_more : lines_from 1 (take (i + 1) calls) ≡ lines_from 1 (take i calls) ++ text_with n g g.reply
   lines_more = ap (lines_from 1) (take_more calls i g below ∙ ap (λ x. take i calls ++ x ∷ []) is) ∙ lines_append 1 (take i calls) (g ∷ []) ∙ ap (λ k. lines_from 1 (take i calls) ++ lines_from k (g ∷ [])) place ∙ ap (λ t. lines_from 1 (take i calls) ++ t) (append-nil (text_with n g g.reply))
+
+-- ---- whether a call has ended
+
+one_at_most : (b : Bool) → (if b then 1 else 0) ≤ 1
+one_at_most true = omega arith
+one_at_most false = omega arith
+
+module _ (calls : List Given) (i : ℕ) (g : Given) (here : slice_get calls i ≡ Some g) where
+  below : i < length calls
+  below = slice_get_within calls i g here
+
+  same : get_or calls i g ≡ g
+  same = get_or_from_slice_get calls i g g here
+
+  pub ended_more : have_ended (take i calls) ≡ true → is_some g.reply ≡ true → have_ended (take (i + 1) calls) ≡ true
+  ended_more so e = list_all_more (λ (x : Given). is_some x.reply) calls i g below ∙ (λ t. so t && (ap (λ (x : Given). is_some x.reply) same ∙ e) t)
+
+  pub open_there : is_some g.reply ≡ false → have_ended calls ≡ false
+  open_there e = list_all_at (λ (x : Given). is_some x.reply) calls i g below (ap (λ (x : Given). is_some x.reply) same ∙ e)
+
+  -- one more is counted
+  pub count_more : (count r : ℕ) → count ≡ count_ended (take i calls) → count ≤ i → r ≡ ended_by g → (count + r ≡ count_ended (take (i + 1) calls)) × (count + r ≤ i + 1)
+  count_more count r so le is =
+      let one = sum_by_more ended_by calls i g below in
+      let read = is ∙ ap ended_by (sym same) in
+      let small = one_at_most (is_some g.reply) in
+      (omega (arith, so, one, read), omega (arith, le, is, small))
 
 -- ---- where every call has ended
 

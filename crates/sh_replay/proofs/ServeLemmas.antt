@@ -23,12 +23,14 @@ use Rattle.sh_world.specs.States.{State, dones_of, fresh_from, fresh_state}
 use Rattle.sh_world.specs.Turning.{is_idle_at}
 use Rattle.sh_replay.specs.declared.ending.Finish.{Finish}
 use Rattle.sh_replay.specs.declared.ending.Finish.TheVariants.{Done, Spent}
-use Rattle.sh_replay.specs.Course.{budget_of, course, finished, given_by, have_ended, turned_by, HasFinished, Rounds}
-use Rattle.sh_replay.specs.Served.{is_call, item_of, row_of, HasEnded, HasServed, HoldsAll, HoldsRows}
+use Rattle.sh_replay.specs.Course.{budget_of, course, finished, given_by, have_ended, last_round, turned_by, HasFinished, Rounds}
+use Rattle.sh_replay.specs.Served.{is_call, item_of, row_of, HasServed, HoldsAll, HoldsRows}
 use Rattle.sh_replay.specs.Serving.{IsServable}
+use Rattle.sh_replay.specs.declared.turns.TurnRow.{TurnRow}
+use Rattle.sh_replay.specs.TurnRows.{made_by, turn_rows}
 use Rattle.sh_replay.proofs.CallLemmas.{all_given, finished_same, map_size}
 use Rattle.sh_replay.proofs.EndLemmas.{all_rest, idle_ended}
-use Rattle.sh_replay.proofs.ItemLemmas.{given_seats, given_setting, turned_seats}
+use Rattle.sh_replay.proofs.ItemLemmas.{given_seats, given_setting, rows_turn, turned_seats}
 use Rattle.sh_replay.proofs.RoundLemmas.{last_seats}
 
 -- what a world's laws give
@@ -77,14 +79,21 @@ calls_counted (Mark seat n ∷ is) = omega (arith, calls_counted is, sum_by-cons
 calls_counted (After seat n ∷ is) = omega (arith, calls_counted is, sum_by-cons calls_of (After seat n) is)
 calls_counted (Turn seat count ∷ is) = omega (arith, calls_counted is, sum_by-cons calls_of (Turn seat count) is)
 
-ended_is : (budget : ℕ) (r : Rounds) (finish : Finish) → HasFinished budget r finish → HasEnded r.world finish
-ended_is budget r (Done turns) h = h.0
-ended_is budget r (Spent turns) h = tt
-
 some_seats : (p : ConfigParts) → IsSetting p → 0 < all_seats p
 some_seats p h = product p.computes p.seats h.ranged.computes.0 h.ranged.seats.0 where
   product : (a b : ℕ) → 1 ≤ a → 1 ≤ b → 0 < a * b
   product a b x y = grind arith
+
+-- the turns of the rows that were kept, and the rounds behind them, are what finishes the items
+pub rows_taken : (given taken : State) (sheet slice : List Item) (rows lent : List TurnRow) → taken ≡ fold made_by given lent → lent ≡ rows → rows ≡ turn_rows slice → slice ≡ sheet → taken ≡ fold turned_by given sheet
+rows_taken given taken sheet slice rows lent is lent_is rows_are same = is ∙ ap (fold made_by given) (lent_is ∙ rows_are) ∙ rows_turn slice given ∙ ap (fold turned_by given) same
+
+module _ (given taken : State) (sheet : List Item) (budget : ℕ) (is : taken ≡ fold turned_by given sheet) where
+  pub rounds_last : (after : State) → after ≡ (last_round (record { world = taken; left = budget })).world → after ≡ (finished given sheet budget).world
+  rounds_last after last = last ∙ ap (λ (s : State). (last_round (record { world = s; left = budget })).world) is
+
+  pub rounds_end : (finish : Finish) → HasFinished budget (last_round (record { world = taken; left = budget })) finish → HasFinished budget (finished given sheet budget) finish
+  rounds_end finish ends = subst (λ (s : State). HasFinished budget (last_round (record { world = s; left = budget })) finish) is ends
 
 module _ (p : ConfigParts) (lawful : IsSetting p) (items sheet : List Item) (laid given : State) (is : laid ≡ fresh_state p laid.words) (same : items ≡ sheet) (so : given ≡ fold given_by laid items) (can : All (IsServable p) sheet) where
   pub laid_seats : length laid.seats ≡ all_seats laid.setting
@@ -108,9 +117,6 @@ module _ (p : ConfigParts) (lawful : IsSetting p) (items sheet : List Item) (lai
   module _ (budget calls : ℕ) (budget_is : budget ≡ budget_of calls) (calls_are : calls ≡ length given.calls) (after : State) (finish : Finish) (last : after ≡ (finished given sheet budget).world) (ends : HasFinished budget (finished given sheet budget) finish) where
     pub after_laid : 0 < length after.seats
     after_laid = omega (arith, ap (λ (s : State). length s.seats) last, last_seats (fold turned_by given sheet) budget, turned_seats sheet given, given_laid)
-
-    pub after_ended : HasEnded after finish
-    after_ended = subst (λ (s : State). HasEnded s finish) (sym last) (ended_is budget (finished given sheet budget) finish ends)
 
     budget_same : budget ≡ budget_of (sum_by calls_of sheet)
     budget_same = budget_is ∙ ap budget_of (calls_are ∙ given_count)

@@ -1,4 +1,5 @@
 pub mod Course
+pub mod TurnRows
 pub mod Thinning
 pub mod Output
 pub mod Serving

@@ -13,7 +13,7 @@ use sh_port::Sink;
 use sh_text::{
     Points, WriteError, write_call, write_end, write_map, write_pending, write_unfinished,
 };
-use sh_world::Given;
+use sh_world::{Calls, Given};
 use std::alloc::Global;
 
 // Writes the line of call `n`.
@@ -47,18 +47,14 @@ fn write_given<K: Sink>(
 }
 
 // Writes the lines of these calls.
-fn write_given_calls<K: Sink>(
-    alloc: Global,
-    sink: &mut K,
-    calls: &[Given],
-) -> Result<(), WriteError>
-    requires { length calls.now ≤ 1000000 }
-    ensures ok { OnOk result (Appends (K.held sink.old) (K.held sink.new) (lines_from 1 calls.now)) }
-    ensures err { OnErr result (AppendsFront (K.held sink.old) (K.held sink.new) (lines_from 1 calls.now)) }
+fn write_given_calls<K: Sink>(alloc: Global, sink: &mut K, calls: &Calls) -> Result<(), WriteError>
+    requires { length calls.now.calls ≤ 1000000 }
+    ensures ok { OnOk result (Appends (K.held sink.old) (K.held sink.new) (lines_from 1 calls.now.calls)) }
+    ensures err { OnErr result (AppendsFront (K.held sink.old) (K.held sink.new) (lines_from 1 calls.now.calls)) }
     ensures cause { HasWriteCause (K.faults sink.old) (K.faults sink.new) result }
 {
     for i in 0..calls.len() {
-        match write_given(alloc, sink, i as u32 + 1, &calls[i]) {
+        match write_given(alloc, sink, i as u32 + 1, &calls.get(i)) {
             Ok(()) => {}
             Err(error) => return Err(error),
         }
@@ -136,13 +132,13 @@ fn ended_by(given: &Given) -> u64
 }
 
 // How many of the calls have ended.
-fn count_ended(calls: &[Given]) -> u64
-    requires { length calls.now ≤ 1000000 }
-    ensures { result ≡ count_ended calls.now }
+fn count_ended(calls: &Calls) -> u64
+    requires { length calls.now.calls ≤ 1000000 }
+    ensures { result ≡ count_ended calls.now.calls }
 {
     let mut count = 0;
-    for given in calls {
-        count += ended_by(given);
+    for i in 0..calls.len() {
+        count += ended_by(&calls.get(i));
     }
     count
 }
@@ -152,13 +148,13 @@ fn write_last_lines<K: Sink>(
     alloc: Global,
     sink: &mut K,
     asked: bool,
-    calls: &[Given],
+    calls: &Calls,
     rows: &[Row],
 ) -> Result<(), WriteError>
-    requires calls { length calls.now ≤ 1000000 }
+    requires calls { length calls.now.calls ≤ 1000000 }
     requires rows { length rows.now ≤ 4294967296 }
-    ensures ok { OnOk result (Appends (K.held sink.old) (K.held sink.new) (last_lines asked calls.now rows.now)) }
-    ensures err { OnErr result (AppendsFront (K.held sink.old) (K.held sink.new) (last_lines asked calls.now rows.now)) }
+    ensures ok { OnOk result (Appends (K.held sink.old) (K.held sink.new) (last_lines asked calls.now.calls rows.now)) }
+    ensures err { OnErr result (AppendsFront (K.held sink.old) (K.held sink.new) (last_lines asked calls.now.calls rows.now)) }
     ensures cause { HasWriteCause (K.faults sink.old) (K.faults sink.new) result }
 {
     if have_ended(calls) {
@@ -176,13 +172,13 @@ pub fn write_lines<K: Sink>(
     alloc: Global,
     sink: &mut K,
     asked: bool,
-    calls: &[Given],
+    calls: &Calls,
     rows: &[Row],
 ) -> Result<(), WriteError>
-    requires calls { length calls.now ≤ 1000000 }
+    requires calls { length calls.now.calls ≤ 1000000 }
     requires rows { length rows.now ≤ 4294967296 }
-    ensures ok { OnOk result (Appends (K.held sink.old) (K.held sink.new) (text_of asked calls.now rows.now)) }
-    ensures err { OnErr result (AppendsFront (K.held sink.old) (K.held sink.new) (text_of asked calls.now rows.now)) }
+    ensures ok { OnOk result (Appends (K.held sink.old) (K.held sink.new) (text_of asked calls.now.calls rows.now)) }
+    ensures err { OnErr result (AppendsFront (K.held sink.old) (K.held sink.new) (text_of asked calls.now.calls rows.now)) }
     ensures cause { HasWriteCause (K.faults sink.old) (K.faults sink.new) result }
 {
     match write_given_calls(alloc, sink, calls) {

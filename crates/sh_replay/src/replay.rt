@@ -64,13 +64,14 @@ fn replay<S: Source, K: Sink>(
         Err(SheetFault::TooMany) => return Status::TooMany,
         Err(SheetFault::NoMemory) => return Status::NoMemory,
     };
+    drop(bytes);
     if let Some(at) = first_unserved(sheet.as_slice()) {
         return Status::BadRow {
             row: sheet.row_of(at),
             cause: RowCause::NotYet,
         };
     }
-    let Ok((served, finish, rows)) = serve(alloc, cfg, &sheet) else {
+    let Ok((served, finish, rows)) = serve(alloc, cfg, sheet) else {
         return Status::NoMemory;
     };
     *world = served;

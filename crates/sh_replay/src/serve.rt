@@ -9,7 +9,7 @@ ghost use Rattle.sh_replay.specs.Serving.{IsServable};
 ghost use Rattle.sh_replay.specs.Served.{HasEnded, HasServed, HoldsRows};
 
 use crate::Finish;
-use crate::turns::finish;
+use crate::turns::{finish_rounds, take_all, turn_rows};
 use sh_base::Config;
 use sh_map::Rows;
 use sh_sheet::{Item, Sheet};
@@ -55,21 +55,20 @@ fn rows_in(alloc: Global, world: &World, finish: &Finish) -> Result<Rows, AllocE
 }
 
 /// A world that was laid and has served the sheet's calls, how its rounds ended, and where every call has ended the rows
-/// that its words hold.
-pub fn serve(
-    alloc: Global,
-    cfg: &Config,
-    sheet: &Sheet,
-) -> Result<(World, Finish, Rows), AllocError>
-    requires items { All (IsServable (parts_of cfg.now)) sheet.now.items }
-    requires few { sum_by calls_of sheet.now.items ≤ 1000000 }
-    ensures { IfOk result (λ r. HasServed (parts_of cfg.now) sheet.now.items r.0 r.1 r.2) }
+/// that its words hold. The sheet is let go before the first turn, but for its turn rows.
+pub fn serve(alloc: Global, cfg: &Config, sheet: Sheet) -> Result<(World, Finish, Rows), AllocError>
+    requires items { All (IsServable (parts_of cfg.now)) sheet.items }
+    requires few { sum_by calls_of sheet.items ≤ 1000000 }
+    ensures { IfOk result (λ r. HasServed (parts_of cfg.now) sheet.items r.0 r.1 r.2) }
 {
     let mut world = World::blank(alloc);
     world.lay(alloc, cfg)?;
     give_all(&mut world, sheet.as_slice())?;
+    let turns = turn_rows(alloc, sheet.as_slice())?;
+    drop(sheet);
     let budget = budget_of(world.calls().len());
-    let finish = finish(&mut world, sheet, budget);
+    take_all(&mut world, &turns);
+    let finish = finish_rounds(&mut world, budget);
     world.keeps_the_laws();
     let rows = rows_in(alloc, &world, &finish)?;
     Ok((world, finish, rows))

@@ -1,12 +1,21 @@
 // The turns of a replay: those that the sheet's rows name, and then the finishing rounds.
-ghost use Rattle.std.specs.Prelude.{◌≡◌, ◌≢◌, ◌≤◌, ◌<◌, ◌+◌, ℕ, [], All, length, take};
+ghost use Rattle.std.specs.Prelude.{◌≡◌, ◌≢◌, ◌≤◌, ◌<◌, ◌+◌, ℕ, [], All, IfOk, length, take};
 ghost use Rattle.std.specs.List.{fold, range_with_len};
 ghost use Rattle.sh_replay.specs.Course.{ask, finished, have_ended, last_round, turned_by, turns_by, HasFinished};
 ghost use Rattle.sh_replay.specs.Thinning.{AllIdle, Thins};
+ghost use Rattle.sh_replay.specs.TurnRows.{made_by, turn_rows};
 
 use crate::Finish;
 use sh_sheet::{Item, Sheet};
-use sh_world::{Given, Turn, World};
+use sh_world::{Calls, Turn, World};
+use std::alloc::{AllocError, Global};
+
+// A row of turns.
+#[derive(Clone, Copy, Debug)]
+pub(crate) struct TurnRow {
+    pub(crate) seat: u32,
+    pub(crate) count: u64,
+}
 
 // What a round leaves: how many seats took a turn, and how many turns may still be made.
 #[derive(Clone, Copy, Debug)]
@@ -38,6 +47,31 @@ fn take_rows(world: &mut World, items: &[Item])
         if let Item::Turn { seat, count } = item {
             take_turns(world, *seat, *count);
         }
+    }
+}
+
+// The rows of turns among these items, in their order.
+pub(crate) fn turn_rows(alloc: Global, items: &[Item]) -> Result<Vec<TurnRow>, AllocError>
+    ensures { IfOk result (λ v. v.items ≡ turn_rows items.now) }
+{
+    let mut rows = Vec::new(alloc);
+    for item in items {
+        if let Item::Turn { seat, count } = item {
+            rows.push(TurnRow {
+                seat: *seat,
+                count: *count,
+            })?;
+        }
+    }
+    Ok(rows)
+}
+
+// The turns of these rows, in their order.
+pub(crate) fn take_all(world: &mut World, rows: &[TurnRow])
+    ensures { world.new ≡ fold made_by world.old rows.now }
+{
+    for row in rows {
+        take_turns(world, row.seat, row.count);
     }
 }
 
@@ -107,10 +141,31 @@ fn rounds(world: &mut World, budget: u64) -> u64
 }
 
 /// Whether every call has ended.
-pub fn have_ended(calls: &[Given]) -> bool
-    ensures { result ≡ have_ended calls.now }
+pub fn have_ended(calls: &Calls) -> bool
+    ensures { result ≡ have_ended calls.now.calls }
 {
-    calls.iter().all(|given| given.reply.is_some())
+    for i in 0..calls.len() {
+        if calls.get(i).reply.is_none() {
+            return false;
+        }
+    }
+    true
+}
+
+// The rounds of a world whose turn rows were made, and how they ended.
+pub(crate) fn finish_rounds(world: &mut World, budget: u64) -> Finish
+    requires { 0 < length world.old.seats }
+    ensures course { world.new ≡ (last_round (record { world = world.old; left = budget })).world }
+    ensures finish { HasFinished budget (last_round (record { world = world.old; left = budget })) result }
+{
+    world.keeps_the_laws();
+    let turns = budget - rounds(world, budget);
+    world.keeps_the_laws();
+    if have_ended(world.calls()) {
+        Finish::Done(turns)
+    } else {
+        Finish::Spent(turns)
+    }
 }
 
 /// Serves the calls that the world was given: first come the turns of the sheet's rows, in their order, then rounds of
@@ -122,13 +177,6 @@ pub fn finish(world: &mut World, sheet: &Sheet, budget: u64) -> Finish
     ensures course { world.new ≡ (finished world.old sheet.now.items budget).world }
     ensures finish { HasFinished budget (finished world.old sheet.now.items budget) result }
 {
-    world.keeps_the_laws();
     take_rows(world, sheet.as_slice());
-    let turns = budget - rounds(world, budget);
-    world.keeps_the_laws();
-    if have_ended(world.calls()) {
-        Finish::Done(turns)
-    } else {
-        Finish::Spent(turns)
-    }
+    finish_rounds(world, budget)
 }

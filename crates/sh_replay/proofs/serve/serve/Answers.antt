@@ -1,29 +1,29 @@
-use Rattle.std.proofs.Common.{length, refl, ap, arith}
-use Rattle.sh_replay.proofs.ServeLemmas.{after_ended, after_laid, given_count, given_laid, has_served, laid_seats}
+use Rattle.std.proofs.Common.{length, ap, ◌∙◌, arith}
+use Rattle.sh_replay.proofs.ItemLemmas.{turned_seats}
+use Rattle.sh_replay.proofs.ServeLemmas.{after_laid, given_count, given_laid, has_served, rounds_end, rounds_last, rows_taken}
 use Rattle.sh_replay.proofs.serve.serve.Goals as goal
 
-pub give_all-requires-clause-seats : goal.give_all-requires-clause-seats
-give_all-requires-clause-seats c = laid_seats c.args.cfg.now.parts c.args.cfg.now.lawful c.args.sheet.now.items c.args.sheet.now.items c.lay.new.self _ c.in_ok-lay.ensures.ok refl refl c.requires.items
-
 pub budget_of-budget-requires : goal.budget_of-budget-requires
-budget_of-budget-requires c = omega (arith, ap length c.calls.ensures, given_count c.args.cfg.now.parts c.args.cfg.now.lawful c.as_slice.result.now c.args.sheet.now.items c.lay.new.self c.give_all.new.world c.in_ok-lay.ensures.ok c.as_slice.ensures c.in_ok-give_all.ensures c.requires.items, c.requires.few)
+budget_of-budget-requires c = omega (arith, c.len.ensures, ap length c.calls.ensures, given_count c.args.cfg.now.parts c.args.cfg.now.lawful c.as_slice.result.now c.args.sheet.items c.lay.new.self c.give_all.new.world c.in_ok-lay.ensures.ok c.as_slice.ensures c.in_ok-give_all.ensures c.requires.items, c.requires.few)
 
-pub finish-finish-requires : goal.finish-finish-requires
-finish-finish-requires c = given_laid c.args.cfg.now.parts c.args.cfg.now.lawful c.as_slice.result.now c.args.sheet.now.items c.lay.new.self c.give_all.new.world c.in_ok-lay.ensures.ok c.as_slice.ensures c.in_ok-give_all.ensures c.requires.items
+pub finish_rounds-finish-requires : goal.finish_rounds-finish-requires
+finish_rounds-finish-requires c =
+    let taken = rows_taken c.give_all.new.world c.take_all.new.world c.args.sheet.items c.as_slice-2.result.now c.in_ok-turns.turns.items c.deref.result.now c.take_all.ensures c.deref.ensures.value c.in_ok-turns.ensures c.as_slice-2.ensures in
+    omega (arith, ap (λ w. length w.seats) taken, turned_seats c.args.sheet.items c.give_all.new.world, given_laid c.args.cfg.now.parts c.args.cfg.now.lawful c.as_slice.result.now c.args.sheet.items c.lay.new.self c.give_all.new.world c.in_ok-lay.ensures.ok c.as_slice.ensures c.in_ok-give_all.ensures c.requires.items)
 
 pub keeps_the_laws-requires : goal.keeps_the_laws-requires
-keeps_the_laws-requires c = after_laid c.args.cfg.now.parts c.args.cfg.now.lawful c.as_slice.result.now c.args.sheet.now.items c.lay.new.self c.give_all.new.world c.in_ok-lay.ensures.ok c.as_slice.ensures c.in_ok-give_all.ensures c.requires.items
-    c.budget_of-budget.result _ c.budget_of-budget.ensures (ap length c.calls.ensures) c.finish-finish.new.world c.finish-finish.result c.finish-finish.ensures.course c.finish-finish.ensures.finish
-
-pub rows_in-requires-clause-laid : goal.rows_in-requires-clause-laid
-rows_in-requires-clause-laid c = after_laid c.args.cfg.now.parts c.args.cfg.now.lawful c.as_slice.result.now c.args.sheet.now.items c.lay.new.self c.give_all.new.world c.in_ok-lay.ensures.ok c.as_slice.ensures c.in_ok-give_all.ensures c.requires.items
-    c.budget_of-budget.result _ c.budget_of-budget.ensures (ap length c.calls.ensures) c.finish-finish.new.world c.finish-finish.result c.finish-finish.ensures.course c.finish-finish.ensures.finish
-
-pub rows_in-requires-clause-ended : goal.rows_in-requires-clause-ended
-rows_in-requires-clause-ended c = after_ended c.args.cfg.now.parts c.args.cfg.now.lawful c.as_slice.result.now c.args.sheet.now.items c.lay.new.self c.give_all.new.world c.in_ok-lay.ensures.ok c.as_slice.ensures c.in_ok-give_all.ensures c.requires.items
-    c.budget_of-budget.result _ c.budget_of-budget.ensures (ap length c.calls.ensures) c.finish-finish.new.world c.finish-finish.result c.finish-finish.ensures.course c.finish-finish.ensures.finish
+keeps_the_laws-requires c =
+    let taken = rows_taken c.give_all.new.world c.take_all.new.world c.args.sheet.items c.as_slice-2.result.now c.in_ok-turns.turns.items c.deref.result.now c.take_all.ensures c.deref.ensures.value c.in_ok-turns.ensures c.as_slice-2.ensures in
+    after_laid c.args.cfg.now.parts c.args.cfg.now.lawful c.as_slice.result.now c.args.sheet.items c.lay.new.self c.give_all.new.world c.in_ok-lay.ensures.ok c.as_slice.ensures c.in_ok-give_all.ensures c.requires.items
+    c.budget_of-budget.result _ c.budget_of-budget.ensures (c.len.ensures ∙ ap length c.calls.ensures) c.finish_rounds-finish.new.world c.finish_rounds-finish.result
+    (rounds_last c.give_all.new.world c.take_all.new.world c.args.sheet.items c.budget_of-budget.result taken c.finish_rounds-finish.new.world c.finish_rounds-finish.ensures.course)
+    (rounds_end c.give_all.new.world c.take_all.new.world c.args.sheet.items c.budget_of-budget.result taken c.finish_rounds-finish.result c.finish_rounds-finish.ensures.finish)
 
 pub returns : goal.returns
-returns c = has_served c.args.cfg.now.parts c.args.cfg.now.lawful c.as_slice.result.now c.args.sheet.now.items c.lay.new.self c.give_all.new.world c.in_ok-lay.ensures.ok c.as_slice.ensures c.in_ok-give_all.ensures c.requires.items
-    c.budget_of-budget.result _ c.budget_of-budget.ensures (ap length c.calls.ensures) c.finish-finish.new.world c.finish-finish.result c.finish-finish.ensures.course c.finish-finish.ensures.finish
+returns c =
+    let taken = rows_taken c.give_all.new.world c.take_all.new.world c.args.sheet.items c.as_slice-2.result.now c.in_ok-turns.turns.items c.deref.result.now c.take_all.ensures c.deref.ensures.value c.in_ok-turns.ensures c.as_slice-2.ensures in
+    has_served c.args.cfg.now.parts c.args.cfg.now.lawful c.as_slice.result.now c.args.sheet.items c.lay.new.self c.give_all.new.world c.in_ok-lay.ensures.ok c.as_slice.ensures c.in_ok-give_all.ensures c.requires.items
+    c.budget_of-budget.result _ c.budget_of-budget.ensures (c.len.ensures ∙ ap length c.calls.ensures) c.finish_rounds-finish.new.world c.finish_rounds-finish.result
+    (rounds_last c.give_all.new.world c.take_all.new.world c.args.sheet.items c.budget_of-budget.result taken c.finish_rounds-finish.new.world c.finish_rounds-finish.ensures.course)
+    (rounds_end c.give_all.new.world c.take_all.new.world c.args.sheet.items c.budget_of-budget.result taken c.finish_rounds-finish.result c.finish_rounds-finish.ensures.finish)
     c.in_ok-rows.rows c.in_ok-lay.ensures.laid c.requires.few (c.keeps_the_laws.ensures.lawful, c.keeps_the_laws.ensures.running) c.in_ok-rows.ensures

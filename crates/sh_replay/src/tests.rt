@@ -29,7 +29,7 @@ fn replay_in_pieces(
     let mut sink = ListSink::new(alloc, 1_048_576, piece, vec![in alloc; failing_write]?)?;
     let mut world = World::blank(alloc);
     let status = replay_top(alloc, words, &mut world, &mut source, &mut sink);
-    let blank = world.words().is_empty() && world.log().is_empty() && world.calls().is_empty();
+    let blank = world.words().is_empty() && world.log().is_empty() && world.calls().len() == 0;
     let written = sink.bytes().to_vec(alloc)?;
     Ok((status, written, blank))
 }

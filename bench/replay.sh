@@ -3,7 +3,8 @@
 # gets and deletes by 8 seats over growing keys, in rounds: of eight calls of a seat, four put a new key, two get and one
 # deletes an earlier one, and one puts it again. The turns of each sheet are counted by a program of its own that gives a
 # world the same calls; it is made, proved and built in a folder of its own. Turns per second, of the whole run with its
-# reading and writing, should stay within 1.5 of each other, and memory within 300 MB.
+# reading and writing but without what an empty sheet takes (the laying of the pool), should stay within 1.5 of each
+# other, and memory within 300 MB.
 set -eu
 cd "$(dirname "$0")/.."
 folder=$(mktemp -d)
@@ -116,17 +117,23 @@ PROGRAM
 (cd "$folder/crates/count_turns" && rt run </dev/null >"$folder/log" 2>&1) || { tail -n 20 "$folder/log" >&2; exit 70; }
 ./run sherman_replay </dev/null >/dev/null
 built=crates/sherman_replay/out/sherman_replay
-for n in 10000 100000 1000000; do
-  turns=$("$folder/crates/count_turns/out/count_turns" "$n")
-  least=999999999
-  for _ in 1 2 3; do
+# The least time of five runs of a sheet, in milliseconds.
+least_time() {
+  local least=999999999 start ms
+  for _ in 1 2 3 4 5; do
     start=$(date +%s%N)
-    "$built" --chunks 900 <"$folder/$n.csv" >"$folder/lines"
+    "$built" --chunks 900 <"$1" >"$folder/lines"
     ms=$(( ($(date +%s%N) - start) / 1000000 ))
     least=$((ms < least ? ms : least))
   done
-  echo "$n calls: $least ms at least of three runs, $turns turns, $((turns / least)) thousand turns a second," \
-    "$(tail -n 1 "$folder/lines")"
+  echo "$least"
+}
+empty=$(least_time /dev/null)
+echo "an empty sheet: $empty ms"
+for n in 10000 100000 1000000; do
+  turns=$("$folder/crates/count_turns/out/count_turns" "$n")
+  ms=$(least_time "$folder/$n.csv")
+  echo "$n calls: $ms ms, $turns turns, $((turns / (ms - empty))) thousand turns a second, $(tail -n 1 "$folder/lines")"
   if [ -x /usr/bin/time ]; then
     /usr/bin/time -f "$n calls: %M KB at most" "$built" --chunks 900 <"$folder/$n.csv" >/dev/null
   fi

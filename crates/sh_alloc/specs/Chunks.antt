@@ -8,7 +8,7 @@ use Rattle.sh_alloc.specs.declared.state.Walk.{Walk}
 use Rattle.sh_alloc.specs.declared.state.Chunks.{Chunks}
 use Rattle.sh_alloc.specs.declared.state.ChunkWant.{ChunkWant}
 use Rattle.sh_alloc.specs.declared.state.ChunkWant.TheVariants.{Event, Got, AllSpent}
-use Rattle.sh_alloc.specs.Walks.{want_of, run_of}
+use Rattle.sh_alloc.specs.Walks.{walk_wants, run_of}
 
 abbrev pub walk_of : Chunks → Walk
 walk_of chunks = chunks.walk
@@ -38,7 +38,7 @@ pub record FindsSpent (p : ConfigParts) (w : Walk) (words : List ℕ) (server : 
   pub word : ℕ
   pub after : List ℕ
   pub whole : words ≡ before ++ (word ∷ after)
-  pub asks : Asks (want_of p (run_of p w before)) (counter_word p server)
+  pub asks : Asks (walk_wants p (run_of p w before)) (counter_word p server)
   pub spent : p.chunks ≤ word
 
 -- one of a run's words was found by an add at the server's counter, is the chunk, is below the limit, and ends the run
@@ -46,6 +46,6 @@ pub record FindsChunk (p : ConfigParts) (w : Walk) (words : List ℕ) (server ch
   pub before : List ℕ
   pub after : List ℕ
   pub whole : words ≡ before ++ (chunk ∷ after)
-  pub asks : want_of p (run_of p w before) ≡ Event (Add (counter_word p server))
+  pub asks : walk_wants p (run_of p w before) ≡ Event (Add (counter_word p server))
   pub below : chunk < p.chunks
-  pub ends : want_of p (run_of p w (before ++ (chunk ∷ []))) ≡ Got server chunk
+  pub ends : walk_wants p (run_of p w (before ++ (chunk ∷ []))) ≡ Got server chunk

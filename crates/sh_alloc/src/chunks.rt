@@ -2,7 +2,7 @@
 ghost use Rattle.std.specs.Prelude.{◌≡◌, ◌<◌};
 ghost use Rattle.sh_base.specs.Parts.{parts_of};
 ghost use Rattle.sh_base.specs.Setting.{all_seats};
-ghost use Rattle.sh_alloc.specs.Walks.{server_at, start_of, want_of, fed_by, next_of, with_phase};
+ghost use Rattle.sh_alloc.specs.Walks.{server_at, walk_start, walk_wants, walk_fed, walk_next, with_phase};
 ghost use Rattle.sh_alloc.specs.Chunks.{setting_of, walk_of, WantsEvent, IsWantOf};
 
 use crate::state::{Phase, Walk};
@@ -14,7 +14,7 @@ impl Chunks {
     pub fn new(cfg: &Config, seat: u32) -> Chunks
         requires { seat < all_seats (parts_of cfg.now) }
         ensures setting { setting_of result ≡ parts_of cfg.now }
-        ensures walk { walk_of result ≡ start_of (parts_of cfg.now) seat }
+        ensures walk { walk_of result ≡ walk_start (parts_of cfg.now) seat }
     {
         Chunks {
             cfg: *cfg,
@@ -30,7 +30,7 @@ impl Chunks {
     /// chunks one is added; the word found by the add is the chunk, where it's below too, and `Got` tells it. Else the
     /// next server's turn comes. `AllSpent` comes exactly where every counter was found at its limit.
     pub fn want(&self) -> ChunkWant
-        ensures here { result ≡ want_of (setting_of self.now) (walk_of self.now) }
+        ensures here { result ≡ walk_wants (setting_of self.now) (walk_of self.now) }
         ensures within { IsWantOf (setting_of self.now) result }
     {
         let server = self.server();
@@ -48,8 +48,8 @@ impl Chunks {
 
     /// Takes the word that the event found. Condition: an event is wanted.
     pub fn fed(&mut self, word: u64)
-        requires { WantsEvent (want_of (setting_of self.old) (walk_of self.old)) }
-        ensures walk { walk_of self.new ≡ fed_by (setting_of self.old) (walk_of self.old) word }
+        requires { WantsEvent (walk_wants (setting_of self.old) (walk_of self.old)) }
+        ensures walk { walk_of self.new ≡ walk_fed (setting_of self.old) (walk_of self.old) word }
         ensures setting { setting_of self.new ≡ setting_of self.old }
     {
         let chunks = u64::from(self.cfg.parts().chunks);
@@ -72,7 +72,7 @@ impl Chunks {
 
     // Goes on to the next server, and at the last one ends.
     fn go_on(&mut self)
-        ensures walk { walk_of self.new ≡ next_of (setting_of self.old) (walk_of self.old) }
+        ensures walk { walk_of self.new ≡ walk_next (setting_of self.old) (walk_of self.old) }
         ensures setting { setting_of self.new ≡ setting_of self.old }
     {
         if self.walk.passed + 1 < self.cfg.parts().servers {

@@ -4,7 +4,7 @@ ghost use Rattle.sh_base.specs.declared.config.ConfigParts.{ConfigParts};
 ghost use Rattle.sh_alloc.specs.declared.state.NodeRange.{NodeRange};
 ghost use Rattle.sh_alloc.specs.declared.state.ChunkWant.TheVariants.{Got, AllSpent};
 ghost use Rattle.sh_alloc.specs.Spares.{lowest, without_lowest, with_lowest, IsSpare, MayPutBack};
-ghost use Rattle.sh_alloc.specs.Walks.{start_of, want_of, run_of};
+ghost use Rattle.sh_alloc.specs.Walks.{walk_start, walk_wants, run_of};
 ghost use Rattle.sh_alloc.specs.Chunks.{FindsSpent, FindsChunk};
 
 /// A node that is taken was spare, and the spare nodes behind it are those that are greater: so the least goes first,
@@ -19,7 +19,7 @@ pub fn spare_laws()
 /// And a run that ends with a chunk got it by an add at that server's counter: the word found is the chunk, and is below
 /// the limit.
 pub fn chunk_laws()
-    ensures spent { (p : ConfigParts) (seat : ℕ) (words : List ℕ) (server : ℕ) → server < p.servers → want_of p (run_of p (start_of p seat) words) ≡ AllSpent → FindsSpent p (start_of p seat) words server }
-    ensures all { (p : ConfigParts) (seat : ℕ) (words : List ℕ) → 1 ≤ p.servers → ((server : ℕ) → server < p.servers → FindsSpent p (start_of p seat) words server) → want_of p (run_of p (start_of p seat) words) ≡ AllSpent }
-    ensures got { (p : ConfigParts) (seat : ℕ) (words : List ℕ) (server chunk : ℕ) → want_of p (run_of p (start_of p seat) words) ≡ Got server chunk → FindsChunk p (start_of p seat) words server chunk }
+    ensures spent { (p : ConfigParts) (seat : ℕ) (words : List ℕ) (server : ℕ) → server < p.servers → walk_wants p (run_of p (walk_start p seat) words) ≡ AllSpent → FindsSpent p (walk_start p seat) words server }
+    ensures all { (p : ConfigParts) (seat : ℕ) (words : List ℕ) → 1 ≤ p.servers → ((server : ℕ) → server < p.servers → FindsSpent p (walk_start p seat) words server) → walk_wants p (run_of p (walk_start p seat) words) ≡ AllSpent }
+    ensures got { (p : ConfigParts) (seat : ℕ) (words : List ℕ) (server chunk : ℕ) → walk_wants p (run_of p (walk_start p seat) words) ≡ Got server chunk → FindsChunk p (walk_start p seat) words server chunk }
 {}

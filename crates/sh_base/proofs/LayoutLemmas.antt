@@ -158,9 +158,6 @@ module _ (p : ConfigParts) (lawful : IsSetting p) where
   pub entries_small : entry_size p * p.leaf ≤ 704
   entries_small = mul-le (entry_size p) p.leaf 11 64 entry_size_small lawful.ranged.leaf.1
 
-  pub locks_small : p.servers * p.locks ≤ 8192
-  locks_small = mul-le p.servers p.locks 8 1024 lawful.ranged.servers.1 lawful.ranged.locks.1
-
   pub node_row_small : (n : ℕ) → IsNode p n → first_node_word p + (n - 1) * node_size p < 4194304
   unfolding node_word
   node_row_small n h = omega (arith, node_word_high p n h, lawful.size, node_size_is p)
@@ -176,9 +173,6 @@ module _ (p : ConfigParts) (lawful : IsSetting p) where
   nodes_small =
       let chunks : p.servers * p.chunks ≤ 32768 = mul-le p.servers p.chunks 8 4096 lawful.ranged.servers.1 lawful.ranged.chunks.1 in
       (chunks, mul-le (p.servers * p.chunks) p.chunk_nodes 32768 256 chunks lawful.ranged.chunk_nodes.1)
-
-  pub entry_at_small : (i : ℕ) → i < p.leaf → entry_at p i ≤ 710
-  entry_at_small i h = omega (arith, entry_high p i h, rear_at_small)
 
 -- the words of any numbers in their ranges are few enough to count
 pub words_small : (p : ConfigParts) → IsRanged p → ((3 + p.value_words) * p.leaf ≤ 704) × (nodes p * (7 + (3 + p.value_words) * p.leaf) ≤ 5964300288) × (p.servers * p.locks ≤ 8192)

@@ -4,8 +4,8 @@ use Rattle.std.specs.Prelude.{◌==◌, nat_lt, if◌then◌else◌, Some}
 use Rattle.std.specs.List.{AllByRecursion}
 use Rattle.std.proofs.lemmas.Bool.Decides.{nat_tests}
 use Rattle.sh_image.specs.Inner.{Inner}
-use Rattle.sh_cache.specs.Cached.{added, covers, forgotten, found, has_low, kept, replaced, AreApart, FoundBy}
-use Rattle.sh_cache.specs.Acts.{Act, Keep, Forget, Leaves, StillKept, after_act, rows_after}
+use Rattle.sh_cache.specs.Cached.{added, covers, forgotten, found, has_low, kept, replaced, HaveOwnLows, FoundBy}
+use Rattle.sh_cache.specs.Acts.{Act, Keep, Forget, LeavesRow, StillKept, after_act, rows_after}
 use Rattle.sh_cache.proofs.FindLemmas.{found_by, row_at}
 use Rattle.sh_cache.proofs.RowLemmas.{apart_forgotten, apart_kept}
 
@@ -15,18 +15,18 @@ all_push P (y ∷ xs) x h p = (h.0, all_push P xs x h.1 p)
 
 module _ (acts : List Act) where
   -- a row that was kept before stays so at an act that is about another low fence
-  stays : (act : Act) (r : Inner) → Leaves r.low act → StillKept acts r → StillKept (acts ++ act ∷ []) r
+  stays : (act : Act) (r : Inner) → LeavesRow r.low act → StillKept acts r → StillKept (acts ++ act ∷ []) r
   stays act r other h = record {
     before = h.before;
     behind = h.behind ++ act ∷ [];
     whole = ap (λ l. l ++ act ∷ []) h.whole ∙ append_assoc h.before (Keep r ∷ h.behind) (act ∷ []);
-    left = all_push (Leaves r.low) h.behind act h.left other;
+    left = all_push (LeavesRow r.low) h.behind act h.left other;
   }
 
   now_kept : (a : Inner) → StillKept (acts ++ Keep a ∷ []) a
   now_kept a = record { before = acts; behind = []; whole = refl; left = tt }
 
-  all_stay : (act : Act) (rows : List Inner) → AllByRecursion (λ (r : Inner). Leaves r.low act) rows → AllByRecursion (StillKept acts) rows → AllByRecursion (StillKept (acts ++ act ∷ [])) rows
+  all_stay : (act : Act) (rows : List Inner) → AllByRecursion (λ (r : Inner). LeavesRow r.low act) rows → AllByRecursion (StillKept acts) rows → AllByRecursion (StillKept (acts ++ act ∷ [])) rows
   all_stay act [] other h = tt
   all_stay act (r ∷ rows) other h = (stays act r other.0 h.0, all_stay act rows other.1 h.1)
 
@@ -36,7 +36,7 @@ others [] low h = tt
 others (r ∷ rows) low h = (grind (arith, nat_tests, h), others rows low (grind (arith, nat_tests, h)))
 
 module _ (acts : List Act) (a : Inner) where
-  kept_replaced : (rows : List Inner) → AreApart rows → AllByRecursion (StillKept acts) rows → AllByRecursion (StillKept (acts ++ Keep a ∷ [])) (replaced rows a)
+  kept_replaced : (rows : List Inner) → HaveOwnLows rows → AllByRecursion (StillKept acts) rows → AllByRecursion (StillKept (acts ++ Keep a ∷ [])) (replaced rows a)
   kept_replaced [] apart h = tt
   kept_replaced (r ∷ rows) apart h = cases (r.low == a.low) refl (kept_replaced rows apart.1 h.1)
     where
@@ -53,7 +53,7 @@ module _ (acts : List Act) (a : Inner) where
   kept_tail [] h = h
   kept_tail (r ∷ rows) h = h.1
 
-  kept_after : (room : ℕ) (rows : List Inner) → AreApart rows → AllByRecursion (StillKept acts) rows → AllByRecursion (StillKept (acts ++ Keep a ∷ [])) (kept room rows a)
+  kept_after : (room : ℕ) (rows : List Inner) → HaveOwnLows rows → AllByRecursion (StillKept acts) rows → AllByRecursion (StillKept (acts ++ Keep a ∷ [])) (kept room rows a)
   kept_after room rows apart h = cases (has_low rows a.low) refl
     where
       place : (b : Bool) → AllByRecursion (StillKept (acts ++ Keep a ∷ [])) (rows ++ a ∷ []) → AllByRecursion (StillKept (acts ++ Keep a ∷ [])) (if b then rows ++ a ∷ [] else drop 1 (rows ++ a ∷ []))
@@ -64,7 +64,7 @@ module _ (acts : List Act) (a : Inner) where
       cases true e = kept_replaced rows apart h
       cases false e = place (nat_lt (length rows) room) (kept_pushed rows e h)
 
-forgot_after : (acts : List Act) (low : ℕ) (rows : List Inner) → AreApart rows → AllByRecursion (StillKept acts) rows → AllByRecursion (StillKept (acts ++ Forget low ∷ [])) (forgotten rows low)
+forgot_after : (acts : List Act) (low : ℕ) (rows : List Inner) → HaveOwnLows rows → AllByRecursion (StillKept acts) rows → AllByRecursion (StillKept (acts ++ Forget low ∷ [])) (forgotten rows low)
 forgot_after acts low [] apart h = tt
 forgot_after acts low (r ∷ rows) apart h = cases (r.low == low) refl (forgot_after acts low rows apart.1 h.1)
   where
@@ -75,19 +75,19 @@ forgot_after acts low (r ∷ rows) apart h = cases (r.low == low) refl (forgot_a
     cases false e rest = (stays acts (Forget low) r (λ same. grind (arith, nat_tests, e, same)) h.0, rest)
 
 module _ (room : ℕ) where
-  apart_act : (rows : List Inner) (act : Act) → AreApart rows → AreApart (after_act room rows act)
+  apart_act : (rows : List Inner) (act : Act) → HaveOwnLows rows → HaveOwnLows (after_act room rows act)
   apart_act rows (Keep a) h = apart_kept room rows a h
   apart_act rows (Forget low) h = apart_forgotten rows low h
 
-  kept_act : (acts : List Act) (rows : List Inner) (act : Act) → AreApart rows → AllByRecursion (StillKept acts) rows → AllByRecursion (StillKept (acts ++ act ∷ [])) (after_act room rows act)
+  kept_act : (acts : List Act) (rows : List Inner) (act : Act) → HaveOwnLows rows → AllByRecursion (StillKept acts) rows → AllByRecursion (StillKept (acts ++ act ∷ [])) (after_act room rows act)
   kept_act acts rows (Keep a) apart h = kept_after acts a room rows apart h
   kept_act acts rows (Forget low) apart h = forgot_after acts low rows apart h
 
-  pub apart_acts : (rows : List Inner) (acts : List Act) → AreApart rows → AreApart (rows_after room rows acts)
+  pub apart_acts : (rows : List Inner) (acts : List Act) → HaveOwnLows rows → HaveOwnLows (rows_after room rows acts)
   apart_acts rows [] h = h
   apart_acts rows (act ∷ acts) h = apart_acts (after_act room rows act) acts (apart_act rows act h)
 
-  kept_acts : (done acts : List Act) (rows : List Inner) → AreApart rows → AllByRecursion (StillKept done) rows → AllByRecursion (StillKept (done ++ acts)) (rows_after room rows acts)
+  kept_acts : (done acts : List Act) (rows : List Inner) → HaveOwnLows rows → AllByRecursion (StillKept done) rows → AllByRecursion (StillKept (done ++ acts)) (rows_after room rows acts)
   kept_acts done [] rows apart h = subst (λ l. AllByRecursion (StillKept l) rows) (sym (append-nil done)) h
   kept_acts done (act ∷ acts) rows apart h =
       subst (λ l. AllByRecursion (StillKept l) (rows_after room (after_act room rows act) acts)) (append_assoc done (act ∷ []) acts) (kept_acts (done ++ act ∷ []) acts (after_act room rows act) (apart_act rows act apart) (kept_act done rows act apart h))

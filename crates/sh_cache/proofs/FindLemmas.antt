@@ -5,6 +5,7 @@ use Rattle.std.specs.List.{AllByRecursion}
 use mathlib.Core.Bool.{false≢true}
 use Rattle.std.proofs.lemmas.Bool.Decides.{nat_tests}
 use Rattle.std.proofs.lemmas.List.{drop_more, drop_all}
+use Rattle.sh_logic.proofs.Tests.{and_true}
 use Rattle.sh_image.specs.Inner.{Inner}
 use Rattle.sh_cache.specs.Cached.{better, covers, found, found_from, FoundBy}
 
@@ -13,11 +14,6 @@ found_step rows i r best key below is = ap (λ l. found_from best l key) (drop_m
 
 pub found_end : (rows : List Inner) (i : ℕ) (best : Option Inner) (key : ℕ) → length rows ≤ i → found_from best (drop i rows) key ≡ best
 found_end rows i best key h = ap (λ l. found_from best l key) (drop_all i rows h)
-
-and_true : (a b : Bool) → (a && b) ≡ true → (a ≡ true) × (b ≡ true)
-and_true true true e = (refl, refl)
-and_true true false e = absurd (grind arith)
-and_true false b e = absurd (grind arith)
 
 record Place (rows : List Inner) (a : Inner) : Type 0 where
   index : ℕ

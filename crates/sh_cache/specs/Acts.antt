@@ -18,13 +18,13 @@ rows_after room rows [] = rows
 rows_after room rows (act ∷ acts) = rows_after room (after_act room rows act) acts
 
 -- the act is about another low fence
-abbrev pub Leaves : (low : ℕ) → Act → Type 0
-Leaves low (Keep a) = a.low ≢ low
-Leaves low (Forget gone) = gone ≢ low
+abbrev pub LeavesRow : (low : ℕ) → Act → Type 0
+LeavesRow low (Keep a) = a.low ≢ low
+LeavesRow low (Forget gone) = gone ≢ low
 
 -- The row was kept, and has been neither forgotten nor replaced since: no later act is about its low fence.
 pub record StillKept (acts : List Act) (a : Inner) : Type 0 where
   pub before : List Act
   pub behind : List Act
   pub whole : acts ≡ before ++ Keep a ∷ behind
-  pub left : AllByRecursion (Leaves a.low) behind
+  pub left : AllByRecursion (LeavesRow a.low) behind

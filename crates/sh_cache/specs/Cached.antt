@@ -65,6 +65,6 @@ FoundBy rows key None = AllByRecursion (λ (r : Inner). covers r key ≡ false) 
 FoundBy rows key (Some a) = IsGreatest rows key a
 
 -- no two rows have one low fence
-abbrev pub AreApart : List Inner → Type 0
-AreApart [] = Unit {0}
-AreApart (r ∷ rows) = (has_low rows r.low ≡ false) × AreApart rows
+abbrev pub HaveOwnLows : List Inner → Type 0
+HaveOwnLows [] = Unit {0}
+HaveOwnLows (r ∷ rows) = (has_low rows r.low ≡ false) × HaveOwnLows rows

@@ -5,8 +5,8 @@ ghost use Rattle.std.specs.Prelude.{◌≡◌, ◌<◌, ◌≤◌, ℕ, List, []
 ghost use Rattle.std.specs.Vec.{vec_capacity};
 ghost use Rattle.sh_base.specs.Parts.{parts_of};
 ghost use Rattle.sh_image.specs.Inner.{Inner};
-ghost use Rattle.sh_cache.specs.Cached.{added, better, covers, forgotten, found, has_low, kept, AreApart, FoundBy};
-ghost use Rattle.sh_cache.specs.Places.{HasNone, IsPlace};
+ghost use Rattle.sh_cache.specs.Cached.{added, better, covers, forgotten, found, has_low, kept, HaveOwnLows, FoundBy};
+ghost use Rattle.sh_cache.specs.Places.{HasNoLow, IsLowAt};
 ghost use Rattle.sh_cache.specs.Acts.{rows_after, Act, StillKept};
 
 use sh_base::Config;
@@ -56,7 +56,7 @@ impl Cache {
 
     /// No two rows have one low fence, and there are no more than there is room for.
     pub fn rows_apart(&self)
-        ensures apart { AreApart self.now.rows }
+        ensures apart { HaveOwnLows self.now.rows }
         ensures within { length self.now.rows ≤ self.now.room }
     {
         let _rows = &self.rows;
@@ -110,7 +110,7 @@ fn better<'a>(best: Option<&'a InnerImage>, row: &'a InnerImage, key: u64) -> Op
 
 // Where the row with this low fence stands.
 fn place(rows: &[InnerImage], low: u64) -> Option<usize>
-    ensures { MatchOption result (HasNone rows.now low) (λ at. IsPlace rows.now low at) }
+    ensures { MatchOption result (HasNoLow rows.now low) (λ at. IsLowAt rows.now low at) }
 {
     for at in 0..rows.len() {
         if rows[at].low() == low {
@@ -141,14 +141,14 @@ fn add(rows: &mut Vec<InnerImage>, room: usize, image: InnerImage)
 /// where no row covers the key; a forgotten low fence is no row's.
 pub fn rows_are_exact()
     ensures found { (rows : List Inner) (key : ℕ) → FoundBy rows key (found rows key) }
-    ensures forgotten { (rows : List Inner) (low : ℕ) → AreApart rows → has_low (forgotten rows low) low ≡ false }
+    ensures forgotten { (rows : List Inner) (low : ℕ) → HaveOwnLows rows → has_low (forgotten rows low) low ≡ false }
 {}
 
 /// What is found after keeps and forgets, of a cache that was empty, covers the key, was kept, and has been neither
 /// forgotten nor replaced since. No two rows have one low fence.
 pub fn what_is_found_was_kept()
     ensures found { (room : ℕ) (acts : List Act) (key : ℕ) (row : Inner) → found (rows_after room [] acts) key ≡ Some row → StillKept acts row × (covers row key ≡ true) }
-    ensures apart { (room : ℕ) (acts : List Act) → AreApart (rows_after room [] acts) }
+    ensures apart { (room : ℕ) (acts : List Act) → HaveOwnLows (rows_after room [] acts) }
 {}
 
 #[cfg(test)]

@@ -3,10 +3,10 @@ use Rattle.std.proofs.Common.{◌≡◌, ℕ, ◌+◌, Some, None, refl, sym, ap
 use Rattle.sh_image.specs.declared.inner.Image.{Image}
 use Rattle.sh_lock.specs.Locks.{release_of}
 use Rattle.sh_read.specs.declared.state.Progress.TheVariants.{Accepted, Odd}
-use Rattle.sh_read.specs.Reads.{accepted, progress_of, fed_by as read_fed}
+use Rattle.sh_read.specs.Reads.{accepted, progress_of, read_fed}
 use Rattle.sh_decide.specs.declared.state.Aim.{Aim}
 use Rattle.sh_decide.specs.declared.state.Decision.TheVariants.{Restart}
-use Rattle.sh_client.specs.declared.state.Phase.TheVariants.{Hold, Waiting}
+use Rattle.sh_client.specs.declared.state.Phase.TheVariants.{ReadLocked, Waiting}
 use Rattle.sh_client.specs.declared.state.Then.TheVariants.{Starts}
 use Rattle.sh_client.specs.declared.state.Write.TheVariants.{Nothing}
 use Rattle.sh_client.specs.Courses.{node_read, wants_over, GivesBack}
@@ -14,27 +14,28 @@ use Rattle.sh_decide.specs.Deciding.{decision_of}
 use Rattle.sh_client.specs.Feeds.{did, fed_by, fed_in, held_by, hold_by, loaded}
 use Rattle.sh_client.specs.Giving.{carried, released}
 use Rattle.sh_client.specs.Machine.{Machine, to}
+use Rattle.sh_client.specs.Splitting.{giving_of}
 use Rattle.sh_client.proofs.GiveLemmas.{freed}
 
-gives_back : (m : Machine) (node depth : ℕ) (aim : Aim) → GivesBack (to m (Waiting node depth Nothing (Starts aim))) node depth aim
+gives_back : (m : Machine) (node depth : ℕ) (aim : Aim) → GivesBack (to m (Waiting depth (giving_of node Nothing (Starts aim)))) node depth aim
 gives_back m node depth aim = record {
   asks = refl;
   frees = λ count free.
       let none : carried depth (release_of count depth m.setting.bound) ≡ None = ap (carried depth) (freed count depth m.setting.bound free) in
-      ap (λ c. wants_over 3 (released (to m (Waiting node depth Nothing (Starts aim))) node c (Starts aim))) none;
+      ap (λ c. wants_over 3 (released (to m (Waiting depth (giving_of node Nothing (Starts aim)))) node c (Starts aim))) none;
   hands = λ count handed.
       let some : carried depth (release_of count depth m.setting.bound) ≡ Some (depth + 1) = ap (carried depth) handed in
-      ap (λ c. wants_over 2 (released (to m (Waiting node depth Nothing (Starts aim))) node c (Starts aim))) some;
+      ap (λ c. wants_over 2 (released (to m (Waiting depth (giving_of node Nothing (Starts aim)))) node c (Starts aim))) some;
 }
 
-pub odd_gives_back : (m : Machine) (word depth : ℕ) (aim : Aim) → m.phase ≡ Hold aim depth → progress_of m.setting m.reads word ≡ Odd → GivesBack (fed_by m word) (node_read m word) depth aim
+pub odd_gives_back : (m : Machine) (word depth : ℕ) (aim : Aim) → m.phase ≡ ReadLocked aim depth → progress_of m.setting m.registers.reads word ≡ Odd → GivesBack (fed_by m word) (node_read m word) depth aim
 odd_gives_back m word depth aim at odd =
-    let step : fed_by m word ≡ to (loaded m word) (Waiting (node_read m word) depth Nothing (Starts aim)) = ap (fed_in m word) at ∙ ap (hold_by (loaded m word) aim depth) odd in
+    let step : fed_by m word ≡ to (loaded m word) (Waiting depth (giving_of (node_read m word) Nothing (Starts aim))) = ap (fed_in m word) at ∙ ap (hold_by (loaded m word) aim depth) odd in
     subst (λ (x : Machine). GivesBack x (node_read m word) depth aim) (sym step) (gives_back (loaded m word) (node_read m word) depth aim)
 
-pub restart_gives_back : (m : Machine) (word depth : ℕ) (aim : Aim) (image : Image) → m.phase ≡ Hold aim depth → progress_of m.setting m.reads word ≡ Accepted → accepted m.setting (read_fed m.setting m.reads word) ≡ Some image → decision_of m.setting m.call aim image ≡ Restart → GivesBack (fed_by m word) (node_read m word) depth aim
+pub restart_gives_back : (m : Machine) (word depth : ℕ) (aim : Aim) (image : Image) → m.phase ≡ ReadLocked aim depth → progress_of m.setting m.registers.reads word ≡ Accepted → accepted m.setting (read_fed m.setting m.registers.reads word) ≡ Some image → decision_of m.setting m.registers.call aim image ≡ Restart → GivesBack (fed_by m word) (node_read m word) depth aim
 restart_gives_back m word depth aim image at whole is senseless =
-    let step : fed_by m word ≡ to (loaded m word) (Waiting (node_read m word) depth Nothing (Starts aim)) =
+    let step : fed_by m word ≡ to (loaded m word) (Waiting depth (giving_of (node_read m word) Nothing (Starts aim))) =
     ap (fed_in m word) at
     ∙ ap (hold_by (loaded m word) aim depth) whole
     ∙ ap (held_by (loaded m word) aim depth) is

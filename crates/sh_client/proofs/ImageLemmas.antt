@@ -5,6 +5,8 @@ use Rattle.std.specs.Prelude.{replicate, ◌==◌}
 use Rattle.std.specs.List.{AllByRecursion}
 use Rattle.std.proofs.lemmas.List.{length-map, length-replicate, length-set, length-take-le}
 use Rattle.std.proofs.lemmas.Bool.{cases_lt}
+use Rattle.sh_logic.proofs.Lists.{all_set, all_take, all_drop}
+use Rattle.sh_logic.proofs.Tests.{less_test, not_less_test, differ_test}
 use Rattle.sh_base.specs.declared.config.ConfigParts.{ConfigParts}
 use Rattle.sh_image.specs.declared.leaf.LeafEntry.{LeafEntry}
 use Rattle.sh_image.specs.declared.inner.Image.{Image}
@@ -21,18 +23,16 @@ use Rattle.sh_base.proofs.LayoutLemmas.{entry_size_is, node_size_is, node_word_h
 use Rattle.sh_alloc.specs.declared.state.NodeRange.{NodeRange}
 use Rattle.sh_alloc.specs.Spares.{nodes_from, without_lowest}
 use Rattle.sh_client.specs.declared.state.Write.{Write}
-use Rattle.sh_client.specs.declared.state.Write.TheVariants.{Nothing, Entry, Leaf, LeftLeaf, Inner, LeftInner}
-use Rattle.sh_client.specs.Sound.{AreSpare, IsFilled}
+use Rattle.sh_client.specs.declared.state.Write.TheVariants.{Nothing, Entry}
+use Rattle.sh_client.specs.Giving.{writes_nothing}
+use Rattle.sh_client.specs.Sound.{AreSpare, IsBody, IsFilled}
 use Rattle.sh_image.specs.Entries.{entry_words}
 use Rattle.sh_image.specs.declared.inner.Pair.{Pair}
 use Rattle.sh_edit.specs.Pairing.{pairs_with, right_inner}
 use Rattle.sh_image.specs.Inner.{Inner as InnerOf}
-use Rattle.sh_edit.proofs.HeldLemmas.{differ_test}
-use Rattle.sh_edit.proofs.PairLemmas.{less_test, not_less_test}
 use Rattle.sh_read.specs.Reads.{Reads, accepted}
 use Rattle.sh_read.proofs.CauseLemmas.{image_spelled}
-use Rattle.sh_edit.proofs.RewriteLemmas.{all_set}
-use Rattle.sh_edit.proofs.SplitLemmas.{all_after, all_drop, all_take, length-pairs_after}
+use Rattle.sh_edit.proofs.SplitLemmas.{all_after, length-pairs_after}
 
 pub one_pair_more : (xs : List Pair) (new : Pair) → length (pairs_with xs new) ≡ length xs + 1
 one_pair_more [] new = refl
@@ -144,7 +144,9 @@ spare_left p first count r low high some is =
 pub filled_some : (p : ConfigParts) (write : Write) (body : List ℕ) → IsFilled p write body → 0 < length body
 filled_some p Nothing body h = absurd h
 filled_some p (Entry index) body h = omega (arith, h.1, entry_size_is p)
-filled_some p Leaf body h = omega (arith, h, node_size_is p)
-filled_some p LeftLeaf body h = omega (arith, h, node_size_is p)
-filled_some p Inner body h = omega (arith, h, node_size_is p)
-filled_some p LeftInner body h = omega (arith, h, node_size_is p)
+filled_some p write body h = omega (arith, h, node_size_is p)
+
+-- where something is to be written, words are there for it
+pub filled_body : (p : ConfigParts) (write : Write) (body : List ℕ) → IsBody p write body → writes_nothing write ≡ false → IsFilled p write body
+filled_body p Nothing body h some = cc
+filled_body p write body h some = h

@@ -4,3 +4,5 @@ pub mod GiveLemmas
 pub mod KeptLemmas
 pub mod BackLemmas
 pub mod WithinLemmas
+pub mod InLineLemmas
+pub mod Wanting

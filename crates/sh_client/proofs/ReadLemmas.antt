@@ -1,43 +1,35 @@
 -- What a READ leaves behind a word.
-use Rattle.std.proofs.Common.{◌≡◌, ◌≢◌, ℕ, ◌+◌, ◌-◌, ◌<◌, Bool, true, false, ◌∷◌, length, Some, None, refl, arith}
+use Rattle.std.proofs.Common.{rules, ◌≡◌, ◌≢◌, ℕ, ◌+◌, ◌-◌, Bool, true, false, ◌∷◌, length, Some, None, refl, arith}
 use Rattle.std.specs.Prelude.{nat_lt}
-use Rattle.std.proofs.lemmas.Bool.Decides.{nat_tests}
+use Rattle.sh_logic.proofs.Tests.{less_test}
 use Rattle.sh_base.specs.declared.config.ConfigParts.{ConfigParts}
 use Rattle.sh_base.specs.Setting.{node_size}
 use Rattle.sh_base.specs.Layout.{node_word}
 use Rattle.sh_base.proofs.LayoutLemmas.{node_size_is}
 use Rattle.sh_image.specs.declared.read.Seen.{Seen}
-use Rattle.sh_image.specs.declared.read.Seen.TheVariants.{Leaf as LeafSeen, Inner as InnerSeen, Torn, TornEntry, Odd as OddSeen}
 use Rattle.sh_read.specs.Judging.{seen_of}
-use Rattle.sh_read.specs.Reads.{Reads, answer_to, fed_by, left_by, progress_of, reads_with, start_of}
+use Rattle.sh_read.specs.Reads.{Reads, answer_to, read_fed, reads_left, progress_of, reads_with, reads_start}
 use Rattle.sh_client.specs.Sound.{IsLoading, Leaves}
 
 some_is : {X : Type 0} (x : X) → Some x ≢ None
 some_is x h = cc
 
-less_test : (a b : ℕ) → a < b → nat_lt a b ≡ true
-less_test a b h = grind (arith, nat_tests)
-
 module _ (p : ConfigParts) where
-  pub start_loading : (node : ℕ) → IsLoading p (start_of node)
+  pub start_loading : (node : ℕ) → IsLoading p (reads_start node)
   start_loading node = rw (less_test 0 (node_size p) (omega (arith, node_size_is p))) (some_is (node_word p node + (node_size p - 1 - 0)))
 
   more : (r : Reads) → nat_lt (length r.loaded) (node_size p) ≡ true → IsLoading p r
   more r e = rw e (some_is (node_word p r.node + (node_size p - 1 - length r.loaded)))
 
-  whole : (r : Reads) (s : Seen) → nat_lt (length r.loaded) (node_size p) ≡ false → seen_of p r.loaded ≡ s → Leaves p (left_by s r) (answer_to s)
-  whole r (LeafSeen a) e is = rw (e, is) (some_is _)
-  whole r (InnerSeen a) e is = rw (e, is) (some_is _)
-  whole r (Torn rear front) e is = start_loading r.node
-  whole r (TornEntry index rear front) e is = start_loading r.node
-  whole r OddSeen e is = tt
+  whole : (r : Reads) (s : Seen) → nat_lt (length r.loaded) (node_size p) ≡ false → seen_of p r.loaded ≡ s → Leaves p (reads_left s r) (answer_to s)
+  whole r s e is = search (rules, start_loading, some_is)
 
-  pub left_loading : (r : Reads) (word : ℕ) → Leaves p (fed_by p r word) (progress_of p r word)
+  pub left_loading : (r : Reads) (word : ℕ) → Leaves p (read_fed p r word) (progress_of p r word)
   left_loading r word = by (nat_lt (length (word ∷ r.loaded)) (node_size p)) refl
     where
       next : Reads
       next = reads_with r.node (word ∷ r.loaded)
 
-      by : (b : Bool) → nat_lt (length (word ∷ r.loaded)) (node_size p) ≡ b → Leaves p (fed_by p r word) (progress_of p r word)
+      by : (b : Bool) → nat_lt (length (word ∷ r.loaded)) (node_size p) ≡ b → Leaves p (read_fed p r word) (progress_of p r word)
       by true e = rw e (more next e)
       by false e = rw e (whole next (seen_of p (word ∷ r.loaded)) e refl)

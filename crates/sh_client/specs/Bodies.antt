@@ -13,24 +13,24 @@ use Rattle.sh_image.specs.declared.inner.Image.{Image}
 use Rattle.sh_image.specs.declared.inner.Image.TheVariants.{Leaf as LeafImage, Inner as InnerImage}
 use Rattle.sh_edit.specs.Rewriting.{rewritten}
 use Rattle.sh_edit.specs.Pairing.{with_pair}
-use Rattle.sh_decide.specs.declared.state.Post.{Post}
+use Rattle.sh_decide.specs.declared.state.Posting.{Posting}
 use Rattle.sh_decide.specs.declared.state.Aim.{Aim}
 use Rattle.sh_decide.specs.declared.state.Aim.TheVariants.{Own, Posts}
-use Rattle.sh_decide.specs.Aims.{call_key, left_key, left_value}
-use Rattle.sh_decide.specs.Leaves.{answer_of, version_at}
+use Rattle.sh_decide.specs.Aims.{call_key, written_key, written_value}
+use Rattle.sh_decide.specs.Leaves.{leaf_answer, version_at}
 
 -- an image's answer to the call; an inner node has no entries
 abbrev pub answer_in : Call → Image → Reply
-answer_in call (LeafImage a) = answer_of a.entries (call_key call)
+answer_in call (LeafImage a) = leaf_answer a.entries (call_key call)
 answer_in call (InnerImage a) = reply.None
 
 -- the pair that a post adds
-abbrev pub pair_of : Post → Pair
+abbrev pub pair_of : Posting → Pair
 pair_of post = record { separator = post.separator; child = post.node }
 
 -- an update's entry, with a version more
 abbrev pub entry_left : ConfigParts → Call → Leaf → (index : ℕ) → LeafEntry
-entry_left p call a index = record { version = version_at a.entries index + 1; key = left_key call; value = left_value p call }
+entry_left p call a index = record { version = version_at a.entries index + 1; key = written_key call; value = written_value p call }
 
 -- what is stored: the entry alone, the rewritten leaf, or the inner node with the pair; of the other kind of node nothing
 abbrev pub entry_body : ConfigParts → Call → (index : ℕ) → Image → List ℕ
@@ -38,7 +38,7 @@ entry_body p call index (LeafImage a) = entry_words (entry_left p call a index)
 entry_body p call index (InnerImage a) = []
 
 abbrev pub leaf_body : ConfigParts → Call → (index : ℕ) → Image → List ℕ
-leaf_body p call index (LeafImage a) = leaf_words (rewritten a index (left_key call) (left_value p call))
+leaf_body p call index (LeafImage a) = leaf_words (rewritten a index (written_key call) (written_value p call))
 leaf_body p call index (InnerImage a) = []
 
 abbrev pub inner_body : ConfigParts → Aim → Image → List ℕ

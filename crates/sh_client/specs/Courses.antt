@@ -1,5 +1,5 @@
 -- A client that takes its turns one after another.
-use Rattle.std.specs.Prelude.{◌≡◌, ◌⊎◌, ℕ, zero, suc, ◌+◌, List, [], ◌∷◌, length, Some, None}
+use Rattle.std.specs.Prelude.{◌≡◌, ◌≤◌, ◌⊎◌, Option, ℕ, zero, suc, ◌+◌, List, [], ◌∷◌, length, Some, None}
 use Rattle.sh_base.specs.declared.event.Event.TheVariants.{Load, Store}
 use Rattle.sh_base.specs.Layout.{lock_of, root_word}
 use Rattle.sh_image.specs.Leaf.{Leaf}
@@ -8,10 +8,11 @@ use Rattle.sh_lock.specs.declared.state.Release.TheVariants.{Hand}
 use Rattle.sh_lock.specs.Locks.{release_of}
 use Rattle.sh_decide.specs.declared.state.Aim.{Aim}
 use Rattle.sh_read.specs.declared.state.Progress.TheVariants.{Accepted}
-use Rattle.sh_read.specs.Reads.{accepted, progress_of, fed_by as read_fed}
+use Rattle.sh_read.specs.Reads.{accepted, progress_of, read_fed}
 use Rattle.sh_decide.specs.declared.state.Aim.TheVariants.{Own}
 use Rattle.sh_decide.specs.declared.state.Decision.{Decision}
-use Rattle.sh_client.specs.declared.state.Phase.TheVariants.{Hold}
+use Rattle.sh_client.specs.declared.state.Phase.{Phase}
+use Rattle.sh_client.specs.declared.state.Phase.TheVariants.{Body, Leave, ReadLocked}
 use Rattle.sh_decide.specs.Deciding.{decision_of}
 use Rattle.sh_client.specs.declared.state.Want.{Want}
 use Rattle.sh_client.specs.declared.state.Want.TheVariants as want
@@ -43,14 +44,14 @@ pub record StoresThenFrees (m : Machine) (node depth at : ℕ) (words : List ℕ
 
 -- An update's client under the lock is fed the last word of its READ, of this leaf, and decides so.
 pub record Finds (m : Machine) (word depth : ℕ) (a : Leaf) (d : Decision) : Type 0 where
-  pub holds : m.phase ≡ Hold Own depth
-  pub whole : progress_of m.setting m.reads word ≡ Accepted
-  pub leaf_is : accepted m.setting (read_fed m.setting m.reads word) ≡ Some (LeafImage a)
-  pub decides : decision_of m.setting m.call Own (LeafImage a) ≡ d
+  pub holds : m.phase ≡ ReadLocked Own depth
+  pub whole : progress_of m.setting m.registers.reads word ≡ Accepted
+  pub leaf_is : accepted m.setting (read_fed m.setting m.registers.reads word) ≡ Some (LeafImage a)
+  pub decides : decision_of m.setting m.registers.call Own (LeafImage a) ≡ d
 
 -- the node of that READ
 abbrev pub node_read : Machine → (word : ℕ) → ℕ
-node_read m word = let r = read_fed m.setting m.reads word in r.node
+node_read m word = let r = read_fed m.setting m.registers.reads word in r.node
 
 -- A client that gives the lock of a node back with nothing written and starts again: it asks how many wait; where nobody
 -- does or the depth is the bound, it stores 0 to the lock word, leaves, and loads the root word; else it leaves with the
@@ -60,6 +61,18 @@ pub record GivesBack (m : Machine) (node depth : ℕ) (aim : Aim) : Type 0 where
   pub frees : (count : ℕ) → (count ≡ 0) ⊎ (depth ≡ m.setting.bound) → wants_over 3 (fed_by m count) ≡ want.Event (Store (lock_word_of m.setting node) 0) ∷ want.Leave (lock_of m.setting node) None ∷ want.Event (Load root_word) ∷ []
   pub hands : (count : ℕ) → release_of count depth m.setting.bound ≡ Hand → wants_over 2 (fed_by m count) ≡ want.Leave (lock_of m.setting node) (Some (depth + 1)) ∷ want.Event (Load root_word) ∷ []
 
+-- the depth with which the lock is handed over, where it is
+abbrev pub carry_at : Phase → Option ℕ
+carry_at (Body carry done giving) = carry
+carry_at (Leave node carry after) = carry
+carry_at phase = None
+
+-- A lock that was handed over so often is handed over with one more: somebody waits for it, and it's within the bound.
+pub record HandsOnce (m : Machine) (depth count carry : ℕ) : Type 0 where
+  pub waits : 1 ≤ count
+  pub one_more : carry ≡ depth + 1
+  pub bounded : carry ≤ m.setting.bound
+
 -- another machine of the same setting, seat and call
-abbrev pub Keeps : Machine → Machine → Type 0
-Keeps m x = (x.setting ≡ m.setting) × (x.seat ≡ m.seat) × (x.call ≡ m.call)
+abbrev pub KeepsCall : Machine → Machine → Type 0
+KeepsCall m x = (x.setting ≡ m.setting) × (x.seat ≡ m.seat) × (x.registers.call ≡ m.registers.call)

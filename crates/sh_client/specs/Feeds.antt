@@ -5,7 +5,7 @@ use Rattle.sh_map.specs.declared.call.Reply.TheVariants as reply
 use Rattle.sh_image.specs.declared.inner.Image.{Image}
 use Rattle.sh_read.specs.declared.state.Progress.{Progress}
 use Rattle.sh_read.specs.declared.state.Progress.TheVariants.{More, Accepted, Again, Odd}
-use Rattle.sh_read.specs.Reads.{accepted, progress_of, start_of, fed_by as read_fed}
+use Rattle.sh_read.specs.Reads.{accepted, progress_of, reads_start, read_fed}
 use Rattle.sh_decide.specs.declared.state.Aim.{Aim}
 use Rattle.sh_client.specs.declared.state.Then.{Then}
 use Rattle.sh_client.specs.declared.state.Then.TheVariants.{Ends, Starts, Takes}
@@ -17,18 +17,19 @@ use Rattle.sh_decide.specs.declared.state.Decision.{Decision}
 use Rattle.sh_decide.specs.declared.state.Decision.TheVariants as decision
 use Rattle.sh_decide.specs.declared.state.Aim.TheVariants.{Own}
 use Rattle.sh_client.specs.declared.state.Phase.{Phase}
-use Rattle.sh_client.specs.declared.state.Phase.TheVariants.{Idle, Root, Read, Draw, Look, Grab, Hold, Seek, Fill, Waiting, Body, Unlock, Leave, Top, Raise, Swap, Ended}
+use Rattle.sh_client.specs.declared.state.Phase.TheVariants.{Idle, Root, Read, Draw, Look, Grab, ReadLocked, Seek, Fill, Waiting, Body, Unlock, Leave, Swap, Ended}
 use Rattle.sh_client.specs.Machine.{Machine, to, again, answering, storing, right_hop, skipped_worn}
 use Rattle.sh_decide.specs.Aims.{is_node}
 use Rattle.sh_client.specs.Bodies.{answer_in, entry_body, inner_body, leaf_body}
 use Rattle.sh_decide.specs.Ways.{way_of}
 use Rattle.sh_decide.specs.Deciding.{decision_of}
-use Rattle.sh_client.specs.Giving.{left, stored, waited}
-use Rattle.sh_client.specs.Splitting.{filled, grown, raising, sought, split, swapped, topped}
+use Rattle.sh_client.specs.declared.state.Need.TheVariants.{ToSplit}
+use Rattle.sh_client.specs.Giving.{queue_left, stored, count_told}
+use Rattle.sh_client.specs.Splitting.{filled, giving_of, root_grown, needs, sought, swapped}
 
 -- a READ of a node begins
 abbrev pub reading : Machine → (node : ℕ) → Phase → Machine
-reading m node phase = record m { reads = start_of node; phase = phase }
+reading m node phase = record m { registers = record m.registers { reads = reads_start node }; phase = phase }
 
 -- the root word named this node; a number that names none is loaded again
 abbrev pub rooted : Machine → Aim → (word : ℕ) → Machine
@@ -41,71 +42,69 @@ went m aim image (way.Read node) = reading m node (Read aim false)
 went m aim image (way.Right node) = reading (right_hop m) node (Read aim false)
 went m aim image (way.Lock node) = to m (Draw aim node)
 went m aim image (way.LockRight node) = to (right_hop m) (Draw aim node)
-went m aim image way.Grow = grown m aim m.reads.node
-went m aim image way.Found = to (answering m (answer_in m.call image)) Ended
+went m aim image way.Grow = root_grown m aim m.registers.reads.node
+went m aim image way.Found = to (answering m (answer_in m.registers.call image)) Ended
 
 abbrev pub arrived : Machine → Aim → (top : Bool) → Option Image → Machine
-arrived m aim top (Some image) = went m aim image (way_of m.setting m.call aim top m.reads.node image)
+arrived m aim top (Some image) = went m aim image (way_of m.setting m.registers.call aim top m.registers.reads.node image)
 arrived m aim top None = to m (Root aim)
 
 -- the lock is given back
 abbrev pub back : Machine → (depth : ℕ) → Write → Then → Machine
-back m depth write after = to m (Waiting m.reads.node depth write after)
+back m depth write after = to m (Waiting depth (giving_of m.registers.reads.node write after))
 
 -- an image that was READ under its lock leads to this
 abbrev pub did : Machine → Aim → (depth : ℕ) → Image → Decision → Machine
 did m aim depth image decision.Restart = back m depth write.Nothing (Starts aim)
 did m aim depth image (decision.Right node) = back (right_hop m) depth write.Nothing (Takes aim node)
-did m aim depth image decision.Absent = back (answering m (answer_in m.call image)) depth write.Nothing Ends
-did m aim depth image (decision.Entry index) = back (storing (answering m (answer_in m.call image)) (entry_body m.setting m.call index image)) depth (write.Entry index) Ends
-did m aim depth image (decision.Rewrite index) = back (storing (answering m (answer_in m.call image)) (leaf_body m.setting m.call index image)) depth write.Leaf Ends
+did m aim depth image decision.Absent = back (answering m (answer_in m.registers.call image)) depth write.Nothing Ends
+did m aim depth image (decision.Entry index) = back (storing (answering m (answer_in m.registers.call image)) (entry_body m.setting m.registers.call index image)) depth (write.Entry index) Ends
+did m aim depth image (decision.Rewrite index) = back (storing (answering m (answer_in m.registers.call image)) (leaf_body m.setting m.registers.call index image)) depth write.Leaf Ends
 did m aim depth image (decision.Worn version) = back (answering m (reply.Worn version)) depth write.Nothing Ends
-did m aim depth image decision.Split = split m aim depth image
+did m aim depth image decision.Split = needs m (ToSplit aim depth)
 did m aim depth image decision.Skip = back (skipped_worn m) depth write.Nothing Ends
 did m aim depth image decision.Add = back (storing m (inner_body m.setting aim image)) depth write.Inner Ends
 
 abbrev pub held_by : Machine → Aim → (depth : ℕ) → Option Image → Machine
-held_by m aim depth (Some image) = did m aim depth image (decision_of m.setting m.call aim image)
+held_by m aim depth (Some image) = did m aim depth image (decision_of m.setting m.registers.call aim image)
 held_by m aim depth None = back m depth write.Nothing (Starts aim)
 
 -- the READ is fed a word
 abbrev pub loaded : Machine → (word : ℕ) → Machine
-loaded m word = record m { reads = read_fed m.setting m.reads word }
+loaded m word = record m { registers = record m.registers { reads = read_fed m.setting m.registers.reads word } }
 
 -- A READ without a lock: torn words are loaded again, and words that spell no node lead to the root word.
 abbrev pub read_by : Machine → Aim → (top : Bool) → Progress → Machine
 read_by m aim top More = to m (Read aim top)
-read_by m aim top Accepted = arrived m aim top (accepted m.setting m.reads)
+read_by m aim top Accepted = arrived m aim top (accepted m.setting m.registers.reads)
 read_by m aim top (Again rear front) = to (again m) (Read aim top)
 read_by m aim top Odd = to m (Root aim)
 
 -- A READ under the lock: of words that spell no node the lock is given back, and the descent starts again.
 abbrev pub hold_by : Machine → Aim → (depth : ℕ) → Progress → Machine
-hold_by m aim depth More = to m (Hold aim depth)
-hold_by m aim depth Accepted = held_by m aim depth (accepted m.setting m.reads)
-hold_by m aim depth (Again rear front) = to (again m) (Hold aim depth)
+hold_by m aim depth More = to m (ReadLocked aim depth)
+hold_by m aim depth Accepted = held_by m aim depth (accepted m.setting m.registers.reads)
+hold_by m aim depth (Again rear front) = to (again m) (ReadLocked aim depth)
 hold_by m aim depth Odd = back m depth write.Nothing (Starts aim)
 
 -- the exchange of the lock word found this: with 0 the lock is taken, and was never handed over
 abbrev pub grabbed : Machine → Aim → (node word : ℕ) → Machine
-grabbed m aim node word = if word == 0 then reading m node (Hold aim 0) else to m (Grab aim node)
+grabbed m aim node word = if word == 0 then reading m node (ReadLocked aim 0) else to m (Grab aim node)
 
 abbrev pub fed_in : Machine → (word : ℕ) → Phase → Machine
 fed_in m word Idle = m
 fed_in m word (Root aim) = rooted m aim word
-fed_in m word (Read aim top) = read_by (loaded m word) aim top (progress_of m.setting m.reads word)
+fed_in m word (Read aim top) = read_by (loaded m word) aim top (progress_of m.setting m.registers.reads word)
 fed_in m word (Draw aim node) = to m (Look aim node)
 fed_in m word (Look aim node) = m
 fed_in m word (Grab aim node) = grabbed m aim node word
-fed_in m word (Hold aim depth) = hold_by (loaded m word) aim depth (progress_of m.setting m.reads word)
-fed_in m word (Seek aim depth) = sought m aim depth word
-fed_in m word (Fill node depth fresh done write after) = filled m node depth fresh done write after
-fed_in m word (Waiting node depth write after) = waited m node depth write after word
-fed_in m word (Body node carry done write after) = stored m node carry done write after
+fed_in m word (ReadLocked aim depth) = hold_by (loaded m word) aim depth (progress_of m.setting m.registers.reads word)
+fed_in m word (Seek need) = sought m need word
+fed_in m word (Fill fresh done filling) = filled m fresh done filling
+fed_in m word (Waiting depth giving) = count_told m depth giving word
+fed_in m word (Body carry done giving) = stored m carry done giving
 fed_in m word (Unlock node after) = to m (Leave node None after)
-fed_in m word (Leave node carry after) = left m carry after
-fed_in m word (Top post root) = topped m post root word
-fed_in m word (Raise post root fresh done) = raising m post root fresh done
+fed_in m word (Leave node carry after) = queue_left m carry after
 fed_in m word (Swap post root fresh) = swapped m post root fresh word
 fed_in m word Ended = m
 
@@ -115,27 +114,12 @@ fed_by m word = fed_in m word m.phase
 
 -- the look had its turn: with a depth the lock was handed over, without one its word is to be taken
 abbrev pub turned : Machine → Aim → (node : ℕ) → (depth : Option ℕ) → Machine
-turned m aim node (Some depth) = reading m node (Hold aim depth)
+turned m aim node (Some depth) = reading m node (ReadLocked aim depth)
 turned m aim node None = to m (Grab aim node)
 
 abbrev pub turned_in : Machine → (depth : Option ℕ) → Phase → Machine
 turned_in m depth (Look aim node) = turned m aim node depth
-turned_in m depth Idle = m
-turned_in m depth (Root aim) = m
-turned_in m depth (Read aim top) = m
-turned_in m depth (Draw aim node) = m
-turned_in m depth (Grab aim node) = m
-turned_in m depth (Hold aim d) = m
-turned_in m depth (Seek aim d) = m
-turned_in m depth (Fill node d fresh done write after) = m
-turned_in m depth (Waiting node d write after) = m
-turned_in m depth (Body node carry done write after) = m
-turned_in m depth (Unlock node after) = m
-turned_in m depth (Leave node carry after) = m
-turned_in m depth (Top post root) = m
-turned_in m depth (Raise post root fresh done) = m
-turned_in m depth (Swap post root fresh) = m
-turned_in m depth Ended = m
+turned_in m depth phase = m
 
 -- it is told that its look had the turn
 abbrev pub turned_by : Machine → (depth : Option ℕ) → Machine
@@ -143,7 +127,7 @@ turned_by m depth = turned_in m depth m.phase
 
 -- a call begins at the root word, on the way to its leaf
 abbrev pub begun : Machine → Call → Machine
-begun m call = record m { call = call; phase = Root Own }
+begun m call = record m { registers = record m.registers { call = call }; phase = Root Own }
 
 -- a call that has ended is taken away
 abbrev pub finished : Machine → Machine

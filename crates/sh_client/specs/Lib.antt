@@ -8,3 +8,4 @@ pub mod Rests
 pub mod Sound
 pub mod Courses
 pub mod Steps
+pub mod InLine

@@ -6,20 +6,18 @@ use Rattle.sh_map.specs.declared.call.Reply.{Reply}
 use Rattle.sh_alloc.specs.declared.state.NodeRange.{NodeRange}
 use Rattle.sh_alloc.specs.declared.state.Walk.{Walk}
 use Rattle.sh_alloc.specs.Spares.{no_nodes}
-use Rattle.sh_alloc.specs.Walks.{start_of as walk_start}
-use Rattle.sh_read.specs.Reads.{Reads, start_of}
+use Rattle.sh_alloc.specs.Walks.{walk_start}
+use Rattle.sh_read.specs.Reads.{Reads, reads_start}
 use Rattle.sh_map.specs.declared.call.Call.TheVariants.{Get}
 use Rattle.sh_map.specs.declared.call.Reply.TheVariants as reply
 use Rattle.sh_client.specs.declared.state.Phase.TheVariants.{Idle}
 use Rattle.sh_client.specs.declared.state.Tally.{Tally}
 use Rattle.sh_client.specs.declared.state.Phase.{Phase}
 
--- Its setting and seat; its spare nodes; its tally; the call under way and what it answers, once that's decided; the READ
--- and the walk over the counters that are under way; the words that are to be stored before a lock is given back, and
--- those of the fresh node, which is a right half or a new root; and what it is at.
-pub record Machine : Type 0 where
-  pub setting : ConfigParts
-  pub seat : ℕ
+-- What a client keeps from turn to turn beside what it is at: its spare nodes; its tally; the call under way and what it
+-- answers, once that's decided; the READ and the walk over the counters that are under way; the words that are to be stored
+-- before a lock is given back, and those of the fresh node, which is a right half or a new root.
+pub record Registers : Type 0 where
   pub spare : NodeRange
   pub tally : Tally
   pub call : Call
@@ -27,7 +25,13 @@ pub record Machine : Type 0 where
   pub reads : Reads
   pub walk : Walk
   pub body : List ℕ
-  pub right : List ℕ
+  pub fresh_words : List ℕ
+
+-- its setting and seat, which stay; its registers; and what it is at
+pub record Machine : Type 0 where
+  pub setting : ConfigParts
+  pub seat : ℕ
+  pub registers : Registers
   pub phase : Phase
 
 -- the same machine in another phase
@@ -36,46 +40,53 @@ to m phase = record m { phase = phase }
 
 -- with another reply decided
 abbrev pub answering : Machine → Reply → Machine
-answering m reply = record m { reply = reply }
+answering m reply = record m { registers = record m.registers { reply = reply } }
 
 -- with other words to be stored before the lock is given back
 abbrev pub storing : Machine → List ℕ → Machine
-storing m words = record m { body = words }
+storing m words = record m { registers = record m.registers { body = words } }
 
 -- with other spare nodes
 abbrev pub sparing : Machine → NodeRange → Machine
-sparing m nodes = record m { spare = nodes }
+sparing m nodes = record m { registers = record m.registers { spare = nodes } }
 
 -- a counter stays at its last value
 abbrev pub up : ℕ → ℕ
 up n = if n == 2 ^ 64 - 1 then n else n + 1
 
+-- with another tally
+abbrev pub tallying : Machine → Tally → Machine
+tallying m tally = record m { registers = record m.registers { tally = tally } }
+
 -- the counters, each raised by one
 abbrev pub again : Machine → Machine
-again m = record m { tally = record m.tally { again = up m.tally.again } }
+again m = tallying m (record m.registers.tally { again = up m.registers.tally.again })
 
 abbrev pub right_hop : Machine → Machine
-right_hop m = record m { tally = record m.tally { rights = up m.tally.rights } }
+right_hop m = tallying m (record m.registers.tally { rights = up m.registers.tally.rights })
 
 abbrev pub split_done : Machine → Machine
-split_done m = record m { tally = record m.tally { splits = up m.tally.splits } }
+split_done m = tallying m (record m.registers.tally { splits = up m.registers.tally.splits })
 
 abbrev pub handed_over : Machine → Machine
-handed_over m = record m { tally = record m.tally { handed = up m.tally.handed } }
+handed_over m = tallying m (record m.registers.tally { handed = up m.registers.tally.handed })
 
 abbrev pub skipped_spent : Machine → Machine
-skipped_spent m = record m { tally = record m.tally { skipped_spent = up m.tally.skipped_spent } }
+skipped_spent m = tallying m (record m.registers.tally { skipped_spent = up m.registers.tally.skipped_spent })
 
 abbrev pub skipped_worn : Machine → Machine
-skipped_worn m = record m { tally = record m.tally { skipped_worn = up m.tally.skipped_worn } }
+skipped_worn m = tallying m (record m.registers.tally { skipped_worn = up m.registers.tally.skipped_worn })
 
 abbrev pub rewrite_done : Machine → Machine
-rewrite_done m = record m { tally = record m.tally { rewritten = up m.tally.rewritten } }
+rewrite_done m = tallying m (record m.registers.tally { rewritten = up m.registers.tally.rewritten })
 
 -- nothing is counted
 abbrev pub no_tally : Tally
 no_tally = record { again = 0; rights = 0; splits = 0; handed = 0; from_cache = 0; skipped_spent = 0; skipped_worn = 0; rewritten = 0 }
 
 -- a client of a seat: it is idle, and has no spare node
+abbrev pub fresh_registers : ConfigParts → (seat : ℕ) → Registers
+fresh_registers p seat = record { spare = no_nodes; tally = no_tally; call = Get 1; reply = reply.None; reads = reads_start 1; walk = walk_start p seat; body = []; fresh_words = [] }
+
 abbrev pub fresh_machine : ConfigParts → (seat : ℕ) → Machine
-fresh_machine p seat = record { setting = p; seat = seat; spare = no_nodes; tally = no_tally; call = Get 1; reply = reply.None; reads = start_of 1; walk = walk_start p seat; body = []; right = []; phase = Idle }
+fresh_machine p seat = record { setting = p; seat = seat; registers = fresh_registers p seat; phase = Idle }

@@ -9,24 +9,29 @@ use Rattle.sh_map.specs.Calls.{IsInRange}
 use Rattle.sh_alloc.specs.declared.state.NodeRange.{NodeRange}
 use Rattle.sh_alloc.specs.declared.state.Walk.{Walk}
 use Rattle.sh_alloc.specs.declared.state.Chunks.{Chunks}
-use Rattle.sh_alloc.specs.Walks.{want_of as walk_wants}
+use Rattle.sh_alloc.specs.Walks.{walk_wants}
 use Rattle.sh_alloc.specs.Chunks.{WantsEvent}
 use Rattle.sh_image.specs.declared.inner.Image.{Image}
 use Rattle.sh_read.specs.Reads.{Reader, Reads, accepted, wanted}
 use Rattle.sh_read.specs.declared.state.Progress.{Progress}
 use Rattle.sh_read.specs.declared.state.Progress.TheVariants.{More, Accepted, Again, Odd}
-use Rattle.sh_decide.specs.declared.state.Post.{Post}
+use Rattle.sh_decide.specs.declared.state.Posting.{Posting}
 use Rattle.sh_decide.specs.declared.state.Aim.{Aim}
 use Rattle.sh_decide.specs.declared.state.Aim.TheVariants.{Own, Posts}
 use Rattle.sh_client.specs.declared.state.Then.{Then}
 use Rattle.sh_client.specs.declared.state.Then.TheVariants.{Ends, Starts, Takes}
 use Rattle.sh_client.specs.declared.state.Write.{Write}
-use Rattle.sh_client.specs.declared.state.Write.TheVariants.{Nothing, Entry, Leaf as WholeLeaf, LeftLeaf, Inner as WholeInner, LeftInner}
+use Rattle.sh_client.specs.declared.state.Write.TheVariants.{Nothing, Entry}
+use Rattle.sh_client.specs.declared.state.Giving.{Giving}
+use Rattle.sh_client.specs.declared.state.Need.{Need}
+use Rattle.sh_client.specs.declared.state.Need.TheVariants.{ToSplit, ToGrow}
+use Rattle.sh_client.specs.declared.state.Filling.{Filling}
+use Rattle.sh_client.specs.declared.state.Filling.TheVariants.{RightHalf, NewRoot}
 use Rattle.sh_client.specs.declared.state.Phase.{Phase}
-use Rattle.sh_client.specs.declared.state.Phase.TheVariants.{Idle, Root, Read, Draw, Look, Grab, Hold, Seek, Fill, Waiting, Body, Unlock, Leave, Top, Raise, Swap, Ended}
+use Rattle.sh_client.specs.declared.state.Phase.TheVariants.{Root, Read, Draw, Look, Grab, ReadLocked, Seek, Fill, Waiting, Body, Unlock, Leave, Swap}
 use Rattle.sh_decide.specs.declared.state.Decision.{Decision}
-use Rattle.sh_decide.specs.Allowed.{Allows, CanChange, CanSplit, HasEntry, HasRoom, HasVersion}
-use Rattle.sh_client.specs.Machine.{Machine}
+use Rattle.sh_decide.specs.Allowed.{Allows, CanChange, CanSplit, HasEntryAt, HasRoom, HasVersion}
+use Rattle.sh_client.specs.Machine.{Machine, Registers}
 
 -- no range
 abbrev pub IsPointCall : Call → Type 0
@@ -36,7 +41,7 @@ IsPointCall (Del key) = Unit {0}
 IsPointCall (Range low high) = ⊥
 
 -- a post of a node of the setting, to a level that the setting may have
-pub record IsPost (p : ConfigParts) (post : Post) : Type 0 where
+pub record IsPost (p : ConfigParts) (post : Posting) : Type 0 where
   pub node : IsNode p post.node
   pub level : post.level ≤ nodes p
 
@@ -53,19 +58,12 @@ IsThen p (Takes aim node) = IsAim p aim × IsNode p node
 abbrev pub IsFilled : ConfigParts → Write → List ℕ → Type 0
 IsFilled p Nothing body = ⊥
 IsFilled p (Entry index) body = (index < p.leaf) × (length body ≡ entry_size p)
-IsFilled p WholeLeaf body = length body ≡ node_size p
-IsFilled p LeftLeaf body = length body ≡ node_size p
-IsFilled p WholeInner body = length body ≡ node_size p
-IsFilled p LeftInner body = length body ≡ node_size p
+IsFilled p write body = length body ≡ node_size p
 
 -- or none are
 abbrev pub IsBody : ConfigParts → Write → List ℕ → Type 0
 IsBody p Nothing body = Unit {0}
-IsBody p (Entry index) body = IsFilled p (Entry index) body
-IsBody p WholeLeaf body = IsFilled p WholeLeaf body
-IsBody p LeftLeaf body = IsFilled p LeftLeaf body
-IsBody p WholeInner body = IsFilled p WholeInner body
-IsBody p LeftInner body = IsFilled p LeftInner body
+IsBody p write body = IsFilled p write body
 
 -- the spare nodes are nodes of the setting
 pub record AreSpare (p : ConfigParts) (r : NodeRange) : Type 0 where
@@ -93,44 +91,55 @@ pub record IsWalking (p : ConfigParts) (spare : NodeRange) (walk : Walk) : Type 
   pub wants : WantsEvent (walk_wants p walk)
   pub none : spare.count ≡ 0
 
--- a fresh node with its words, the last node that was taken of the spare ones
-pub record IsFresh (p : ConfigParts) (fresh : ℕ) (right : List ℕ) : Type 0 where
+-- a fresh node with its words, of which some are left to store
+pub record IsFresh (p : ConfigParts) (fresh : ℕ) (ready : List ℕ) : Type 0 where
   pub node : IsNode p fresh
-  pub words : length right ≡ node_size p
+  pub words : length ready ≡ node_size p
 
--- a lock of a node is held
-pub record IsHeld (p : ConfigParts) (node depth : ℕ) (write : Write) (after : Then) (body : List ℕ) : Type 0 where
-  pub node_is : IsNode p node
-  pub within : depth ≤ p.bound
-  pub filled : IsBody p write body
-  pub then_is : IsThen p after
+-- a lock that is to be given back: of a node, behind words that are there
+pub record IsGiving (p : ConfigParts) (body : List ℕ) (giving : Giving) : Type 0 where
+  pub node_is : IsNode p giving.node
+  pub filled : IsBody p giving.write body
+  pub then_is : IsThen p giving.after
 
 pub record IsLocked (p : ConfigParts) (node : ℕ) (after : Then) : Type 0 where
   pub node_is : IsNode p node
   pub then_is : IsThen p after
 
-abbrev pub IsSound : ConfigParts → NodeRange → Call → Reads → Walk → (body right : List ℕ) → Phase → Type 0
-IsSound p spare call reads walk body right Idle = Unit {0}
-IsSound p spare call reads walk body right (Root aim) = IsAim p aim
-IsSound p spare call reads walk body right (Read aim top) = IsAim p aim × IsLoading p reads
-IsSound p spare call reads walk body right (Draw aim node) = IsAim p aim × IsNode p node
-IsSound p spare call reads walk body right (Look aim node) = IsAim p aim × IsNode p node
-IsSound p spare call reads walk body right (Grab aim node) = IsAim p aim × IsNode p node
-IsSound p spare call reads walk body right (Hold aim depth) = IsAim p aim × (depth ≤ p.bound) × IsLoading p reads
-IsSound p spare call reads walk body right (Seek aim depth) = IsAim p aim × (depth ≤ p.bound) × IsWalking p spare walk × HasSplit p call aim (accepted p reads)
-IsSound p spare call reads walk body right (Fill node depth fresh done write after) = IsHeld p node depth write after body × IsFresh p fresh right × (done < node_size p)
-IsSound p spare call reads walk body right (Waiting node depth write after) = IsHeld p node depth write after body
-IsSound p spare call reads walk body right (Body node carry done write after) = IsLocked p node after × IsFilled p write body × (done < length body)
-IsSound p spare call reads walk body right (Unlock node after) = IsLocked p node after
-IsSound p spare call reads walk body right (Leave node carry after) = IsLocked p node after
-IsSound p spare call reads walk body right (Top post root) = IsPost p post × IsNode p root × IsWalking p spare walk
-IsSound p spare call reads walk body right (Raise post root fresh done) = IsPost p post × IsFresh p fresh right × (fresh + 1 ≡ spare.first) × (done < node_size p)
-IsSound p spare call reads walk body right (Swap post root fresh) = IsPost p post × IsNode p fresh × (fresh + 1 ≡ spare.first)
-IsSound p spare call reads walk body right Ended = Unit {0}
+-- a lock is handed over once at least, and no more often than the bound
+abbrev pub IsCarry : ConfigParts → Option ℕ → Type 0
+IsCarry p None = Unit {0}
+IsCarry p (Some depth) = (1 ≤ depth) × (depth ≤ p.bound)
+
+-- a node is sought to split one that was READ under its lock, or to go over a root
+abbrev pub IsNeed : ConfigParts → Call → Reads → Need → Type 0
+IsNeed p call reads (ToSplit aim depth) = IsAim p aim × (depth ≤ p.bound) × HasSplit p call aim (accepted p reads)
+IsNeed p call reads (ToGrow post root) = IsPost p post × IsNode p root
+
+-- what a fresh node is filled with; a new root's is the last node that was taken of the spare ones
+abbrev pub IsFilling : ConfigParts → Registers → (fresh : ℕ) → Filling → Type 0
+IsFilling p r fresh (RightHalf depth giving) = (depth ≤ p.bound) × IsGiving p r.body giving
+IsFilling p r fresh (NewRoot post root) = IsPost p post × (fresh + 1 ≡ r.spare.first)
+
+abbrev pub IsSound : ConfigParts → Registers → Phase → Type 0
+IsSound p r (Root aim) = IsAim p aim
+IsSound p r (Read aim top) = IsAim p aim × IsLoading p r.reads
+IsSound p r (Draw aim node) = IsAim p aim × IsNode p node
+IsSound p r (Look aim node) = IsAim p aim × IsNode p node
+IsSound p r (Grab aim node) = IsAim p aim × IsNode p node
+IsSound p r (ReadLocked aim depth) = IsAim p aim × (depth ≤ p.bound) × IsLoading p r.reads
+IsSound p r (Seek need) = IsNeed p r.call r.reads need × IsWalking p r.spare r.walk
+IsSound p r (Fill fresh done filling) = IsFilling p r fresh filling × IsFresh p fresh r.fresh_words × (done < node_size p)
+IsSound p r (Waiting depth giving) = (depth ≤ p.bound) × IsGiving p r.body giving
+IsSound p r (Body carry done giving) = IsCarry p carry × IsLocked p giving.node giving.after × IsFilled p giving.write r.body × (done < length r.body)
+IsSound p r (Unlock node after) = IsLocked p node after
+IsSound p r (Leave node carry after) = IsCarry p carry × IsLocked p node after
+IsSound p r (Swap post root fresh) = IsPost p post × IsNode p fresh × (fresh + 1 ≡ r.spare.first)
+IsSound p r phase = Unit {0}
 
 -- a machine may be at this
 abbrev pub Stands : Machine → Phase → Type 0
-Stands m phase = IsSound m.setting m.spare m.call m.reads m.walk m.body m.right phase
+Stands m phase = IsSound m.setting m.registers phase
 
 -- what a decision needs, of the image of a READ, which there is
 abbrev pub AllowsIn : ConfigParts → Call → Aim → Option Image → Decision → Type 0
@@ -142,7 +151,7 @@ CanChangeIn (Some image) index = CanChange image index
 CanChangeIn None index = ⊥
 
 abbrev pub CanRewriteIn : Option Image → (index : ℕ) → Type 0
-CanRewriteIn (Some image) index = HasEntry image index × HasVersion image
+CanRewriteIn (Some image) index = HasEntryAt image index × HasVersion image
 CanRewriteIn None index = ⊥
 
 abbrev pub CanAddIn : ConfigParts → Aim → Option Image → Type 0
@@ -162,10 +171,10 @@ NeedsNoLock (Grab aim node) = ⊥
 NeedsNoLock phase = Unit {0}
 
 -- the parts of a client are of one setting, and fit what it is at
-pub record IsClient (p : ConfigParts) (seat : ℕ) (spare : NodeRange) (call : Call) (reader : Reader) (chunks : Chunks) (body right : List ℕ) (lock : ℕ) (phase : Phase) : Type 0 where
+pub record IsClient (p : ConfigParts) (seat : ℕ) (r : Registers) (reader : Reader) (chunks : Chunks) (lock : ℕ) (phase : Phase) : Type 0 where
   pub one_setting : (reader.setting ≡ p) × (chunks.cfg.parts ≡ p)
   pub seat_is : seat < all_seats p
-  pub in_range : IsInRange p call
-  pub spares : AreSpare p spare
-  pub sound : IsSound p spare call reader.reads chunks.walk body right phase
+  pub in_range : IsInRange p r.call
+  pub spares : AreSpare p r.spare
+  pub sound : IsSound p r phase
   pub keeps_lock : KeepsLock p lock phase

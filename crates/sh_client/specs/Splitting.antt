@@ -12,112 +12,119 @@ use Rattle.sh_edit.specs.Pairing.{left_inner, middle_of, right_inner, root_over}
 use Rattle.sh_alloc.specs.declared.state.ChunkWant.{ChunkWant}
 use Rattle.sh_alloc.specs.declared.state.ChunkWant.TheVariants as chunk
 use Rattle.sh_alloc.specs.Spares.{lowest, nodes_from, with_lowest, without_lowest}
-use Rattle.sh_alloc.specs.Walks.{fed_by as walk_fed, start_of as walk_start, want_of as walk_wants}
+use Rattle.sh_alloc.specs.Walks.{walk_fed, walk_start, walk_wants}
 use Rattle.sh_read.specs.Reads.{accepted}
-use Rattle.sh_decide.specs.declared.state.Post.{Post}
+use Rattle.sh_decide.specs.declared.state.Posting.{Posting}
 use Rattle.sh_decide.specs.declared.state.Aim.{Aim}
 use Rattle.sh_decide.specs.declared.state.Aim.TheVariants.{Own, Posts}
 use Rattle.sh_client.specs.declared.state.Then.{Then}
 use Rattle.sh_client.specs.declared.state.Then.TheVariants.{Ends, Starts}
 use Rattle.sh_client.specs.declared.state.Write.{Write}
 use Rattle.sh_client.specs.declared.state.Write.TheVariants.{Nothing, LeftLeaf, LeftInner}
-use Rattle.sh_client.specs.declared.state.Phase.TheVariants.{Root, Seek, Fill, Waiting, Top, Raise, Swap, Ended}
+use Rattle.sh_client.specs.declared.state.Giving.{Giving}
+use Rattle.sh_client.specs.declared.state.Need.{Need}
+use Rattle.sh_client.specs.declared.state.Need.TheVariants.{ToSplit, ToGrow}
+use Rattle.sh_client.specs.declared.state.Filling.{Filling}
+use Rattle.sh_client.specs.declared.state.Filling.TheVariants.{RightHalf, NewRoot}
+use Rattle.sh_client.specs.declared.state.Phase.TheVariants.{Root, Seek, Fill, Waiting, Swap, Ended}
 use Rattle.sh_client.specs.Machine.{Machine, to, answering, sparing, skipped_spent}
-use Rattle.sh_decide.specs.Aims.{left_key, left_value, post_of}
+use Rattle.sh_decide.specs.Aims.{written_key, written_value, post_of}
 use Rattle.sh_client.specs.Bodies.{pair_of}
 
 -- the walk over the counters begins
 abbrev pub walking : Machine → Machine
-walking m = record m { walk = walk_start m.setting m.seat }
+walking m = record m { registers = record m.registers { walk = walk_start m.setting m.seat } }
 
--- the two halves stand ready, the right one for the fresh node
+-- the lock of a node is to be given back, with nothing written or behind a write
+abbrev pub giving_of : (node : ℕ) → Write → Then → Giving
+giving_of node write after = record { node = node; write = write; after = after }
+
+-- both halves of a leaf, of which the right one is for the fresh node
 abbrev pub halved_leaf : Machine → (depth fresh : ℕ) → Leaf → Machine
 halved_leaf m depth fresh a =
-    let key = left_key m.call in
-    let value = left_value m.setting m.call in
-    record m { reply = reply.None; body = leaf_words (left_half a key value fresh); right = leaf_words (right_half a key value); phase = Fill m.reads.node depth fresh 0 LeftLeaf (Starts (Posts (post_of (separator_of a.entries key value) fresh 1))) }
+    let key = written_key m.registers.call in
+    let value = written_value m.setting m.registers.call in
+    let posting = post_of (separator_of a.entries key value) fresh 1 in
+    let registers = record m.registers { reply = reply.None; body = leaf_words (left_half a key value fresh); fresh_words = leaf_words (right_half a key value) } in
+    record m { registers = registers; phase = Fill fresh 0 (RightHalf depth (giving_of m.registers.reads.node LeftLeaf (Starts (Posts posting)))) }
 
-abbrev pub halved_inner : Machine → Post → (depth fresh : ℕ) → Inner → Machine
+-- and of an inner node
+abbrev pub halved_inner : Machine → Posting → (depth fresh : ℕ) → Inner → Machine
 halved_inner m post depth fresh a =
     let new = pair_of post in
     let count = m.setting.leaf in
-    record m { body = inner_words m.setting (left_inner count a new fresh); right = inner_words m.setting (right_inner count a new); phase = Fill m.reads.node depth fresh 0 LeftInner (Starts (Posts (post_of (middle_of count a.pairs new) fresh (a.level + 1)))) }
+    let posting = post_of (middle_of count a.pairs new) fresh (a.level + 1) in
+    let registers = record m.registers { body = inner_words m.setting (left_inner count a new fresh); fresh_words = inner_words m.setting (right_inner count a new) } in
+    record m { registers = registers; phase = Fill fresh 0 (RightHalf depth (giving_of m.registers.reads.node LeftInner (Starts (Posts posting)))) }
 
 -- a leaf is split for a put, and an inner node for a post; else the descent starts again
 abbrev pub halved : Machine → Aim → (depth fresh : ℕ) → Image → Machine
 halved m Own depth fresh (LeafImage a) = halved_leaf m depth fresh a
 halved m (Posts post) depth fresh (InnerImage a) = halved_inner m post depth fresh a
-halved m Own depth fresh (InnerImage a) = to m (Waiting m.reads.node depth Nothing (Starts Own))
-halved m (Posts post) depth fresh (LeafImage a) = to m (Waiting m.reads.node depth Nothing (Starts (Posts post)))
+halved m aim depth fresh image = to m (Waiting depth (giving_of m.registers.reads.node Nothing (Starts aim)))
+
+-- the image of the READ is split with the fresh node
+abbrev pub halved_by : Machine → Aim → (depth fresh : ℕ) → Option Image → Machine
+halved_by m aim depth fresh (Some image) = halved m aim depth fresh image
+halved_by m aim depth fresh None = to m (Waiting depth (giving_of m.registers.reads.node Nothing (Starts aim)))
+
+-- a new root stands ready for the fresh node
+abbrev pub raised : Machine → Posting → (root fresh : ℕ) → Machine
+raised m post root fresh =
+    let registers = record m.registers { fresh_words = inner_words m.setting (root_over post.level root post.separator post.node) } in
+    record m { registers = registers; phase = Fill fresh 0 (NewRoot post root) }
+
+-- with a fresh node the split or the new root goes on
+abbrev pub with_fresh : Machine → (fresh : ℕ) → Need → Machine
+with_fresh m fresh (ToSplit aim depth) = halved_by m aim depth fresh (accepted m.setting m.registers.reads)
+with_fresh m fresh (ToGrow post root) = raised m post root fresh
 
 -- the lowest spare node is taken, and where there is none a chunk is looked for
-abbrev pub splitting : Machine → Aim → (depth : ℕ) → Image → Option ℕ → Machine
-splitting m aim depth image (Some fresh) = halved (sparing m (without_lowest m.spare)) aim depth fresh image
-splitting m aim depth image None = to (walking m) (Seek aim depth)
+abbrev pub needing : Machine → Need → Option ℕ → Machine
+needing m need (Some fresh) = with_fresh (sparing m (without_lowest m.registers.spare)) fresh need
+needing m need None = to (walking m) (Seek need)
 
-abbrev pub split : Machine → Aim → (depth : ℕ) → Image → Machine
-split m aim depth image = splitting m aim depth image (lowest m.spare)
+abbrev pub needs : Machine → Need → Machine
+needs m need = needing m need (lowest m.registers.spare)
 
--- all chunks are spent: a put is full, and a post is skipped
-abbrev pub all_spent : Machine → Aim → (depth : ℕ) → Machine
-all_spent m Own depth = to (answering m reply.Full) (Waiting m.reads.node depth Nothing Ends)
-all_spent m (Posts post) depth = to (skipped_spent m) (Waiting m.reads.node depth Nothing Ends)
+-- the root is a level too low for the post: a new one goes over it
+abbrev pub root_grown : Machine → Aim → (root : ℕ) → Machine
+root_grown m Own root = to m (Root Own)
+root_grown m (Posts post) root = needs m (ToGrow post root)
 
 -- a chunk was found: its nodes are spare, but the lowest, which is taken at once
 abbrev pub chunk_taken : Machine → (server chunk : ℕ) → Machine
 chunk_taken m server chunk = sparing m (without_lowest (nodes_from (first_node m.setting server chunk) m.setting.chunk_nodes))
 
--- the image of the READ is split with the fresh node
-abbrev pub halved_by : Machine → Aim → (depth fresh : ℕ) → Option Image → Machine
-halved_by m aim depth fresh (Some image) = halved m aim depth fresh image
-halved_by m aim depth fresh None = to m (Waiting m.reads.node depth Nothing (Starts aim))
+-- all chunks are spent: a put is full, and a post is skipped
+abbrev pub all_spent : Machine → Need → Machine
+all_spent m (ToSplit Own depth) = to (answering m reply.Full) (Waiting depth (giving_of m.registers.reads.node Nothing Ends))
+all_spent m (ToSplit (Posts post) depth) = to (skipped_spent m) (Waiting depth (giving_of m.registers.reads.node Nothing Ends))
+all_spent m (ToGrow post root) = to (skipped_spent m) Ended
 
-abbrev pub sought_by : Machine → Aim → (depth : ℕ) → ChunkWant → Machine
-sought_by m aim depth (chunk.Event e) = to m (Seek aim depth)
-sought_by m aim depth (chunk.Got server chunk) = halved_by (chunk_taken m server chunk) aim depth (first_node m.setting server chunk) (accepted m.setting m.reads)
-sought_by m aim depth chunk.AllSpent = all_spent m aim depth
+-- the walk goes on, has found a chunk, or has found that all are spent
+abbrev pub sought_by : Machine → Need → ChunkWant → Machine
+sought_by m need (chunk.Event e) = to m (Seek need)
+sought_by m need (chunk.Got server chunk) = with_fresh (chunk_taken m server chunk) (first_node m.setting server chunk) need
+sought_by m need chunk.AllSpent = all_spent m need
 
 -- the walk is fed a word
 abbrev pub walked : Machine → (word : ℕ) → Machine
-walked m word = record m { walk = walk_fed m.setting m.walk word }
+walked m word = record m { registers = record m.registers { walk = walk_fed m.setting m.registers.walk word } }
 
-abbrev pub sought : Machine → Aim → (depth word : ℕ) → Machine
-sought m aim depth word = sought_by (walked m word) aim depth (walk_wants m.setting (walk_fed m.setting m.walk word))
+abbrev pub sought : Machine → Need → (word : ℕ) → Machine
+sought m need word = sought_by (walked m word) need (walk_wants m.setting (walk_fed m.setting m.registers.walk word))
 
--- a word of the right half is stored; behind the last one the lock is given back
-abbrev pub filled : Machine → (node depth fresh done : ℕ) → Write → Then → Machine
-filled m node depth fresh done write after =
-    if done + 1 == node_size m.setting then to m (Waiting node depth write after) else to m (Fill node depth fresh (done + 1) write after)
+-- behind the last word of a right half its node's lock is given back, and behind that of a new root the root word is exchanged
+abbrev pub fill_done : Machine → (fresh : ℕ) → Filling → Machine
+fill_done m fresh (RightHalf depth giving) = to m (Waiting depth giving)
+fill_done m fresh (NewRoot post root) = to m (Swap post root fresh)
 
--- a new root stands ready for the fresh node
-abbrev pub raised : Machine → Post → (root fresh : ℕ) → Machine
-raised m post root fresh =
-    record m { right = inner_words m.setting (root_over post.level root post.separator post.node); phase = Raise post root fresh 0 }
-
--- the root is a level too low: a new one goes over it, in the lowest spare node, or one of a chunk that is looked for
-abbrev pub growing : Machine → Post → (root : ℕ) → Option ℕ → Machine
-growing m post root (Some fresh) = raised (sparing m (without_lowest m.spare)) post root fresh
-growing m post root None = to (walking m) (Top post root)
-
-abbrev pub grown : Machine → Aim → (root : ℕ) → Machine
-grown m Own root = to m (Root Own)
-grown m (Posts post) root = growing m post root (lowest m.spare)
-
--- with all chunks spent the post is skipped
-abbrev pub topped_by : Machine → Post → (root : ℕ) → ChunkWant → Machine
-topped_by m post root (chunk.Event e) = to m (Top post root)
-topped_by m post root (chunk.Got server chunk) = raised (chunk_taken m server chunk) post root (first_node m.setting server chunk)
-topped_by m post root chunk.AllSpent = to (skipped_spent m) Ended
-
-abbrev pub topped : Machine → Post → (root word : ℕ) → Machine
-topped m post root word = topped_by (walked m word) post root (walk_wants m.setting (walk_fed m.setting m.walk word))
-
--- a word of the new root is stored
-abbrev pub raising : Machine → Post → (root fresh done : ℕ) → Machine
-raising m post root fresh done =
-    if done + 1 == node_size m.setting then to m (Swap post root fresh) else to m (Raise post root fresh (done + 1))
+-- a word of the fresh node is stored
+abbrev pub filled : Machine → (fresh done : ℕ) → Filling → Machine
+filled m fresh done filling = if done + 1 == node_size m.setting then fill_done m fresh filling else to m (Fill fresh (done + 1) filling)
 
 -- The exchange found this root. Where it isn't the old one the new root's node is spare again, and the post starts again.
-abbrev pub swapped : Machine → Post → (root fresh word : ℕ) → Machine
+abbrev pub swapped : Machine → Posting → (root fresh word : ℕ) → Machine
 swapped m post root fresh word =
-    if word == root then to m Ended else to (sparing m (with_lowest fresh m.spare)) (Root (Posts post))
+    if word == root then to m Ended else to (sparing m (with_lowest fresh m.registers.spare)) (Root (Posts post))

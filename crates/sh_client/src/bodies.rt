@@ -5,11 +5,11 @@ ghost use Rattle.sh_base.specs.Setting.{entry_size, node_size};
 ghost use Rattle.sh_image.specs.Node.{IsImage};
 ghost use Rattle.sh_map.specs.Calls.{IsInRange};
 ghost use Rattle.sh_client.specs.Bodies.{entry_body, inner_body, leaf_body};
-ghost use Rattle.sh_decide.specs.Allowed.{CanChange, HasEntry, HasRoom, HasVersion};
+ghost use Rattle.sh_decide.specs.Allowed.{CanChange, HasEntryAt, HasRoom, HasVersion};
 
 use crate::Words;
 use sh_base::Config;
-use sh_decide::{Aim, left_key, left_value};
+use sh_decide::{Aim, written_key, written_value};
 use sh_edit::{add_child, rewrite};
 use sh_image::Image;
 use sh_map::Call;
@@ -24,7 +24,7 @@ pub(crate) fn put_entry(words: &mut Words, cfg: &Config, call: &Call, index: u32
     match image {
         Image::Leaf(leaf) => {
             let version = leaf.entry(index).version + 1;
-            words.set_entry(version, left_key(call), left_value(cfg, call));
+            words.set_entry(version, written_key(call), written_value(cfg, call));
         }
         Image::Inner(_) => {}
     }
@@ -35,14 +35,14 @@ pub(crate) fn put_entry(words: &mut Words, cfg: &Config, call: &Call, index: u32
 pub(crate) fn put_leaf(words: &mut Words, cfg: &Config, call: &Call, index: u32, image: &Image)
     requires call { IsInRange (parts_of cfg.now) call.now }
     requires image { IsImage (parts_of cfg.now) image.now }
-    requires entry { HasEntry image.now index }
+    requires entry { HasEntryAt image.now index }
     requires version { HasVersion image.now }
     ensures words { words.new ≡ leaf_body (parts_of cfg.now) call.now index image.now }
     ensures size { length words.new ≡ node_size (parts_of cfg.now) }
 {
     match image {
         Image::Leaf(leaf) => {
-            let leaf = rewrite(leaf, index, left_key(call), left_value(cfg, call));
+            let leaf = rewrite(leaf, index, written_key(call), written_value(cfg, call));
             words.set_leaf(cfg, &leaf);
         }
         Image::Inner(_) => {}

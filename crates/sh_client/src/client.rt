@@ -35,7 +35,7 @@ impl Client {
             reading: Reading::new(cfg, 1),
             chunks: Chunks::new(cfg, seat),
             body: Words::none(),
-            right: Words::none(),
+            fresh_words: Words::none(),
             lock: 0,
             phase: Phase::Idle,
         })
@@ -63,39 +63,26 @@ impl Client {
             Phase::Read { aim, top } => self.fed_read(aim, top, word),
             Phase::Draw { aim, node } => self.fed_draw(aim, node),
             Phase::Grab { aim, node } => self.fed_grab(aim, node, word),
-            Phase::Hold { aim, depth } => self.fed_hold(aim, depth, word),
-            Phase::Seek { aim, depth } => self.fed_seek(aim, depth, word),
+            Phase::ReadLocked { aim, depth } => self.fed_hold(aim, depth, word),
+            Phase::Seek { need } => self.fed_seek(need, word),
             Phase::Fill {
-                node,
-                depth,
                 fresh,
                 done,
-                write,
-                after,
-            } => self.fed_fill(node, depth, fresh, done, write, after),
-            Phase::Waiting {
-                node,
-                depth,
-                write,
-                after,
-            } => self.fed_waiting(node, depth, write, after, word),
+                filling,
+            } => self.fed_fill(fresh, done, filling),
+            Phase::Waiting { depth, giving } => self.fed_waiting(depth, giving, word),
             Phase::Body {
-                node,
                 carry,
                 done,
-                write,
-                after,
-            } => self.fed_body(node, carry, done, write, after),
+                giving,
+            } => self.fed_body(carry, done, giving),
             Phase::Unlock { node, after } => self.fed_unlock(node, after),
             Phase::Leave { node, carry, after } => self.fed_leave(node, carry, after),
-            Phase::Top { post, root } => self.fed_top(post, root, word),
-            Phase::Raise {
-                post,
+            Phase::Swap {
+                posting,
                 root,
                 fresh,
-                done,
-            } => self.fed_raise(post, root, fresh, done),
-            Phase::Swap { post, root, fresh } => self.fed_swap(post, root, fresh, word),
+            } => self.fed_swap(posting, root, fresh, word),
         }
     }
 
@@ -119,22 +106,7 @@ impl Client {
     {
         match self.phase {
             Phase::Ended => Some(self.reply),
-            Phase::Idle
-            | Phase::Root { .. }
-            | Phase::Read { .. }
-            | Phase::Draw { .. }
-            | Phase::Look { .. }
-            | Phase::Grab { .. }
-            | Phase::Hold { .. }
-            | Phase::Seek { .. }
-            | Phase::Fill { .. }
-            | Phase::Waiting { .. }
-            | Phase::Body { .. }
-            | Phase::Unlock { .. }
-            | Phase::Leave { .. }
-            | Phase::Top { .. }
-            | Phase::Raise { .. }
-            | Phase::Swap { .. } => None,
+            _ => None,
         }
     }
 
@@ -153,9 +125,16 @@ impl Client {
         &[]
     }
 
+    /// Its seat.
+    pub fn seat(&self) -> u32
+        ensures { result ≡ self.now.seat }
+    {
+        self.seat
+    }
+
     /// What it has counted since it was made.
     pub fn tally(&self) -> Tally
-        ensures { result ≡ self.now.tally }
+        ensures { result ≡ self.now.registers.tally }
     {
         self.tally
     }
@@ -168,30 +147,15 @@ impl Client {
         ensures room { vec_capacity log.new ≡ vec_capacity log.old }
     {
         match self.phase {
-            Phase::Body { done, write, .. } => self.log_stored(log, done, write),
-            Phase::Idle
-            | Phase::Root { .. }
-            | Phase::Read { .. }
-            | Phase::Draw { .. }
-            | Phase::Look { .. }
-            | Phase::Grab { .. }
-            | Phase::Hold { .. }
-            | Phase::Seek { .. }
-            | Phase::Fill { .. }
-            | Phase::Waiting { .. }
-            | Phase::Unlock { .. }
-            | Phase::Leave { .. }
-            | Phase::Top { .. }
-            | Phase::Raise { .. }
-            | Phase::Swap { .. }
-            | Phase::Ended => {}
+            Phase::Body { done, giving, .. } => self.log_stored(log, done, giving.write),
+            _ => {}
         }
     }
 
     // Logs what a store of the body makes.
     fn log_stored(&self, log: &mut Log, done: u32, write: Write)
         requires room { vec_len log.old < vec_capacity log.old }
-        requires done { done < length self.now.body }
+        requires done { done < length self.now.registers.body }
         ensures items { log.new.items ≡ log.old.items ++ stored_entries self.now done write }
         ensures room { vec_capacity log.new ≡ vec_capacity log.old }
     {
@@ -203,7 +167,7 @@ impl Client {
             Write::Entry { .. } | Write::Leaf | Write::LeftLeaf => {
                 log_call(log, self.seat, &self.call, &self.reply);
             }
-            Write::Nothing | Write::Inner | Write::LeftInner => {}
+            _ => {}
         }
     }
 }

@@ -16,7 +16,7 @@ ghost use Rattle.sh_decide.specs.Allowed.{Leads};
 
 use crate::bodies::{put_entry, put_inner, put_leaf};
 use crate::steps::image;
-use crate::{Client, Phase, Then, Write};
+use crate::{Client, Need, Phase, Then, Write};
 use sh_decide::{Aim, Decision, Way, decision, node_in, way};
 use sh_map::Reply;
 use sh_read::Progress;
@@ -56,8 +56,8 @@ impl Client {
     #[inline(never)]
     fn arrive(&mut self, aim: Aim, top: bool)
         requires aim { IsAim self.old.setting aim }
-        requires image { accepted self.old.setting self.old.reads ≢ None }
-        ensures { self.new ≡ arrived self.old aim top (accepted self.old.setting self.old.reads) }
+        requires image { accepted self.old.setting self.old.registers.reads ≢ None }
+        ensures { self.new ≡ arrived self.old aim top (accepted self.old.setting self.old.registers.reads) }
     {
         let node = self.reading.node();
         let way = way(&self.cfg, &self.call, aim, top, node, image(&self.reading));
@@ -67,9 +67,9 @@ impl Client {
     // Goes where the image leads.
     fn go(&mut self, aim: Aim, way: Way)
         requires aim { IsAim self.old.setting aim }
-        requires image { accepted self.old.setting self.old.reads ≢ None }
+        requires image { accepted self.old.setting self.old.registers.reads ≢ None }
         requires leads { Leads self.old.setting way }
-        ensures { (image : Image) → accepted self.old.setting self.old.reads ≡ Some image → self.new ≡ went self.old aim image way }
+        ensures { (image : Image) → accepted self.old.setting self.old.registers.reads ≡ Some image → self.new ≡ went self.old aim image way }
     {
         match way {
             Way::Root => self.to(Phase::Root { aim }),
@@ -111,7 +111,7 @@ impl Client {
         ensures { self.new ≡ turned self.old aim node (Some depth) }
     {
         self.start(node);
-        self.to(Phase::Hold { aim, depth });
+        self.to(Phase::ReadLocked { aim, depth });
     }
 
     // The exchange of the lock word found this.
@@ -122,21 +122,21 @@ impl Client {
     {
         if word == 0 {
             self.start(node);
-            self.to(Phase::Hold { aim, depth: 0 });
+            self.to(Phase::ReadLocked { aim, depth: 0 });
         }
     }
 
     // A word of a READ under the lock is there.
     pub(crate) fn fed_hold(&mut self, aim: Aim, depth: u32, word: u64)
-        requires { Stands self.old (phase.Hold aim depth) }
-        ensures { self.new ≡ fed_in self.old word (phase.Hold aim depth) }
+        requires { Stands self.old (phase.ReadLocked aim depth) }
+        ensures { self.new ≡ fed_in self.old word (phase.ReadLocked aim depth) }
     {
         match self.load(word) {
-            Progress::More => self.to(Phase::Hold { aim, depth }),
+            Progress::More => self.to(Phase::ReadLocked { aim, depth }),
             Progress::Accepted => self.decide(aim, depth),
             Progress::Again { .. } => {
                 self.count_again();
-                self.to(Phase::Hold { aim, depth });
+                self.to(Phase::ReadLocked { aim, depth });
             }
             Progress::Odd => self.back(depth, Write::Nothing, Then::Starts { aim }),
         }
@@ -147,8 +147,8 @@ impl Client {
     fn decide(&mut self, aim: Aim, depth: u32)
         requires aim { IsAim self.old.setting aim }
         requires depth { depth ≤ self.old.setting.bound }
-        requires image { accepted self.old.setting self.old.reads ≢ None }
-        ensures { self.new ≡ held_by self.old aim depth (accepted self.old.setting self.old.reads) }
+        requires image { accepted self.old.setting self.old.registers.reads ≢ None }
+        ensures { self.new ≡ held_by self.old aim depth (accepted self.old.setting self.old.registers.reads) }
     {
         let decision = decision(&self.cfg, &self.call, aim, image(&self.reading));
         self.act(aim, depth, decision);
@@ -158,8 +158,8 @@ impl Client {
     fn act(&mut self, aim: Aim, depth: u32, decision: Decision)
         requires aim { IsAim self.old.setting aim }
         requires depth { depth ≤ self.old.setting.bound }
-        requires allowed { AllowsIn self.old.setting self.old.call aim (accepted self.old.setting self.old.reads) decision }
-        ensures { (image : Image) → accepted self.old.setting self.old.reads ≡ Some image → self.new ≡ did self.old aim depth image decision }
+        requires allowed { AllowsIn self.old.setting self.old.registers.call aim (accepted self.old.setting self.old.registers.reads) decision }
+        ensures { (image : Image) → accepted self.old.setting self.old.registers.reads ≡ Some image → self.new ≡ did self.old aim depth image decision }
     {
         match decision {
             Decision::Restart => self.back(depth, Write::Nothing, Then::Starts { aim }),
@@ -174,7 +174,7 @@ impl Client {
             Decision::Entry { index } => self.change_entry(depth, index),
             Decision::Rewrite { index } => self.change_leaf(depth, index),
             Decision::Worn { version } => self.refuse(depth, Reply::Worn { version }),
-            Decision::Split => self.split(aim, depth),
+            Decision::Split => self.seek(Need::ToSplit { aim, depth }),
             Decision::Skip => {
                 self.count_worn();
                 self.back(depth, Write::Nothing, Then::Ends);
@@ -195,8 +195,8 @@ impl Client {
     // Gives the lock back with the write of an update's entry.
     fn change_entry(&mut self, depth: u32, index: u32)
         requires depth { depth ≤ self.old.setting.bound }
-        requires image { CanChangeIn (accepted self.old.setting self.old.reads) index }
-        ensures { (image : Image) → accepted self.old.setting self.old.reads ≡ Some image → self.new ≡ did self.old Own depth image (decision.Entry index) }
+        requires image { CanChangeIn (accepted self.old.setting self.old.registers.reads) index }
+        ensures { (image : Image) → accepted self.old.setting self.old.registers.reads ≡ Some image → self.new ≡ did self.old Own depth image (decision.Entry index) }
     {
         self.answer();
         self.store_entry(index);
@@ -206,8 +206,8 @@ impl Client {
     // Gives the lock back with the write of an update's rewritten leaf.
     fn change_leaf(&mut self, depth: u32, index: u32)
         requires depth { depth ≤ self.old.setting.bound }
-        requires image { CanRewriteIn (accepted self.old.setting self.old.reads) index }
-        ensures { (image : Image) → accepted self.old.setting self.old.reads ≡ Some image → self.new ≡ did self.old Own depth image (decision.Rewrite index) }
+        requires image { CanRewriteIn (accepted self.old.setting self.old.registers.reads) index }
+        ensures { (image : Image) → accepted self.old.setting self.old.registers.reads ≡ Some image → self.new ≡ did self.old Own depth image (decision.Rewrite index) }
     {
         self.answer();
         self.store_leaf(index);
@@ -217,8 +217,8 @@ impl Client {
     // Gives the lock back with the write of a post's node.
     fn add(&mut self, aim: Aim, depth: u32)
         requires depth { depth ≤ self.old.setting.bound }
-        requires image { CanAddIn self.old.setting aim (accepted self.old.setting self.old.reads) }
-        ensures { (image : Image) → accepted self.old.setting self.old.reads ≡ Some image → self.new ≡ did self.old aim depth image decision.Add }
+        requires image { CanAddIn self.old.setting aim (accepted self.old.setting self.old.registers.reads) }
+        ensures { (image : Image) → accepted self.old.setting self.old.registers.reads ≡ Some image → self.new ≡ did self.old aim depth image decision.Add }
     {
         self.store_inner(aim);
         self.back(depth, Write::Inner, Then::Ends);
@@ -226,10 +226,10 @@ impl Client {
 
     // The words of an update's entry are ready.
     fn store_entry(&mut self, index: u32)
-        requires { CanChangeIn (accepted self.old.setting self.old.reads) index }
-        ensures machine { (image : Image) → accepted self.old.setting self.old.reads ≡ Some image → self.new ≡ to (storing self.old (entry_body self.old.setting self.old.call index image)) phase.Idle }
-        ensures rest { self.new ≡ to (storing self.old self.new.body) phase.Idle }
-        ensures filled { IsFilled self.new.setting (Entry index) self.new.body }
+        requires { CanChangeIn (accepted self.old.setting self.old.registers.reads) index }
+        ensures machine { (image : Image) → accepted self.old.setting self.old.registers.reads ≡ Some image → self.new ≡ to (storing self.old (entry_body self.old.setting self.old.registers.call index image)) phase.Idle }
+        ensures rest { self.new ≡ to (storing self.old self.new.registers.body) phase.Idle }
+        ensures filled { IsFilled self.new.setting (Entry index) self.new.registers.body }
     {
         self.phase = Phase::Idle;
         put_entry(
@@ -243,10 +243,10 @@ impl Client {
 
     // The words of an update's rewritten leaf are ready.
     fn store_leaf(&mut self, index: u32)
-        requires { CanRewriteIn (accepted self.old.setting self.old.reads) index }
-        ensures machine { (image : Image) → accepted self.old.setting self.old.reads ≡ Some image → self.new ≡ to (storing self.old (leaf_body self.old.setting self.old.call index image)) phase.Idle }
-        ensures rest { self.new ≡ to (storing self.old self.new.body) phase.Idle }
-        ensures filled { IsFilled self.new.setting Leaf self.new.body }
+        requires { CanRewriteIn (accepted self.old.setting self.old.registers.reads) index }
+        ensures machine { (image : Image) → accepted self.old.setting self.old.registers.reads ≡ Some image → self.new ≡ to (storing self.old (leaf_body self.old.setting self.old.registers.call index image)) phase.Idle }
+        ensures rest { self.new ≡ to (storing self.old self.new.registers.body) phase.Idle }
+        ensures filled { IsFilled self.new.setting Leaf self.new.registers.body }
     {
         self.phase = Phase::Idle;
         put_leaf(
@@ -260,10 +260,10 @@ impl Client {
 
     // The words of a post's node are ready.
     fn store_inner(&mut self, aim: Aim)
-        requires { CanAddIn self.old.setting aim (accepted self.old.setting self.old.reads) }
-        ensures machine { (image : Image) → accepted self.old.setting self.old.reads ≡ Some image → self.new ≡ to (storing self.old (inner_body self.old.setting aim image)) phase.Idle }
-        ensures rest { self.new ≡ to (storing self.old self.new.body) phase.Idle }
-        ensures filled { IsFilled self.new.setting Inner self.new.body }
+        requires { CanAddIn self.old.setting aim (accepted self.old.setting self.old.registers.reads) }
+        ensures machine { (image : Image) → accepted self.old.setting self.old.registers.reads ≡ Some image → self.new ≡ to (storing self.old (inner_body self.old.setting aim image)) phase.Idle }
+        ensures rest { self.new ≡ to (storing self.old self.new.registers.body) phase.Idle }
+        ensures filled { IsFilled self.new.setting Inner self.new.registers.body }
     {
         self.phase = Phase::Idle;
         put_inner(&mut self.body, &self.cfg, aim, image(&self.reading));

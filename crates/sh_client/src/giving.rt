@@ -1,68 +1,48 @@
 // How a client gives a lock back.
-ghost use Rattle.std.specs.Prelude.{◌≡◌};
+ghost use Rattle.std.specs.Prelude.{◌≡◌, ◌≤◌};
+ghost use Rattle.sh_base.specs.Parts.{parts_of};
 ghost use Rattle.sh_client.specs.declared.state.Phase.TheVariants as phase;
 ghost use Rattle.sh_client.specs.Feeds.{fed_in};
-ghost use Rattle.sh_client.specs.Giving.{counted, followed, released, writing};
-ghost use Rattle.sh_client.specs.Sound.{IsBody, IsFilled, IsLocked, IsThen, Stands};
-ghost use Rattle.sh_client.specs.Machine.{to};
+ghost use Rattle.sh_client.specs.Giving.{carried, counted, followed, released, writes_nothing, write_begun};
+ghost use Rattle.sh_client.specs.Sound.{IsCarry, IsGiving, IsLocked, IsThen, Stands};
+ghost use Rattle.sh_lock.specs.Locks.{release_of};
 
-use crate::{Client, Phase, Then, Write};
+use crate::{Client, Giving, Phase, Then, Write};
+use sh_base::Config;
 use sh_lock::{Release, after_hold};
 
 impl Client {
     // So many wait for the lock.
-    pub(crate) fn fed_waiting(
-        &mut self,
-        node: u32,
-        depth: u32,
-        write: Write,
-        after: Then,
-        count: u64,
-    )
-        requires { Stands self.old (phase.Waiting node depth write after) }
-        ensures { self.new ≡ fed_in self.old count (phase.Waiting node depth write after) }
+    pub(crate) fn fed_waiting(&mut self, depth: u32, giving: Giving, count: u64)
+        requires { Stands self.old (phase.Waiting depth giving) }
+        ensures { self.new ≡ fed_in self.old count (phase.Waiting depth giving) }
     {
-        match after_hold(count, depth, self.cfg.parts().bound) {
-            Release::Hand => self.write(node, Some(depth + 1), write, after),
-            Release::Free => self.write(node, None, write, after),
-        }
+        let carry = carry(&self.cfg, count, depth);
+        self.write(carry, giving);
     }
 
     // Begins to store what is to be written, or where that's nothing gives the lock back.
-    fn write(&mut self, node: u32, carry: Option<u32>, write: Write, after: Then)
-        requires locked { IsLocked self.old.setting node after }
-        requires body { IsBody self.old.setting write self.old.body }
-        ensures { self.new ≡ writing self.old node carry write after }
+    #[tactic(auto, using(crate::proofs::ImageLemmas::filled_some, crate::proofs::ImageLemmas::filled_body))]
+    fn write(&mut self, carry: Option<u32>, giving: Giving)
+        requires carry { IsCarry self.old.setting carry }
+        requires giving { IsGiving self.old.setting self.old.registers.body giving }
+        ensures { self.new ≡ write_begun self.old carry giving }
     {
-        match write {
-            Write::Nothing => self.release(node, carry, after),
-            Write::Entry { index } => self.store(node, carry, Write::Entry { index }, after),
-            Write::Leaf => self.store(node, carry, Write::Leaf, after),
-            Write::LeftLeaf => self.store(node, carry, Write::LeftLeaf, after),
-            Write::Inner => self.store(node, carry, Write::Inner, after),
-            Write::LeftInner => self.store(node, carry, Write::LeftInner, after),
+        if writes_nothing(giving.write) {
+            self.release(giving.node, carry, giving.after);
+        } else {
+            self.to(Phase::Body {
+                carry,
+                done: 0,
+                giving,
+            });
         }
-    }
-
-    // Begins to store.
-    #[tactic(auto, using(crate::proofs::ImageLemmas::filled_some))]
-    fn store(&mut self, node: u32, carry: Option<u32>, write: Write, after: Then)
-        requires locked { IsLocked self.old.setting node after }
-        requires body { IsFilled self.old.setting write self.old.body }
-        ensures { self.new ≡ to self.old (phase.Body node carry 0 write after) }
-    {
-        self.to(Phase::Body {
-            node,
-            carry,
-            done: 0,
-            write,
-            after,
-        });
     }
 
     // Hands the lock over, or sets its word free.
     fn release(&mut self, node: u32, carry: Option<u32>, after: Then)
-        requires { IsLocked self.old.setting node after }
+        requires carry { IsCarry self.old.setting carry }
+        requires locked { IsLocked self.old.setting node after }
         ensures { self.new ≡ released self.old node carry after }
     {
         match carry {
@@ -72,28 +52,19 @@ impl Client {
     }
 
     // A word is stored that is to be written.
-    pub(crate) fn fed_body(
-        &mut self,
-        node: u32,
-        carry: Option<u32>,
-        done: u32,
-        write: Write,
-        after: Then,
-    )
-        requires { Stands self.old (phase.Body node carry done write after) }
-        ensures { self.new ≡ fed_in self.old 0 (phase.Body node carry done write after) }
+    pub(crate) fn fed_body(&mut self, carry: Option<u32>, done: u32, giving: Giving)
+        requires { Stands self.old (phase.Body carry done giving) }
+        ensures { self.new ≡ fed_in self.old 0 (phase.Body carry done giving) }
     {
         let count = self.body.count();
         if done + 1 == count {
-            self.count_write(write);
-            self.release(node, carry, after);
+            self.count_write(giving.write);
+            self.release(giving.node, carry, giving.after);
         } else {
             self.to(Phase::Body {
-                node,
                 carry,
                 done: done + 1,
-                write,
-                after,
+                giving,
             });
         }
     }
@@ -104,11 +75,8 @@ impl Client {
     {
         match write {
             Write::Leaf => self.count_rewritten(),
-            Write::LeftLeaf => self.count_split(),
-            Write::LeftInner => self.count_split(),
-            Write::Nothing => {}
-            Write::Entry { .. } => {}
-            Write::Inner => {}
+            Write::LeftLeaf | Write::LeftInner => self.count_split(),
+            _ => {}
         }
     }
 
@@ -145,5 +113,27 @@ impl Client {
             Then::Starts { aim } => self.to(Phase::Root { aim }),
             Then::Takes { aim, node } => self.to(Phase::Draw { aim, node }),
         }
+    }
+}
+
+// The depth with which a lock is handed over, where it is.
+fn carry(cfg: &Config, count: u64, depth: u32) -> Option<u32>
+    requires { depth ≤ cfg.now.parts.bound }
+    ensures here { result ≡ carried depth (release_of count depth cfg.now.parts.bound) }
+    ensures within { IsCarry (parts_of cfg.now) result }
+{
+    match after_hold(count, depth, cfg.parts().bound) {
+        Release::Hand => Some(depth + 1),
+        Release::Free => None,
+    }
+}
+
+// Whether nothing is to be written.
+fn writes_nothing(write: Write) -> bool
+    ensures { result ≡ writes_nothing write }
+{
+    match write {
+        Write::Nothing => true,
+        _ => false,
     }
 }

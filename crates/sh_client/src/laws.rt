@@ -1,5 +1,5 @@
 // What updates store, what senseless words lead to, and what no turn changes.
-ghost use Rattle.std.specs.Prelude.{◌≡◌, ◌+◌, ℕ, length, Option, Some};
+ghost use Rattle.std.specs.Prelude.{◌≡◌, ◌≤◌, ◌+◌, ℕ, length, Option, Some};
 ghost use Rattle.sh_base.specs.declared.config.ConfigParts.{ConfigParts};
 ghost use Rattle.sh_base.specs.Layout.{entry_at, node_word};
 ghost use Rattle.sh_base.specs.Setting.{entry_size, node_size};
@@ -10,14 +10,15 @@ ghost use Rattle.sh_map.specs.declared.call.Call.{Call};
 ghost use Rattle.sh_map.specs.Calls.{IsInRange};
 ghost use Rattle.sh_image.specs.declared.inner.Image.{Image};
 ghost use Rattle.sh_read.specs.declared.state.Progress.TheVariants.{Accepted, Odd};
-ghost use Rattle.sh_read.specs.Reads.{accepted, progress_of, fed_by as read_fed};
+ghost use Rattle.sh_read.specs.Reads.{accepted, progress_of, read_fed};
 ghost use Rattle.sh_decide.specs.declared.state.Aim.{Aim};
 ghost use Rattle.sh_decide.specs.declared.state.Decision.TheVariants.{Entry, Restart, Rewrite};
-ghost use Rattle.sh_client.specs.declared.state.Phase.TheVariants.{Hold};
+ghost use Rattle.sh_client.specs.declared.state.Phase.TheVariants.{ReadLocked, Waiting};
+ghost use Rattle.sh_client.specs.declared.state.Giving.{Giving};
 ghost use Rattle.sh_decide.specs.Deciding.{decision_of};
-ghost use Rattle.sh_decide.specs.Aims.{left_key, left_value};
+ghost use Rattle.sh_decide.specs.Aims.{written_key, written_value};
 ghost use Rattle.sh_client.specs.Bodies.{entry_left};
-ghost use Rattle.sh_client.specs.Courses.{node_read, Finds, GivesBack, Keeps, StoresThenFrees};
+ghost use Rattle.sh_client.specs.Courses.{carry_at, node_read, Finds, HandsOnce, GivesBack, KeepsCall, StoresThenFrees};
 ghost use Rattle.sh_client.specs.Feeds.{fed_by, turned_by};
 ghost use Rattle.sh_client.specs.Machine.{Machine};
 
@@ -25,21 +26,26 @@ ghost use Rattle.sh_client.specs.Machine.{Machine};
 /// nothing else; they are as many as an entry has. One that rewrites its leaf stores so the words of the leaf, as many as
 /// a node has. Behind them, where the lock isn't handed over, the store of 0 to the lock word is the next event.
 pub fn updates_store_their_words()
-    ensures entry { (m : Machine) (word depth index : ℕ) (a : Leaf) → Finds m word depth a (Entry index) → StoresThenFrees (fed_by m word) (node_read m word) depth (node_word m.setting (node_read m word) + entry_at m.setting index) (entry_words (entry_left m.setting m.call a index)) }
+    ensures entry { (m : Machine) (word depth index : ℕ) (a : Leaf) → Finds m word depth a (Entry index) → StoresThenFrees (fed_by m word) (node_read m word) depth (node_word m.setting (node_read m word) + entry_at m.setting index) (entry_words (entry_left m.setting m.registers.call a index)) }
     ensures entry_size { (p : ConfigParts) (call : Call) (a : Leaf) (index : ℕ) → IsInRange p call → length (entry_words (entry_left p call a index)) ≡ entry_size p }
-    ensures leaf { (m : Machine) (word depth index : ℕ) (a : Leaf) → Finds m word depth a (Rewrite index) → StoresThenFrees (fed_by m word) (node_read m word) depth (node_word m.setting (node_read m word) + 0) (leaf_words (rewritten a index (left_key m.call) (left_value m.setting m.call))) }
-    ensures leaf_size { (p : ConfigParts) (call : Call) (a : Leaf) (index : ℕ) → IsInRange p call → IsLeaf p a → length (leaf_words (rewritten a index (left_key call) (left_value p call))) ≡ node_size p }
+    ensures leaf { (m : Machine) (word depth index : ℕ) (a : Leaf) → Finds m word depth a (Rewrite index) → StoresThenFrees (fed_by m word) (node_read m word) depth (node_word m.setting (node_read m word) + 0) (leaf_words (rewritten a index (written_key m.registers.call) (written_value m.setting m.registers.call))) }
+    ensures leaf_size { (p : ConfigParts) (call : Call) (a : Leaf) (index : ℕ) → IsInRange p call → IsLeaf p a → length (leaf_words (rewritten a index (written_key call) (written_value p call))) ≡ node_size p }
 {}
 
 /// Under a lock, words that spell no node, and an image that is senseless there, lead back: the lock is given back with
 /// nothing written, and the root word is loaded next.
 pub fn senseless_words_lead_back()
-    ensures odd { (m : Machine) (word depth : ℕ) (aim : Aim) → m.phase ≡ Hold aim depth → progress_of m.setting m.reads word ≡ Odd → GivesBack (fed_by m word) (node_read m word) depth aim }
-    ensures image { (m : Machine) (word depth : ℕ) (aim : Aim) (image : Image) → m.phase ≡ Hold aim depth → progress_of m.setting m.reads word ≡ Accepted → accepted m.setting (read_fed m.setting m.reads word) ≡ Some image → decision_of m.setting m.call aim image ≡ Restart → GivesBack (fed_by m word) (node_read m word) depth aim }
+    ensures odd { (m : Machine) (word depth : ℕ) (aim : Aim) → m.phase ≡ ReadLocked aim depth → progress_of m.setting m.registers.reads word ≡ Odd → GivesBack (fed_by m word) (node_read m word) depth aim }
+    ensures image { (m : Machine) (word depth : ℕ) (aim : Aim) (image : Image) → m.phase ≡ ReadLocked aim depth → progress_of m.setting m.registers.reads word ≡ Accepted → accepted m.setting (read_fed m.setting m.registers.reads word) ≡ Some image → decision_of m.setting m.registers.call aim image ≡ Restart → GivesBack (fed_by m word) (node_read m word) depth aim }
 {}
 
 /// No turn changes a client's setting, seat or call.
 pub fn turns_keep_the_call()
-    ensures fed { (m : Machine) (word : ℕ) → Keeps m (fed_by m word) }
-    ensures turned { (m : Machine) (depth : Option ℕ) → Keeps m (turned_by m depth) }
+    ensures fed { (m : Machine) (word : ℕ) → KeepsCall m (fed_by m word) }
+    ensures turned { (m : Machine) (depth : Option ℕ) → KeepsCall m (turned_by m depth) }
+{}
+
+/// A lock is handed over only where somebody waits for it, and each time with a depth one higher, up to the bound.
+pub fn hands_over_within_the_bound()
+    ensures { (m : Machine) (depth count carry : ℕ) (giving : Giving) → m.phase ≡ Waiting depth giving → depth ≤ m.setting.bound → carry_at (fed_by m count).phase ≡ Some carry → HandsOnce m depth count carry }
 {}

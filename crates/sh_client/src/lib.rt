@@ -14,8 +14,11 @@ mod verbs;
 mod wants;
 mod words;
 
-pub use laws::{senseless_words_lead_back, turns_keep_the_call, updates_store_their_words};
-pub use state::{Client, Phase, Step, Tally, Then, Want, Write};
+pub use laws::{
+    hands_over_within_the_bound, senseless_words_lead_back, turns_keep_the_call,
+    updates_store_their_words,
+};
+pub use state::{Client, Filling, Giving, Need, Phase, Step, Tally, Then, Want, Write};
 pub use words::Words;
 
 #[cfg(test)]

@@ -12,59 +12,88 @@ ghost use Rattle.sh_image.specs.declared.inner.Image.{Image};
 ghost use Rattle.sh_map.specs.Calls.{IsInRange};
 ghost use Rattle.sh_read.specs.Reads.{accepted};
 ghost use Rattle.sh_client.specs.declared.state.Phase.TheVariants as phase;
-ghost use Rattle.sh_decide.specs.Aims.{left_key, left_value, post_of};
+ghost use Rattle.sh_decide.specs.Aims.{written_key, written_value, post_of};
 ghost use Rattle.sh_client.specs.Bodies.{pair_of};
 ghost use Rattle.sh_client.specs.Feeds.{fed_in};
-ghost use Rattle.sh_client.specs.Sound.{HasSplit, IsAim, IsFresh, IsHeld, IsPost, Stands};
-ghost use Rattle.sh_client.specs.Splitting.{all_spent, growing, grown, halved_by, raised, split};
+ghost use Rattle.sh_client.specs.declared.state.Need.TheVariants.{ToSplit};
+ghost use Rattle.sh_client.specs.declared.state.Filling.TheVariants.{RightHalf};
+ghost use Rattle.sh_client.specs.declared.state.Then.TheVariants.{Starts};
+ghost use Rattle.sh_client.specs.Machine.{to};
+ghost use Rattle.sh_client.specs.Sound.{HasSplit, IsAim, IsBody, IsFresh, IsNeed, IsPost, Stands};
+ghost use Rattle.sh_client.specs.Splitting.{all_spent, giving_of, root_grown, halved_by, needs, raised, with_fresh};
 
 use crate::steps::image;
-use crate::{Client, Phase, Then, Words, Write};
+use crate::{Client, Filling, Giving, Need, Phase, Then, Words, Write};
 use sh_alloc::ChunkWant;
 use sh_base::Config;
-use sh_decide::{Aim, Post, left_key, left_value};
+use sh_decide::{Aim, Posting, written_key, written_value};
 use sh_edit::{new_root, split_inner, split_leaf};
 use sh_image::{Image, InnerImage, LeafImage};
 use sh_map::{Call, Reply};
 
 impl Client {
-    // Splits the node that was READ under its lock, once there is a fresh node.
+    // Takes the lowest spare node and goes on with it, or looks for a chunk where there is none.
     #[inline(never)]
-    pub(crate) fn split(&mut self, aim: Aim, depth: u32)
-        requires aim { IsAim self.old.setting aim }
-        requires depth { depth ≤ self.old.setting.bound }
-        requires image { HasSplit self.old.setting self.old.call aim (accepted self.old.setting self.old.reads) }
-        ensures { (image : Image) → accepted self.old.setting self.old.reads ≡ Some image → self.new ≡ split self.old aim depth image }
+    pub(crate) fn seek(&mut self, need: Need)
+        requires { IsNeed self.old.setting self.old.registers.call self.old.registers.reads need }
+        ensures { self.new ≡ needs self.old need }
     {
         match self.take() {
-            Some(fresh) => self.halve(aim, depth, fresh),
+            Some(fresh) => self.go_on(fresh, need),
             None => {
                 self.walk();
-                self.to(Phase::Seek { aim, depth });
+                self.to(Phase::Seek { need });
             }
         }
     }
 
-    // A counter's word is there, for a split.
+    // A counter's word is there.
     #[inline(never)]
-    pub(crate) fn fed_seek(&mut self, aim: Aim, depth: u32, word: u64)
-        requires { Stands self.old (phase.Seek aim depth) }
-        ensures { self.new ≡ fed_in self.old word (phase.Seek aim depth) }
+    pub(crate) fn fed_seek(&mut self, need: Need, word: u64)
+        requires { Stands self.old (phase.Seek need) }
+        ensures { self.new ≡ fed_in self.old word (phase.Seek need) }
     {
         match self.count(word) {
-            ChunkWant::Event(_) => self.to(Phase::Seek { aim, depth }),
+            ChunkWant::Event(_) => self.to(Phase::Seek { need }),
             ChunkWant::Got { server, chunk } => {
                 let fresh = self.fill(server, chunk);
-                self.halve(aim, depth, fresh);
+                self.go_on(fresh, need);
             }
-            ChunkWant::AllSpent => self.spend(aim, depth),
+            ChunkWant::AllSpent => self.spend(need),
         }
     }
 
-    // There is no chunk left.
-    fn spend(&mut self, aim: Aim, depth: u32)
+    // Goes on with a fresh node, the last one that was taken of the spare ones.
+    fn go_on(&mut self, fresh: u32, need: Need)
+        requires need { IsNeed self.old.setting self.old.registers.call self.old.registers.reads need }
+        requires node { IsNode self.old.setting fresh }
+        requires last { fresh + 1 ≡ self.old.registers.spare.first }
+        ensures { self.new ≡ with_fresh self.old fresh need }
+    {
+        match need {
+            Need::ToSplit { aim, depth } => self.halve(aim, depth, fresh),
+            Need::ToGrow { posting, root } => self.raise(posting, root, fresh),
+        }
+    }
+
+    // There is no chunk left: a put is full, and a post is skipped.
+    fn spend(&mut self, need: Need)
+        requires { IsNeed self.old.setting self.old.registers.call self.old.registers.reads need }
+        ensures { self.new ≡ all_spent self.old need }
+    {
+        match need {
+            Need::ToSplit { aim, depth } => self.spend_split(aim, depth),
+            Need::ToGrow { .. } => {
+                self.count_spent();
+                self.to(Phase::Ended);
+            }
+        }
+    }
+
+    // The same for a split.
+    fn spend_split(&mut self, aim: Aim, depth: u32)
         requires { depth ≤ self.old.setting.bound }
-        ensures { self.new ≡ all_spent self.old aim depth }
+        ensures { self.new ≡ all_spent self.old (ToSplit aim depth) }
     {
         match aim {
             Aim::Own => self.refuse(depth, Reply::Full),
@@ -79,8 +108,8 @@ impl Client {
     fn halve(&mut self, aim: Aim, depth: u32, fresh: u32)
         requires depth { depth ≤ self.old.setting.bound }
         requires fresh { IsNode self.old.setting fresh }
-        requires image { HasSplit self.old.setting self.old.call aim (accepted self.old.setting self.old.reads) }
-        ensures { self.new ≡ halved_by self.old aim depth fresh (accepted self.old.setting self.old.reads) }
+        requires image { HasSplit self.old.setting self.old.registers.call aim (accepted self.old.setting self.old.registers.reads) }
+        ensures { self.new ≡ halved_by self.old aim depth fresh (accepted self.old.setting self.old.registers.reads) }
     {
         match aim {
             Aim::Own => self.halve_leaf(depth, fresh),
@@ -92,8 +121,8 @@ impl Client {
     fn halve_leaf(&mut self, depth: u32, fresh: u32)
         requires depth { depth ≤ self.old.setting.bound }
         requires fresh { IsNode self.old.setting fresh }
-        requires image { HasSplit self.old.setting self.old.call Own (accepted self.old.setting self.old.reads) }
-        ensures { self.new ≡ halved_by self.old Own depth fresh (accepted self.old.setting self.old.reads) }
+        requires image { HasSplit self.old.setting self.old.registers.call Own (accepted self.old.setting self.old.registers.reads) }
+        ensures { self.new ≡ halved_by self.old Own depth fresh (accepted self.old.setting self.old.registers.reads) }
     {
         self.phase = Phase::Idle;
         self.reply = Reply::None;
@@ -101,7 +130,7 @@ impl Client {
         let separator = match image(&self.reading) {
             Image::Leaf(leaf) => put_leaves(
                 &mut self.body,
-                &mut self.right,
+                &mut self.fresh_words,
                 &self.cfg,
                 &self.call,
                 leaf,
@@ -109,29 +138,20 @@ impl Client {
             ),
             Image::Inner(_) => 0,
         };
-        let post = Post {
+        let post = Posting {
             separator,
             node: fresh,
             level: 1,
         };
-        self.to(Phase::Fill {
-            node,
-            depth,
-            fresh,
-            done: 0,
-            write: Write::LeftLeaf,
-            after: Then::Starts {
-                aim: Aim::Posts { post },
-            },
-        });
+        self.fill_right(node, depth, fresh, Write::LeftLeaf, post);
     }
 
     // And for an inner node.
-    fn halve_inner(&mut self, post: Post, depth: u32, fresh: u32)
+    fn halve_inner(&mut self, post: Posting, depth: u32, fresh: u32)
         requires depth { depth ≤ self.old.setting.bound }
         requires fresh { IsNode self.old.setting fresh }
-        requires image { HasSplit self.old.setting self.old.call (Posts post) (accepted self.old.setting self.old.reads) }
-        ensures { self.new ≡ halved_by self.old (Posts post) depth fresh (accepted self.old.setting self.old.reads) }
+        requires image { HasSplit self.old.setting self.old.registers.call (Posts post) (accepted self.old.setting self.old.registers.reads) }
+        ensures { self.new ≡ halved_by self.old (Posts post) depth fresh (accepted self.old.setting self.old.registers.reads) }
     {
         self.phase = Phase::Idle;
         let node = self.reading.node();
@@ -139,55 +159,60 @@ impl Client {
             Image::Leaf(_) => post,
             Image::Inner(inner) => put_inners(
                 &mut self.body,
-                &mut self.right,
+                &mut self.fresh_words,
                 &self.cfg,
                 post,
                 inner,
                 fresh,
             ),
         };
-        self.to(Phase::Fill {
+        self.fill_right(node, depth, fresh, Write::LeftInner, post);
+    }
+
+    // Begins to store the right half, behind which the lock of the left one is given back, and its post goes up.
+    #[tactic(auto, using(sh_base::proofs::LayoutLemmas::node_size_is))]
+    fn fill_right(&mut self, node: u32, depth: u32, fresh: u32, write: Write, posting: Posting)
+        requires depth { depth ≤ self.old.setting.bound }
+        requires node { IsNode self.old.setting node }
+        requires filled { IsBody self.old.setting write self.old.registers.body }
+        requires fresh { IsFresh self.old.setting fresh self.old.registers.fresh_words }
+        requires post { IsPost self.old.setting posting }
+        ensures { self.new ≡ to self.old (phase.Fill fresh 0 (RightHalf depth (giving_of node write (Starts (Posts posting))))) }
+    {
+        let aim = Aim::Posts { post: posting };
+        let giving = Giving {
             node,
-            depth,
+            write,
+            after: Then::Starts { aim },
+        };
+        self.to(Phase::Fill {
             fresh,
             done: 0,
-            write: Write::LeftInner,
-            after: Then::Starts {
-                aim: Aim::Posts { post },
-            },
+            filling: Filling::RightHalf { depth, giving },
         });
     }
 
-    // A word of the right half is stored.
-    pub(crate) fn fed_fill(
-        &mut self,
-        node: u32,
-        depth: u32,
-        fresh: u32,
-        done: u32,
-        write: Write,
-        after: Then,
-    )
-        requires { Stands self.old (phase.Fill node depth fresh done write after) }
-        ensures { self.new ≡ fed_in self.old 0 (phase.Fill node depth fresh done write after) }
+    // A word of the fresh node is stored.
+    pub(crate) fn fed_fill(&mut self, fresh: u32, done: u32, filling: Filling)
+        requires { Stands self.old (phase.Fill fresh done filling) }
+        ensures { self.new ≡ fed_in self.old 0 (phase.Fill fresh done filling) }
     {
         let size = self.cfg.node_size();
-        if done + 1 == size {
-            self.to(Phase::Waiting {
-                node,
-                depth,
-                write,
-                after,
-            });
-        } else {
+        if done + 1 != size {
             self.to(Phase::Fill {
-                node,
-                depth,
                 fresh,
                 done: done + 1,
-                write,
-                after,
+                filling,
             });
+            return;
+        }
+        match filling {
+            Filling::RightHalf { depth, giving } => self.to(Phase::Waiting { depth, giving }),
+            Filling::NewRoot { posting, root } => self.to(Phase::Swap {
+                posting,
+                root,
+                fresh,
+            }),
         }
     }
 
@@ -195,98 +220,47 @@ impl Client {
     #[inline(never)]
     pub(crate) fn grow(&mut self, aim: Aim)
         requires aim { IsAim self.old.setting aim }
-        ensures { self.new ≡ grown self.old aim self.old.reads.node }
+        ensures { self.new ≡ root_grown self.old aim self.old.registers.reads.node }
     {
         self.reading.within_its_node();
         let root = self.reading.node();
         match aim {
             Aim::Own => self.to(Phase::Root { aim: Aim::Own }),
-            Aim::Posts { post } => self.grow_over(post, root),
-        }
-    }
-
-    // A new root goes over this one.
-    fn grow_over(&mut self, post: Post, root: u32)
-        requires post { IsPost self.old.setting post }
-        requires root { IsNode self.old.setting root }
-        ensures { self.new ≡ growing self.old post root (lowest self.old.spare) }
-    {
-        match self.take() {
-            Some(fresh) => self.raise(post, root, fresh),
-            None => {
-                self.walk();
-                self.to(Phase::Top { post, root });
-            }
-        }
-    }
-
-    // A counter's word is there, for a new root.
-    #[inline(never)]
-    pub(crate) fn fed_top(&mut self, post: Post, root: u32, word: u64)
-        requires { Stands self.old (phase.Top post root) }
-        ensures { self.new ≡ fed_in self.old word (phase.Top post root) }
-    {
-        match self.count(word) {
-            ChunkWant::Event(_) => self.to(Phase::Top { post, root }),
-            ChunkWant::Got { server, chunk } => {
-                let fresh = self.fill(server, chunk);
-                self.raise(post, root, fresh);
-            }
-            ChunkWant::AllSpent => {
-                self.count_spent();
-                self.to(Phase::Ended);
-            }
+            Aim::Posts { post } => self.seek(Need::ToGrow {
+                posting: post,
+                root,
+            }),
         }
     }
 
     // The words of a new root are ready.
-    fn raise(&mut self, post: Post, root: u32, fresh: u32)
-        requires post { IsPost self.old.setting post }
+    fn raise(&mut self, posting: Posting, root: u32, fresh: u32)
+        requires post { IsPost self.old.setting posting }
         requires node { IsNode self.old.setting fresh }
-        requires last { fresh + 1 ≡ self.old.spare.first }
-        ensures { self.new ≡ raised self.old post root fresh }
+        requires last { fresh + 1 ≡ self.old.registers.spare.first }
+        ensures { self.new ≡ raised self.old posting root fresh }
     {
         self.phase = Phase::Idle;
-        let image = new_root(post.level, root, post.separator, post.node);
-        self.right.set_inner(&self.cfg, &image);
-        self.to(Phase::Raise {
-            post,
-            root,
+        let image = new_root(posting.level, root, posting.separator, posting.node);
+        self.fresh_words.set_inner(&self.cfg, &image);
+        self.to(Phase::Fill {
             fresh,
             done: 0,
+            filling: Filling::NewRoot { posting, root },
         });
     }
 
-    // A word of the new root is stored.
-    pub(crate) fn fed_raise(&mut self, post: Post, root: u32, fresh: u32, done: u32)
-        requires { Stands self.old (phase.Raise post root fresh done) }
-        ensures { self.new ≡ fed_in self.old 0 (phase.Raise post root fresh done) }
-    {
-        let size = self.cfg.node_size();
-        if done + 1 == size {
-            self.to(Phase::Swap { post, root, fresh });
-        } else {
-            self.to(Phase::Raise {
-                post,
-                root,
-                fresh,
-                done: done + 1,
-            });
-        }
-    }
-
     // The exchange of the root word found this.
-    pub(crate) fn fed_swap(&mut self, post: Post, root: u32, fresh: u32, word: u64)
-        requires { Stands self.old (phase.Swap post root fresh) }
-        ensures { self.new ≡ fed_in self.old word (phase.Swap post root fresh) }
+    pub(crate) fn fed_swap(&mut self, posting: Posting, root: u32, fresh: u32, word: u64)
+        requires { Stands self.old (phase.Swap posting root fresh) }
+        ensures { self.new ≡ fed_in self.old word (phase.Swap posting root fresh) }
     {
         if word == u64::from(root) {
             self.to(Phase::Ended);
         } else {
             self.put_back(fresh);
-            self.to(Phase::Root {
-                aim: Aim::Posts { post },
-            });
+            let aim = Aim::Posts { post: posting };
+            self.to(Phase::Root { aim });
         }
     }
 }
@@ -295,7 +269,7 @@ impl Client {
 #[tactic(auto, using(crate::proofs::ImageLemmas::left_words, crate::proofs::ImageLemmas::left_size, crate::proofs::ImageLemmas::right_words, crate::proofs::ImageLemmas::right_size))]
 fn put_leaves(
     body: &mut Words,
-    right: &mut Words,
+    fresh_words: &mut Words,
     cfg: &Config,
     call: &Call,
     leaf: &LeafImage,
@@ -303,42 +277,42 @@ fn put_leaves(
 ) -> u64
     requires call { IsInRange (parts_of cfg.now) call.now }
     requires leaf { IsLeaf (parts_of cfg.now) leaf.now }
-    requires split { IsSplit leaf.now (left_key call.now) }
+    requires split { IsSplit leaf.now (written_key call.now) }
     requires version { leaf.now.version < 2 ^ 64 - 1 }
-    ensures separator { result ≡ separator_of leaf.now.entries (left_key call.now) (left_value (parts_of cfg.now) call.now) }
-    ensures body { body.new ≡ leaf_words (left_half leaf.now (left_key call.now) (left_value (parts_of cfg.now) call.now) fresh) }
-    ensures right { right.new ≡ leaf_words (right_half leaf.now (left_key call.now) (left_value (parts_of cfg.now) call.now)) }
+    ensures separator { result ≡ separator_of leaf.now.entries (written_key call.now) (written_value (parts_of cfg.now) call.now) }
+    ensures body { body.new ≡ leaf_words (left_half leaf.now (written_key call.now) (written_value (parts_of cfg.now) call.now) fresh) }
+    ensures right { fresh_words.new ≡ leaf_words (right_half leaf.now (written_key call.now) (written_value (parts_of cfg.now) call.now)) }
     ensures size { length body.new ≡ node_size (parts_of cfg.now) }
-    ensures right_size { length right.new ≡ node_size (parts_of cfg.now) }
+    ensures right_size { length fresh_words.new ≡ node_size (parts_of cfg.now) }
 {
-    let halves = split_leaf(leaf, left_key(call), left_value(cfg, call), fresh);
+    let halves = split_leaf(leaf, written_key(call), written_value(cfg, call), fresh);
     body.set_leaf(cfg, &halves.left);
-    right.set_leaf(cfg, &halves.right);
+    fresh_words.set_leaf(cfg, &halves.right);
     halves.separator
 }
 
 // The words of both halves of an inner node without room, and the post of the right one.
 fn put_inners(
     body: &mut Words,
-    right: &mut Words,
+    fresh_words: &mut Words,
     cfg: &Config,
-    post: Post,
+    post: Posting,
     inner: &InnerImage,
     fresh: u32,
-) -> Post
+) -> Posting
     requires inner { IsInner (parts_of cfg.now) inner.now }
     requires full { length inner.now.pairs ≡ 2 * cfg.now.parts.leaf }
     requires version { inner.now.version < 2 ^ 64 - 1 }
     ensures post { result ≡ post_of (middle_of cfg.now.parts.leaf inner.now.pairs (pair_of post)) fresh (inner.now.level + 1) }
     ensures body { body.new ≡ inner_words (parts_of cfg.now) (left_inner cfg.now.parts.leaf inner.now (pair_of post) fresh) }
-    ensures right { right.new ≡ inner_words (parts_of cfg.now) (right_inner cfg.now.parts.leaf inner.now (pair_of post)) }
+    ensures right { fresh_words.new ≡ inner_words (parts_of cfg.now) (right_inner cfg.now.parts.leaf inner.now (pair_of post)) }
     ensures size { length body.new ≡ node_size (parts_of cfg.now) }
-    ensures right_size { length right.new ≡ node_size (parts_of cfg.now) }
+    ensures right_size { length fresh_words.new ≡ node_size (parts_of cfg.now) }
 {
     let halves = split_inner(cfg, inner, post.separator, post.node, fresh);
     body.set_inner(cfg, &halves.left);
-    right.set_inner(cfg, &halves.right);
-    Post {
+    fresh_words.set_inner(cfg, &halves.right);
+    Posting {
         separator: halves.separator,
         node: fresh,
         level: inner.level() + 1,

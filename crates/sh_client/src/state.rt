@@ -2,7 +2,7 @@
 use crate::Words;
 use sh_alloc::{Chunks, Spare};
 use sh_base::{Config, Event};
-use sh_decide::{Aim, Post};
+use sh_decide::{Aim, Posting};
 use sh_map::{Call, Reply};
 use sh_read::Reading;
 use std::marker::Model;
@@ -73,6 +73,29 @@ pub enum Write {
     LeftInner,
 }
 
+/// The lock of a node that is to be given back: behind this write, and with what follows then.
+#[derive(Clone, Copy, Debug, PartialEq, Eq)]
+pub struct Giving {
+    pub node: u32,
+    pub write: Write,
+    pub after: Then,
+}
+
+/// What a fresh node is sought for: the right half of the node that was READ under its lock, which was handed over
+/// `depth` times, or a new root over this one.
+#[derive(Clone, Copy, Debug, PartialEq, Eq)]
+pub enum Need {
+    ToSplit { aim: Aim, depth: u32 },
+    ToGrow { posting: Posting, root: u32 },
+}
+
+/// What a fresh node is filled with: the right half of a node whose lock is given back then, or a new root over this one.
+#[derive(Clone, Copy, Debug, PartialEq, Eq)]
+pub enum Filling {
+    RightHalf { depth: u32, giving: Giving },
+    NewRoot { posting: Posting, root: u32 },
+}
+
 /// What a client is at.
 #[derive(Clone, Copy, Debug, PartialEq, Eq)]
 pub enum Phase {
@@ -103,38 +126,30 @@ pub enum Phase {
         node: u32,
     },
     /// It READs the node under its lock, which was handed over `depth` times.
-    Hold {
+    ReadLocked {
         aim: Aim,
         depth: u32,
     },
-    /// It looks for a chunk of nodes, for the split of the node that it has READ under its lock.
+    /// It looks for a chunk of nodes.
     Seek {
-        aim: Aim,
-        depth: u32,
+        need: Need,
     },
-    /// It stores the right half of a split to a fresh node; `done` words are stored.
+    /// It stores a right half or a new root to a fresh node; `done` words are stored.
     Fill {
-        node: u32,
-        depth: u32,
         fresh: u32,
         done: u32,
-        write: Write,
-        after: Then,
+        filling: Filling,
     },
     /// It asks how many wait for the lock.
     Waiting {
-        node: u32,
         depth: u32,
-        write: Write,
-        after: Then,
+        giving: Giving,
     },
     /// It stores what is to be written; `done` words are stored.
     Body {
-        node: u32,
         carry: Option<u32>,
         done: u32,
-        write: Write,
-        after: Then,
+        giving: Giving,
     },
     /// It stores 0 to the lock word.
     Unlock {
@@ -147,21 +162,9 @@ pub enum Phase {
         carry: Option<u32>,
         after: Then,
     },
-    /// It looks for a chunk of nodes, for a new root over this one.
-    Top {
-        post: Post,
-        root: u32,
-    },
-    /// It stores a new root to a fresh node; `done` words are stored.
-    Raise {
-        post: Post,
-        root: u32,
-        fresh: u32,
-        done: u32,
-    },
     /// It exchanges the root word, of the old root for the new one.
     Swap {
-        post: Post,
+        posting: Posting,
         root: u32,
         fresh: u32,
     },
@@ -181,19 +184,19 @@ pub struct Client {
     pub(crate) reading: Reading,
     pub(crate) chunks: Chunks,
     pub(crate) body: Words,
-    pub(crate) right: Words,
+    pub(crate) fresh_words: Words,
     // The lock for which it waits, where it does: it's worked out once, and not at each turn.
     pub(crate) lock: u32,
     pub(crate) phase: Phase,
 }
 
 impl Model for Client {
-    ghost use Rattle.sh_client.specs.Machine.{Machine};
+    ghost use Rattle.sh_client.specs.Machine.{Machine, Registers};
     ghost use Rattle.sh_client.specs.Sound.{IsClient};
 
     ghost Value = { Machine };
 
-    ghost view = { λ c. record { setting = c.cfg.parts; seat = c.seat; spare = c.spare.range; tally = c.tally; call = c.call; reply = c.reply; reads = c.reading.reads; walk = c.chunks.walk; body = c.body; right = c.right; phase = c.phase } };
+    ghost view = { λ c. record { setting = c.cfg.parts; seat = c.seat; registers = record { spare = c.spare.range; tally = c.tally; call = c.call; reply = c.reply; reads = c.reading.reads; walk = c.chunks.walk; body = c.body; fresh_words = c.fresh_words }; phase = c.phase } };
 
-    ghost invariant = { λ c. IsClient c.cfg.parts c.seat c.spare.range c.call c.reading c.chunks c.body c.right c.lock c.phase };
+    ghost invariant = { λ c. IsClient c.cfg.parts c.seat (record { spare = c.spare.range; tally = c.tally; call = c.call; reply = c.reply; reads = c.reading.reads; walk = c.chunks.walk; body = c.body; fresh_words = c.fresh_words }) c.reading c.chunks c.lock c.phase };
 }

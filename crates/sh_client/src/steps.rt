@@ -2,7 +2,7 @@
 ghost use Rattle.std.specs.Prelude.{◌≡◌, ◌≢◌, ◌≤◌, ◌+◌, ◌<◌, MatchOption, None, Some};
 ghost use Rattle.sh_alloc.specs.Chunks.{IsWantOf, WantsEvent};
 ghost use Rattle.sh_alloc.specs.Spares.{lowest, with_lowest, without_lowest};
-ghost use Rattle.sh_alloc.specs.Walks.{fed_by as walk_fed, want_of as walk_wants};
+ghost use Rattle.sh_alloc.specs.Walks.{walk_fed, walk_wants};
 ghost use Rattle.sh_base.specs.Layout.{first_node};
 ghost use Rattle.sh_base.specs.Setting.{IsNode};
 ghost use Rattle.sh_image.specs.Node.{IsImage};
@@ -16,7 +16,7 @@ ghost use Rattle.sh_client.specs.Sound.{IsBody, IsLoading, IsThen, Leaves, Needs
 ghost use Rattle.sh_client.specs.Splitting.{chunk_taken, walked, walking};
 
 use crate::tally::up;
-use crate::{Client, Phase, Then, Write};
+use crate::{Client, Giving, Phase, Then, Write};
 use sh_alloc::{ChunkWant, Chunks};
 use sh_decide::{answer, call_key};
 use sh_image::Image;
@@ -57,10 +57,10 @@ impl Client {
 
     // Feeds the READ a word.
     pub(crate) fn load(&mut self, word: u64) -> Progress
-        requires { IsLoading self.old.setting self.old.reads }
+        requires { IsLoading self.old.setting self.old.registers.reads }
         ensures machine { self.new ≡ to (loaded self.old word) phase.Idle }
-        ensures answer { result ≡ progress_of self.old.setting self.old.reads word }
-        ensures leaves { Leaves self.new.setting self.new.reads result }
+        ensures answer { result ≡ progress_of self.old.setting self.old.registers.reads word }
+        ensures leaves { Leaves self.new.setting self.new.registers.reads result }
     {
         self.phase = Phase::Idle;
         self.reading.fed(word)
@@ -71,7 +71,7 @@ impl Client {
     pub(crate) fn start(&mut self, node: u32)
         requires { IsNode self.old.setting node }
         ensures machine { self.new ≡ reading self.old node phase.Idle }
-        ensures loading { IsLoading self.new.setting self.new.reads }
+        ensures loading { IsLoading self.new.setting self.new.registers.reads }
     {
         self.phase = Phase::Idle;
         self.reading.start(node);
@@ -79,9 +79,9 @@ impl Client {
 
     // Answers the call by the image that was READ.
     pub(crate) fn answer(&mut self)
-        requires { accepted self.old.setting self.old.reads ≢ None }
-        ensures machine { (image : Image) → accepted self.old.setting self.old.reads ≡ Some image → self.new ≡ answering self.old (answer_in self.old.call image) }
-        ensures rest { self.new ≡ answering self.old self.new.reply }
+        requires { accepted self.old.setting self.old.registers.reads ≢ None }
+        ensures machine { (image : Image) → accepted self.old.setting self.old.registers.reads ≡ Some image → self.new ≡ answering self.old (answer_in self.old.registers.call image) }
+        ensures rest { self.new ≡ answering self.old self.new.registers.reply }
     {
         self.reply = answer_in(&self.call, image(&self.reading));
     }
@@ -89,24 +89,20 @@ impl Client {
     // Begins to give the lock of the node back that was READ.
     pub(crate) fn back(&mut self, depth: u32, write: Write, after: Then)
         requires depth { depth ≤ self.old.setting.bound }
-        requires body { IsBody self.old.setting write self.old.body }
+        requires body { IsBody self.old.setting write self.old.registers.body }
         requires after { IsThen self.old.setting after }
         ensures { self.new ≡ back self.old depth write after }
     {
         self.reading.within_its_node();
         let node = self.reading.node();
-        self.to(Phase::Waiting {
-            node,
-            depth,
-            write,
-            after,
-        });
+        let giving = Giving { node, write, after };
+        self.to(Phase::Waiting { depth, giving });
     }
 
     // Begins a walk over the counters.
     pub(crate) fn walk(&mut self)
         ensures machine { self.new ≡ to (walking self.old) phase.Idle }
-        ensures wants { WantsEvent (walk_wants self.new.setting self.new.walk) }
+        ensures wants { WantsEvent (walk_wants self.new.setting self.new.registers.walk) }
     {
         self.phase = Phase::Idle;
         self.chunks = Chunks::new(&self.cfg, self.seat);
@@ -114,9 +110,9 @@ impl Client {
 
     // Feeds the walk a word.
     pub(crate) fn count(&mut self, word: u64) -> ChunkWant
-        requires { WantsEvent (walk_wants self.old.setting self.old.walk) }
+        requires { WantsEvent (walk_wants self.old.setting self.old.registers.walk) }
         ensures machine { self.new ≡ to (walked self.old word) phase.Idle }
-        ensures answer { result ≡ walk_wants self.old.setting (walk_fed self.old.setting self.old.walk word) }
+        ensures answer { result ≡ walk_wants self.old.setting (walk_fed self.old.setting self.old.registers.walk word) }
         ensures within { IsWantOf self.old.setting result }
     {
         self.phase = Phase::Idle;
@@ -126,8 +122,8 @@ impl Client {
 
     // Takes the lowest spare node.
     pub(crate) fn take(&mut self) -> Option<u32>
-        ensures node { result ≡ lowest self.old.spare }
-        ensures machine { MatchOption result ((self.old.spare.count ≡ 0) × (self.new ≡ to self.old phase.Idle)) (λ n. IsNode self.new.setting n × (n + 1 ≡ self.new.spare.first) × (self.new ≡ to (sparing self.old (without_lowest self.old.spare)) phase.Idle)) }
+        ensures node { result ≡ lowest self.old.registers.spare }
+        ensures machine { MatchOption result ((self.old.registers.spare.count ≡ 0) × (self.new ≡ to self.old phase.Idle)) (λ n. IsNode self.new.setting n × (n + 1 ≡ self.new.registers.spare.first) × (self.new ≡ to (sparing self.old (without_lowest self.old.registers.spare)) phase.Idle)) }
     {
         self.phase = Phase::Idle;
         self.spare.take()
@@ -135,13 +131,13 @@ impl Client {
 
     // Takes a chunk's nodes in, and its lowest one at once. Condition: no spare node is left.
     pub(crate) fn fill(&mut self, server: u32, chunk: u32) -> u32
-        requires none { self.old.spare.count ≡ 0 }
+        requires none { self.old.registers.spare.count ≡ 0 }
         requires server { server < self.old.setting.servers }
         requires chunk { chunk < self.old.setting.chunks }
         ensures first { result ≡ first_node self.old.setting server chunk }
         ensures machine { self.new ≡ to (chunk_taken self.old server chunk) phase.Idle }
         ensures node { IsNode self.new.setting result }
-        ensures last { result + 1 ≡ self.new.spare.first }
+        ensures last { result + 1 ≡ self.new.registers.spare.first }
     {
         self.phase = Phase::Idle;
         let first = self.cfg.first_node(server, chunk);
@@ -153,8 +149,8 @@ impl Client {
     // Makes the node that was taken last a spare one again.
     pub(crate) fn put_back(&mut self, node: u32)
         requires node { IsNode self.old.setting node }
-        requires last { node + 1 ≡ self.old.spare.first }
-        ensures { self.new ≡ to (sparing self.old (with_lowest node self.old.spare)) phase.Idle }
+        requires last { node + 1 ≡ self.old.registers.spare.first }
+        ensures { self.new ≡ to (sparing self.old (with_lowest node self.old.registers.spare)) phase.Idle }
     {
         self.phase = Phase::Idle;
         self.spare.put_back(node);

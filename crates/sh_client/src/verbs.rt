@@ -1,16 +1,115 @@
 // Steps inside a READ or a WRITE, and exchanges on a lock that is taken, which the client makes itself.
-ghost use Rattle.std.specs.Prelude.{◌≡◌, ◌<◌, IfSome, length};
+ghost use Rattle.std.specs.Prelude.{◌≡◌, ◌<◌, IfSome, length, true};
 ghost use Rattle.sh_base.specs.Setting.{all_locks, pool_words};
 ghost use Rattle.sh_client.specs.declared.state.Phase.TheVariants as phase;
 ghost use Rattle.sh_client.specs.Sound.{Stands};
-ghost use Rattle.sh_client.specs.Steps.{looks_of, HasLoaded, HasStepped, IsReading};
+ghost use Rattle.sh_client.specs.Steps.{is_loading, is_storing, looks_of, StepGoesOn, HasLoaded, HasNextLoad, HasNextStore, HasStepped, HasStored};
 
-use crate::{Client, Phase, Step, Then, Write};
+use crate::{Client, Filling, Giving, Phase, Step};
 use sh_base::Event;
-use sh_decide::{Aim, Post};
+use sh_decide::Aim;
 use sh_lock::Grab;
 
 impl Client {
+    /// The address of the wanted load, where it's one of a READ, and not its last one. None exactly where the wanted turn is
+    /// another.
+    #[inline]
+    pub fn next_load(&self) -> Option<u32>
+        ensures { HasNextLoad self.now result }
+    {
+        match self.phase {
+            Phase::Read { .. } | Phase::ReadLocked { .. } => self.reading.next_inside(),
+            _ => None,
+        }
+    }
+
+    /// Takes the word of the load that `next_load` names, as `fed` does. Condition: there is one.
+    #[inline]
+    pub fn fed_load(&mut self, word: u64)
+        requires { is_loading self.old ≡ true }
+        ensures { StepGoesOn self.old self.new word }
+    {
+        self.reading.fed_inside(word);
+    }
+
+    /// The address and the word of the wanted store, where it's one of a WRITE, and not its last one. None exactly where the
+    /// wanted turn is another.
+    #[inline]
+    pub fn next_store(&self) -> Option<(u32, u64)>
+        ensures { HasNextStore self.now result }
+    {
+        match self.phase {
+            Phase::Fill {
+                fresh,
+                done,
+                filling,
+            } => self.next_fill(fresh, done, filling),
+            Phase::Body {
+                carry,
+                done,
+                giving,
+            } => self.next_body(carry, done, giving),
+            _ => None,
+        }
+    }
+
+    // The same for a fresh node.
+    fn next_fill(&self, fresh: u32, done: u32, filling: Filling) -> Option<(u32, u64)>
+        requires phase { self.now.phase ≡ phase.Fill fresh done filling }
+        requires stands { Stands self.now (phase.Fill fresh done filling) }
+        ensures { HasNextStore self.now result }
+    {
+        let size = self.cfg.node_size();
+        if done + 1 == size {
+            return None;
+        }
+        Some(self.store_fresh(fresh, done))
+    }
+
+    // And for what is to be written.
+    fn next_body(&self, carry: Option<u32>, done: u32, giving: Giving) -> Option<(u32, u64)>
+        requires phase { self.now.phase ≡ phase.Body carry done giving }
+        requires stands { Stands self.now (phase.Body carry done giving) }
+        ensures { HasNextStore self.now result }
+    {
+        let count = self.body.count();
+        if done + 1 == count {
+            return None;
+        }
+        Some(self.store_body(giving.node, done, giving.write))
+    }
+
+    /// Takes it that the store was made that `next_store` names, as `fed` does. Condition: there is one.
+    #[inline]
+    pub fn fed_store(&mut self)
+        requires { is_storing self.old ≡ true }
+        ensures { StepGoesOn self.old self.new 0 }
+    {
+        // The words are counted in a u32, so what is done fits.
+        let _counts = (self.body.count(), self.fresh_words.count());
+        match self.phase {
+            Phase::Fill {
+                fresh,
+                done,
+                filling,
+            } => self.to(Phase::Fill {
+                fresh,
+                done: done + 1,
+                filling,
+            }),
+            Phase::Body {
+                carry,
+                done,
+                giving,
+            } => self.to(Phase::Body {
+                carry,
+                done: done + 1,
+                giving,
+            }),
+            _ => {}
+        }
+    }
+
     /// Makes the wanted load itself, where it's one of a READ, and not its last one: the client then stands as `fed` leaves
     /// it. None exactly where the wanted turn is another; then nothing changes. Condition: the words are a pool of its
     /// setting.
@@ -19,38 +118,15 @@ impl Client {
         requires { length words.now ≡ pool_words self.old.setting }
         ensures { HasLoaded words.now self.old self.new result }
     {
-        match self.phase {
-            Phase::Read { .. } => self.load_step(words),
-            Phase::Hold { .. } => self.load_step(words),
-            Phase::Idle
-            | Phase::Root { .. }
-            | Phase::Draw { .. }
-            | Phase::Look { .. }
-            | Phase::Grab { .. }
-            | Phase::Seek { .. }
-            | Phase::Fill { .. }
-            | Phase::Waiting { .. }
-            | Phase::Body { .. }
-            | Phase::Unlock { .. }
-            | Phase::Leave { .. }
-            | Phase::Top { .. }
-            | Phase::Raise { .. }
-            | Phase::Swap { .. }
-            | Phase::Ended => None,
-        }
-    }
-
-    // Makes a load of the READ, where it isn't the last one.
-    fn load_step(&mut self, words: &[u64]) -> Option<Step>
-        requires pool { length words.now ≡ pool_words self.old.setting }
-        requires reading { IsReading self.old.phase }
-        ensures { HasLoaded words.now self.old self.new result }
-    {
-        match self.reading.load(words) {
-            Some(loaded) => Some(Step {
-                event: Event::Load { at: loaded.at },
-                found: loaded.word,
-            }),
+        match self.next_load() {
+            Some(at) => {
+                let found = words[at as usize];
+                self.fed_load(found);
+                Some(Step {
+                    event: Event::Load { at },
+                    found,
+                })
+            }
             None => None,
         }
     }
@@ -64,40 +140,26 @@ impl Client {
     {
         match self.phase {
             Phase::Grab { aim, node } => self.grab_step(words, aim, node),
-            Phase::Fill {
-                node,
-                depth,
-                fresh,
-                done,
-                write,
-                after,
-            } => self.fill_step(words, node, depth, fresh, done, write, after),
-            Phase::Body {
-                node,
-                carry,
-                done,
-                write,
-                after,
-            } => self.body_step(words, node, carry, done, write, after),
-            Phase::Raise {
-                post,
-                root,
-                fresh,
-                done,
-            } => self.raise_step(words, post, root, fresh, done),
-            Phase::Idle
-            | Phase::Root { .. }
-            | Phase::Read { .. }
-            | Phase::Hold { .. }
-            | Phase::Draw { .. }
-            | Phase::Look { .. }
-            | Phase::Seek { .. }
-            | Phase::Waiting { .. }
-            | Phase::Unlock { .. }
-            | Phase::Leave { .. }
-            | Phase::Top { .. }
-            | Phase::Swap { .. }
-            | Phase::Ended => None,
+            _ => self.store_step(words),
+        }
+    }
+
+    // Makes a store of a WRITE, where it isn't the last one.
+    fn store_step(&mut self, words: &mut [u64]) -> Option<Step>
+        requires { length words.old ≡ pool_words self.old.setting }
+        ensures { HasStored words.old words.new self.old self.new result }
+    {
+        match self.next_store() {
+            Some(store) => {
+                let event = Event::Store {
+                    at: store.0,
+                    word: store.1,
+                };
+                let found = event.apply(words);
+                self.fed_store();
+                Some(Step { event, found })
+            }
+            None => None,
         }
     }
 
@@ -108,22 +170,7 @@ impl Client {
     {
         match self.phase {
             Phase::Look { .. } => Some(self.lock),
-            Phase::Idle
-            | Phase::Root { .. }
-            | Phase::Read { .. }
-            | Phase::Draw { .. }
-            | Phase::Grab { .. }
-            | Phase::Hold { .. }
-            | Phase::Seek { .. }
-            | Phase::Fill { .. }
-            | Phase::Waiting { .. }
-            | Phase::Body { .. }
-            | Phase::Unlock { .. }
-            | Phase::Leave { .. }
-            | Phase::Top { .. }
-            | Phase::Raise { .. }
-            | Phase::Swap { .. }
-            | Phase::Ended => None,
+            _ => None,
         }
     }
 
@@ -140,99 +187,6 @@ impl Client {
             return None;
         }
         let event = Grab::new(&self.cfg, self.lock, self.seat).event();
-        Some(Step { event, found })
-    }
-
-    // Makes a store of a right half, where it isn't the last one.
-    fn fill_step(
-        &mut self,
-        words: &mut [u64],
-        node: u32,
-        depth: u32,
-        fresh: u32,
-        done: u32,
-        write: Write,
-        after: Then,
-    ) -> Option<Step>
-        requires pool { length words.old ≡ pool_words self.old.setting }
-        requires phase { self.old.phase ≡ phase.Fill node depth fresh done write after }
-        requires stands { Stands self.old (phase.Fill node depth fresh done write after) }
-        ensures { HasStepped words.old words.new self.old self.new result }
-    {
-        let size = self.cfg.node_size();
-        if done + 1 == size {
-            return None;
-        }
-        let event = self.store_fresh(fresh, done);
-        let found = event.apply(words);
-        self.to(Phase::Fill {
-            node,
-            depth,
-            fresh,
-            done: done + 1,
-            write,
-            after,
-        });
-        Some(Step { event, found })
-    }
-
-    // Makes a store of what is to be written, where it isn't the last one.
-    fn body_step(
-        &mut self,
-        words: &mut [u64],
-        node: u32,
-        carry: Option<u32>,
-        done: u32,
-        write: Write,
-        after: Then,
-    ) -> Option<Step>
-        requires pool { length words.old ≡ pool_words self.old.setting }
-        requires phase { self.old.phase ≡ phase.Body node carry done write after }
-        requires stands { Stands self.old (phase.Body node carry done write after) }
-        ensures { HasStepped words.old words.new self.old self.new result }
-    {
-        let count = self.body.count();
-        if done + 1 == count {
-            return None;
-        }
-        let event = self.store_body(node, done, write);
-        let found = event.apply(words);
-        self.to(Phase::Body {
-            node,
-            carry,
-            done: done + 1,
-            write,
-            after,
-        });
-        Some(Step { event, found })
-    }
-
-    // Makes a store of a new root, where it isn't the last one.
-    fn raise_step(
-        &mut self,
-        words: &mut [u64],
-        post: Post,
-        root: u32,
-        fresh: u32,
-        done: u32,
-    ) -> Option<Step>
-        requires pool { length words.old ≡ pool_words self.old.setting }
-        requires phase { self.old.phase ≡ phase.Raise post root fresh done }
-        requires stands { Stands self.old (phase.Raise post root fresh done) }
-        ensures { HasStepped words.old words.new self.old self.new result }
-    {
-        let size = self.cfg.node_size();
-        if done + 1 == size {
-            return None;
-        }
-        let event = self.store_fresh(fresh, done);
-        let found = event.apply(words);
-        self.to(Phase::Raise {
-            post,
-            root,
-            fresh,
-            done: done + 1,
-        });
         Some(Step { event, found })
     }
 }

@@ -1,6 +1,7 @@
 // What a client wants.
-ghost use Rattle.std.specs.Prelude.{◌≡◌, ◌+◌, ◌<◌, ◌≤◌, length, slice_index};
-ghost use Rattle.sh_alloc.specs.Walks.{want_of as walk_wants};
+ghost use Rattle.std.specs.Prelude.{◌≡◌, ◌≢◌, true, ◌+◌, ◌<◌, ◌≤◌, length, slice_index};
+ghost use Rattle.sh_alloc.specs.Chunks.{WantsEvent};
+ghost use Rattle.sh_alloc.specs.Walks.{walk_wants};
 ghost use Rattle.sh_base.specs.Parts.{parts_of};
 ghost use Rattle.sh_base.specs.Layout.{lock_of, node_word};
 ghost use Rattle.sh_base.specs.Setting.{node_size, pool_words, IsNode};
@@ -8,8 +9,9 @@ ghost use Rattle.sh_lock.specs.Locks.{grab_of};
 ghost use Rattle.sh_read.specs.Reads.{wanted};
 ghost use Rattle.sh_client.specs.declared.state.Want.TheVariants as want;
 ghost use Rattle.sh_base.specs.declared.event.Event.TheVariants.{Store};
-ghost use Rattle.sh_client.specs.Sound.{IsFilled};
-ghost use Rattle.sh_client.specs.Wants.{count_of, load_of, lock_word_of, offset_of, want_of, IsWithin};
+ghost use Rattle.sh_client.specs.Rests.{is_resting};
+ghost use Rattle.sh_client.specs.Sound.{IsFilled, IsLoading};
+ghost use Rattle.sh_client.specs.Wants.{count_of, load_of, lock_word_of, offset_of, want_of, HandsOver, IsWithin};
 
 use crate::{Client, Phase, Want, Write};
 use sh_alloc::ChunkWant;
@@ -19,36 +21,36 @@ use sh_lock::Grab;
 impl Client {
     /// The turn that it wants: an event on a word of the pool, or a call on the line of a lock of the setting. `Done`
     /// exactly where it has no call, or its call has ended.
+    #[tactic(auto, using(crate::proofs::WithinLemmas::root_within))]
     pub fn want(&self) -> Want
         ensures here { result ≡ want_of self.now }
         ensures within { IsWithin self.now.setting result }
+        ensures hands { HandsOver self.now.setting result }
+        ensures done { result ≡ want.Done → is_resting self.now ≡ true }
+        ensures rest { is_resting self.now ≡ true → result ≡ want.Done }
     {
         match self.phase {
             Phase::Idle | Phase::Ended => Want::Done,
             Phase::Root { .. } => Want::Event(Event::Load { at: 1 }),
-            Phase::Read { .. } | Phase::Hold { .. } => self.want_load(),
+            Phase::Read { .. } | Phase::ReadLocked { .. } => self.want_load(),
             Phase::Draw { node, .. } => Want::Draw {
                 lock: self.cfg.lock_of(node),
             },
             Phase::Look { .. } => Want::Look { lock: self.lock },
             Phase::Grab { node, .. } => self.want_grab(node),
-            Phase::Seek { .. } | Phase::Top { .. } => self.want_count(),
-            Phase::Fill { fresh, done, .. } => Want::Event(self.store_fresh(fresh, done)),
-            Phase::Waiting { node, .. } => Want::Waiting {
-                lock: self.cfg.lock_of(node),
+            Phase::Seek { .. } => self.want_count(),
+            Phase::Fill { fresh, done, .. } => want_store(self.store_fresh(fresh, done)),
+            Phase::Waiting { giving, .. } => Want::Waiting {
+                lock: self.cfg.lock_of(giving.node),
             },
-            Phase::Body {
-                node,
-                done,
-                write,
-                ..
-            } => Want::Event(self.store_body(node, done, write)),
+            Phase::Body { done, giving, .. } => {
+                want_store(self.store_body(giving.node, done, giving.write))
+            }
             Phase::Unlock { node, .. } => self.want_unlock(node),
             Phase::Leave { node, carry, .. } => Want::Leave {
                 lock: self.cfg.lock_of(node),
                 carry,
             },
-            Phase::Raise { fresh, done, .. } => Want::Event(self.store_fresh(fresh, done)),
             Phase::Swap { root, fresh, .. } => Want::Event(Event::Exchange {
                 at: 1,
                 old: u64::from(root),
@@ -59,7 +61,10 @@ impl Client {
 
     // The READ's next word.
     fn want_load(&self) -> Want
-        ensures here { result ≡ load_of (wanted self.now.setting self.now.reads) }
+        requires { IsLoading self.now.setting self.now.registers.reads }
+        ensures event { result ≢ want.Done }
+        ensures hands { HandsOver self.now.setting result }
+        ensures here { result ≡ load_of (wanted self.now.setting self.now.registers.reads) }
         ensures within { IsWithin self.now.setting result }
     {
         match self.reading.want() {
@@ -70,7 +75,10 @@ impl Client {
 
     // The walk's next event.
     fn want_count(&self) -> Want
-        ensures here { result ≡ count_of (walk_wants self.now.setting self.now.walk) }
+        requires { WantsEvent (walk_wants self.now.setting self.now.registers.walk) }
+        ensures event { result ≢ want.Done }
+        ensures hands { HandsOver self.now.setting result }
+        ensures here { result ≡ count_of (walk_wants self.now.setting self.now.registers.walk) }
         ensures within { IsWithin self.now.setting result }
     {
         match self.chunks.want() {
@@ -91,46 +99,44 @@ impl Client {
     }
 
     // The store of a word of a right half or a new root.
-    pub(crate) fn store_fresh(&self, fresh: u32, done: u32) -> Event
+    pub(crate) fn store_fresh(&self, fresh: u32, done: u32) -> (u32, u64)
         requires node { IsNode self.now.setting fresh }
-        requires done { done < length self.now.right }
-        requires size { length self.now.right ≡ node_size self.now.setting }
-        ensures here { result ≡ Store (node_word self.now.setting fresh + done) (slice_index self.now.right done) }
+        requires done { done < length self.now.registers.fresh_words }
+        requires size { length self.now.registers.fresh_words ≡ node_size self.now.setting }
+        ensures here { result.0 ≡ node_word self.now.setting fresh + done }
+        ensures word { result.1 ≡ slice_index self.now.registers.fresh_words done }
         ensures within { node_word self.now.setting fresh + done < pool_words self.now.setting }
     {
-        let word = self.right.word(done);
+        let word = self.fresh_words.word(done);
         let at = address(&self.cfg, fresh, done);
-        Event::Store { at, word }
+        (at, word)
     }
 
     // The store of a word that is to be written.
     #[tactic(auto, using(sh_base::proofs::LayoutLemmas::node_size_is, sh_base::proofs::LayoutLemmas::rear_at_small))]
-    pub(crate) fn store_body(&self, node: u32, done: u32, write: Write) -> Event
+    pub(crate) fn store_body(&self, node: u32, done: u32, write: Write) -> (u32, u64)
         requires node { IsNode self.now.setting node }
-        requires filled { IsFilled self.now.setting write self.now.body }
-        requires done { done < length self.now.body }
-        ensures here { result ≡ Store (node_word self.now.setting node + (offset_of self.now.setting write + done)) (slice_index self.now.body done) }
+        requires filled { IsFilled self.now.setting write self.now.registers.body }
+        requires done { done < length self.now.registers.body }
+        ensures here { result.0 ≡ node_word self.now.setting node + (offset_of self.now.setting write + done) }
+        ensures word { result.1 ≡ slice_index self.now.registers.body done }
         ensures within { node_word self.now.setting node + (offset_of self.now.setting write + done) < pool_words self.now.setting }
     {
         let word = self.body.word(done);
         let at = address(&self.cfg, node, self.offset(write) + done);
-        Event::Store { at, word }
+        (at, word)
     }
 
     // Where in its node a write begins.
     #[tactic(auto, using(sh_base::proofs::LayoutLemmas::entry_high, sh_base::proofs::LayoutLemmas::node_size_is))]
     fn offset(&self, write: Write) -> u32
-        requires { IsFilled self.now.setting write self.now.body }
+        requires { IsFilled self.now.setting write self.now.registers.body }
         ensures at { result ≡ offset_of self.now.setting write }
-        ensures within { result + length self.now.body ≤ node_size self.now.setting }
+        ensures within { result + length self.now.registers.body ≤ node_size self.now.setting }
     {
         match write {
             Write::Entry { index } => self.cfg.entry_at(index),
-            Write::Nothing => 0,
-            Write::Leaf => 0,
-            Write::LeftLeaf => 0,
-            Write::Inner => 0,
-            Write::LeftInner => 0,
+            _ => 0,
         }
     }
 
@@ -146,6 +152,16 @@ impl Client {
             word: 0,
         })
     }
+}
+
+// The store of a word at an address.
+fn want_store(store: (u32, u64)) -> Want
+    ensures { result ≡ want.Event (Store store.0 store.1) }
+{
+    Want::Event(Event::Store {
+        at: store.0,
+        word: store.1,
+    })
 }
 
 // The address of a node's word.

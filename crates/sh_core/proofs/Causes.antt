@@ -10,17 +10,17 @@ use Rattle.sh_map.specs.declared.log.Entry.{Entry as LogEntry}
 use Rattle.sh_map.specs.declared.book.Done.{Done}
 use Rattle.sh_map.specs.Map.{get}
 use Rattle.sh_map.specs.Log.{map_of}
-use Rattle.sh_scene.specs.Scene.{Scene}
-use Rattle.sh_core.specs.Actors.{Actor, AreAnswered, point_of}
+use Rattle.sh_state.specs.TreeState.{TreeState}
+use Rattle.sh_map.specs.Points.{point_of}
+use Rattle.sh_core.specs.Actors.{Actor, AreAnswered}
 use Rattle.sh_core.specs.Fits.{IsDecided}
 use Rattle.sh_core.specs.Causes.{HasCause, HaveCauses}
 
 module _ (p : ConfigParts) (c now : ℕ → ℕ) (rise : (server : ℕ) → server < p.servers → c server ≤ now server) (log more : List LogEntry) where
   cause_longer : (first point : ℕ) (call : Call) (r : Reply) → point ≤ length log → HasCause p c log first point call r → HasCause p now (log ++ more) first point call r
-  cause_longer first point (Put key value) reply.Full le h = (
-    λ server lt. omega (arith, h.0 server lt, rise server lt),
-    let n = h.1 in record { at = n.at; from = n.from; below = n.below; absent = ap (λ (es : List LogEntry). get (map_of es) key) (take-append-le n.at log more (omega (arith, n.below, le))) ∙ n.absent },
-  )
+  cause_longer first point (Put key value) reply.Full le h =
+      let n = h.absent in
+      record { spent = λ server lt. omega (arith, h.spent server lt, rise server lt); absent = record { at = n.at; from = n.from; below = n.below; absent = ap (λ (es : List LogEntry). get (map_of es) key) (take-append-le n.at log more (omega (arith, n.below, le))) ∙ n.absent } }
   cause_longer first point (Put key value) (reply.Worn version) le h = h
   cause_longer first point (Del key) (reply.Worn version) le h = h
   cause_longer first point call r le h = tt
@@ -37,8 +37,8 @@ causes_snoc p c log [] d h k = (k, tt)
 causes_snoc p c log (x ∷ ds) d h k = (h.0, causes_snoc p c log ds d h.1 k)
 
 -- a reply that was decided
-pub decided_cause : (p : ConfigParts) (s : Scene) (sn : List LogEntry) (i : ℕ) (a : Actor) → a.seen ≤ length sn → (call : Call) (r : Reply) → IsDecided p s i a.first a.point a.seen call r → HasCause p s.counter s.log a.first (point_of sn a.first a.point call r) call r
-decided_cause p s sn i a more (Put key value) reply.Full h = let n = h.1 in (h.0, record { at = n.at; from = n.from; below = omega (arith, n.below, more); absent = n.absent })
+pub decided_cause : (p : ConfigParts) (s : TreeState) (sn : List LogEntry) (i : ℕ) (a : Actor) → a.seen ≤ length sn → (call : Call) (r : Reply) → IsDecided p s i a.first a.point a.seen call r → HasCause p s.counter s.log a.first (point_of sn a.first a.point call r) call r
+decided_cause p s sn i a more (Put key value) reply.Full h = let n = h.absent in record { spent = h.spent; absent = record { at = n.at; from = n.from; below = omega (arith, n.below, more); absent = n.absent } }
 decided_cause p s sn i a more (Put key value) (reply.Worn version) h = h
 decided_cause p s sn i a more (Del key) (reply.Worn version) h = h
 decided_cause p s sn i a more call r h = tt

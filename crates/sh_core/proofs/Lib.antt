@@ -1,11 +1,6 @@
 pub mod Logs
 pub mod Causes
 pub mod Others
+pub mod Moves
 pub mod Frame
-pub mod Locals
-pub mod Locks
-pub mod Calls
-pub mod Opening
-pub mod Rights
-pub mod LocalLaws
 pub mod Lists

@@ -1,29 +1,35 @@
 -- The laws over a list of actors, and a list of rights.
-use Rattle.std.proofs.Common.{◌≡◌, ◌≢◌, ℕ, zero, suc, Bool, true, false, List, [], ◌∷◌, ◌++◌, length, set, Some, refl, sym, ap, ◌∙◌, inl, inr, arith, eq-eqb, eqb-true}
+use Rattle.std.proofs.Common.{◌≡◌, ◌≢◌, ℕ, zero, suc, ◌<◌, Bool, true, false, List, [], ◌∷◌, ◌++◌, length, set, Some, refl, sym, ap, ◌∙◌, inl, inr, arith, eq-eqb, eqb-true}
 use Rattle.std.specs.Prelude.{◌==◌, if◌then◌else◌, slice_get}
-use Rattle.std.proofs.lemmas.Bool.{cases_eq}
 use Rattle.std.proofs.lemmas.Option.{slice_get_within}
-use Rattle.sh_map.proofs.BookLemmas.{slice_get-append_left, slice_get-push_back}
-use Rattle.sh_map.proofs.WalkLemmas.{slice_get-push_end}
+use Rattle.sh_logic.proofs.Lists.{slice_get-append_left, slice_get-push_back, slice_get-push_end}
 use Rattle.sh_core.specs.Actors.{Actor}
 use Rattle.sh_core.specs.Core.{Moves}
-use Rattle.sh_core.specs.Opening.{IsFree}
+use Rattle.sh_core.specs.Opening.{IsFreeSeat}
 use Rattle.sh_core.specs.Listed.{HasAt, RightOut, OutAt, without}
+use Rattle.sh_core.proofs.Moves.{moves_from}
 
-get_here : (xs : List Actor) (i : ℕ) (x y : Actor) → slice_get xs i ≡ Some x → slice_get (set xs i y) i ≡ Some y
-get_here [] i x y h = absurd (cc)
-get_here (z ∷ xs) zero x y h = refl
-get_here (z ∷ xs) (suc i) x y h = get_here xs i x y h
+pub set_here : {X : Type 0} (xs : List X) (i : ℕ) (x : X) → i < length xs → slice_get (set xs i x) i ≡ Some x
+set_here [] i x lt = absurd (omega (arith, lt))
+set_here (y ∷ xs) zero x lt = refl
+set_here (y ∷ xs) (suc i) x lt = set_here xs i x (omega (arith, lt))
 
-get_else : (xs : List Actor) (i j : ℕ) (y : Actor) → j ≢ i → slice_get (set xs i y) j ≡ slice_get xs j
-get_else [] i j y ne = refl
-get_else (z ∷ xs) zero zero y ne = absurd (ne refl)
-get_else (z ∷ xs) zero (suc j) y ne = refl
-get_else (z ∷ xs) (suc i) zero y ne = refl
-get_else (z ∷ xs) (suc i) (suc j) y ne = get_else xs i j y (λ e. ne (ap suc e))
+pub set_else : {X : Type 0} (xs : List X) (i j : ℕ) (x : X) → j ≢ i → slice_get (set xs i x) j ≡ slice_get xs j
+set_else [] i j x ne = refl
+set_else (y ∷ xs) zero zero x ne = absurd (ne refl)
+set_else (y ∷ xs) zero (suc j) x ne = refl
+set_else (y ∷ xs) (suc i) zero x ne = refl
+set_else (y ∷ xs) (suc i) (suc j) x ne = set_else xs i j x (λ e. ne (ap suc e))
 
-some_is : (x y : Actor) → Some x ≡ Some y → x ≡ y
-some_is x y e = cc
+pub set_again : {X : Type 0} (xs : List X) (i : ℕ) (x y : X) → set (set xs i x) i y ≡ set xs i y
+set_again [] i x y = refl
+set_again (z ∷ xs) zero x y = refl
+set_again {X = X} (z ∷ xs) (suc i) x y = ap (λ (ys : List X). z ∷ ys) (set_again xs i x y)
+
+pub set_same : {X : Type 0} (xs : List X) (i : ℕ) (x : X) → slice_get xs i ≡ Some x → set xs i x ≡ xs
+set_same [] i x e = refl
+set_same (z ∷ xs) zero x e = cc
+set_same {X = X} (z ∷ xs) (suc i) x e = ap (λ (ys : List X). z ∷ ys) (set_same xs i x e)
 
 pub none_at : (seat : ℕ) (a : Actor) → slice_get [] seat ≡ Some a → ⊥
 none_at seat a h = cc
@@ -31,15 +37,8 @@ none_at seat a h = cc
 -- one actor of a list changes
 pub list_moves : (actors : List Actor) (seat : ℕ) (a x : Actor) → slice_get actors seat ≡ Some a → Moves (HasAt actors) seat x (HasAt (set actors seat x))
 list_moves actors seat a x h =
-    let here = get_here actors seat a x h in
-    record {
-      back = λ j b k. elim (cases_eq j seat) [
-        | inl e ↦ inl (e, some_is b x (sym k ∙ ap (slice_get (set actors seat x)) e ∙ here))
-        | inr ne ↦ inr (ne, sym (get_else actors seat j x ne) ∙ k)
-      ];
-      here = here;
-      on = λ j b ne k. get_else actors seat j x ne ∙ k;
-    }
+    let here = set_here actors seat x (slice_get_within actors seat a h) in
+    moves_from (HasAt actors) (HasAt (set actors seat x)) seat x here (λ b k. let q = sym k ∙ here in cc) (λ j b ne k. sym (set_else actors seat j x ne) ∙ k) (λ j b ne k. set_else actors seat j x ne ∙ k)
 
 -- one joins them
 pub push_moves : (actors : List Actor) (x : Actor) → Moves (HasAt actors) (length actors) x (HasAt (actors ++ x ∷ []))
@@ -52,7 +51,7 @@ push_moves actors x = record {
   on = λ j b ne k. slice_get-append_left actors (x ∷ []) j b k;
 }
 
-pub end_is_free : (actors : List Actor) → IsFree (HasAt actors) (length actors)
+pub end_is_free : (actors : List Actor) → IsFreeSeat (HasAt actors) (length actors)
 end_is_free actors a h = let lt = slice_get_within actors (length actors) a h in omega (arith, lt)
 
 -- the rights but one

@@ -9,9 +9,9 @@ use Rattle.sh_base.specs.Memory.{apply, found_by}
 use Rattle.sh_map.specs.declared.call.Call.{Call}
 use Rattle.sh_map.specs.declared.log.Entry.{Entry as LogEntry}
 use Rattle.sh_map.specs.Calls.{IsInRange}
-use Rattle.sh_scene.specs.Scene.{Pending, Skipped, Seat, Right, Nobody, Held, Owns, Scene}
-use Rattle.sh_scene.specs.Ground.{Ground}
-use Rattle.sh_own.specs.Counters.{Bounded}
+use Rattle.sh_state.specs.TreeState.{Pending, Skipped, Seat, Grant, Held, Owns, TreeState}
+use Rattle.sh_state.specs.Ground.{Ground}
+use Rattle.sh_acts.specs.Counters.{Bounded}
 use Rattle.sh_decide.specs.declared.state.Aim.{Aim}
 use Rattle.sh_client.specs.declared.state.Then.{Then}
 use Rattle.sh_client.specs.declared.state.Want.{Want}
@@ -21,8 +21,8 @@ use Rattle.sh_client.specs.Machine.{Machine}
 use Rattle.sh_client.specs.Giving.{makes}
 use Rattle.sh_client.specs.Rests.{is_resting}
 use Rattle.sh_client.specs.Wants.{want_of}
-use Rattle.sh_core.specs.Actors.{Actor, begun, made_by, rested, stepped, turned}
-use Rattle.sh_core.specs.Keeps.{Keeps}
+use Rattle.sh_core.specs.Actors.{Actor, actor_begun, made_by, rested, actor_stepped, actor_turned}
+use Rattle.sh_core.specs.Keeps.{KeepsActor}
 
 -- a client is to count a server's counter on
 abbrev pub WantsAdd : ConfigParts → (server : ℕ) → Machine → Type 0
@@ -35,17 +35,17 @@ SomeAdds p Has server seat = (a : Actor) × Has seat a × WantsAdd p server a.cl
 -- The invariant over the words, the log, the relation that says which actor a seat has, and the rights that are out: the
 -- lock, the compute server, and how often the lock was handed over. A seat that has done anything has an actor.
 pub record Inv (p : ConfigParts) (words : List ℕ) (log : List LogEntry) (Has : ℕ → Actor → Type 0) (Out : (lock compute depth : ℕ) → Type 0) : Type 0 where
-  pub scene : Scene
+  pub scene : TreeState
   pub log_is : scene.log ≡ log
   pub ground : Ground p words scene
   pub bounded : (server : ℕ) → server < p.servers → Bounded p.chunks (all_seats p) (scene.counter server) (λ seat. SomeAdds p Has server seat)
-  pub kept : (seat : ℕ) (a : Actor) → Has seat a → Keeps p scene seat a
+  pub kept : (seat : ℕ) (a : Actor) → Has seat a → KeepsActor p scene seat a
   pub held : (seat lock : ℕ) → Owns (scene.hold lock) (Seat seat) → (a : Actor) × Has seat a
   pub pends : (seat n : ℕ) → scene.post n ≡ Pending seat → (a : Actor) × Has seat a
   pub skips : (seat n : ℕ) → scene.post n ≡ Skipped seat → (a : Actor) × Has seat a
   pub makes : (seat : ℕ) → made_by seat scene.log ≢ [] → (a : Actor) × Has seat a
-  pub given : (lock compute depth : ℕ) → scene.hold lock ≡ Held (Right compute) depth → Out lock compute depth
-  pub out : (lock compute depth : ℕ) → Out lock compute depth → scene.hold lock ≡ Held (Right compute) depth
+  pub given : (lock compute depth : ℕ) → scene.hold lock ≡ Held (Grant compute) depth → Out lock compute depth
+  pub out : (lock compute depth : ℕ) → Out lock compute depth → scene.hold lock ≡ Held (Grant compute) depth
 
 -- the seat has this actor from now on, and the other seats have theirs
 pub record Moves (Has : ℕ → Actor → Type 0) (seat : ℕ) (a : Actor) (Now : ℕ → Actor → Type 0) : Type 0 where
@@ -56,7 +56,7 @@ pub record Moves (Has : ℕ → Actor → Type 0) (seat : ℕ) (a : Actor) (Now 
 -- The law: the turn of the wanted event keeps the invariant. An update's entry comes into the log with its last store.
 abbrev pub TurnKeeps : ConfigParts → Type 1
 TurnKeeps p = (words : List ℕ) (log : List LogEntry) (Has Now : ℕ → Actor → Type 0) (Out : ℕ → ℕ → ℕ → Type 0) (seat : ℕ) (a : Actor) (e : Event) → Inv p words log Has Out → Has seat a → want_of a.client ≡ want.Event e
-    → Moves Has seat (stepped seat a log (found_by words e)) Now → Inv p (apply words e) (log ++ makes a.client) Now Out
+    → Moves Has seat (actor_stepped seat a log (found_by words e)) Now → Inv p (apply words e) (log ++ makes a.client) Now Out
 
 -- a turn that the client's own compute server answers: a ticket, a look that waits, a count, or leave of the queue
 abbrev pub IsLocal : Want → Type 0
@@ -77,45 +77,49 @@ pub record HasSeen (log seen : List LogEntry) (a : Actor) : Type 0 where
 -- a local turn keeps it, whatever it was answered
 abbrev pub LocalKeeps : ConfigParts → Type 1
 LocalKeeps p = (words : List ℕ) (log seen : List LogEntry) (Has Now : ℕ → Actor → Type 0) (Out : ℕ → ℕ → ℕ → Type 0) (seat word : ℕ) (a : Actor) → Inv p words log Has Out → Has seat a → IsLocal (want_of a.client) → HasSeen log seen a
-    → Moves Has seat (stepped seat a seen word) Now → Inv p words log Now Out
+    → Moves Has seat (actor_stepped seat a seen word) Now → Inv p words log Now Out
 
 -- so does a look that had its turn, where no right was in the queue
 abbrev pub LookKeeps : ConfigParts → Type 1
 LookKeeps p = (words : List ℕ) (log seen : List LogEntry) (Has Now : ℕ → Actor → Type 0) (Out : ℕ → ℕ → ℕ → Type 0) (seat : ℕ) (a : Actor) (aim : Aim) (n : ℕ) → Inv p words log Has Out → Has seat a → a.client.phase ≡ Look aim n → HasSeen log seen a
-    → Moves Has seat (turned seat a seen None) Now → Inv p words log Now Out
+    → Moves Has seat (actor_turned seat a seen None) Now → Inv p words log Now Out
 
 -- and one that took the right up
 abbrev pub TakeKeeps : ConfigParts → Type 1
 TakeKeeps p = (words : List ℕ) (log seen : List LogEntry) (Has Now : ℕ → Actor → Type 0) (Out After : ℕ → ℕ → ℕ → Type 0) (seat : ℕ) (a : Actor) (aim : Aim) (n depth : ℕ) → Inv p words log Has Out → Has seat a → a.client.phase ≡ Look aim n → HasSeen log seen a
     → Out (lock_of p n) (compute_of p seat) depth
     → ((lock compute d : ℕ) → After lock compute d → (lock ≢ lock_of p n) × Out lock compute d) → ((lock compute d : ℕ) → lock ≢ lock_of p n → Out lock compute d → After lock compute d)
-    → Moves Has seat (turned seat a seen (Some depth)) Now → Inv p words log Now After
+    → Moves Has seat (actor_turned seat a seen (Some depth)) Now → Inv p words log Now After
 
 -- a holder that leaves the queue and hands the lock over puts a right out
 abbrev pub PartKeeps : ConfigParts → Type 1
 PartKeeps p = (words : List ℕ) (log seen : List LogEntry) (Has Now : ℕ → Actor → Type 0) (Out After : ℕ → ℕ → ℕ → Type 0) (seat word : ℕ) (a : Actor) (n depth : ℕ) (after : Then) → Inv p words log Has Out → Has seat a → a.client.phase ≡ Leave n (Some depth) after → HasSeen log seen a
     → After (lock_of p n) (compute_of p seat) depth
     → ((lock compute d : ℕ) → After lock compute d → ((lock ≡ lock_of p n) × (compute ≡ compute_of p seat) × (d ≡ depth)) ⊎ Out lock compute d) → ((lock compute d : ℕ) → Out lock compute d → After lock compute d)
-    → Moves Has seat (stepped seat a seen word) Now → Inv p words log Now After
+    → Moves Has seat (actor_stepped seat a seen word) Now → Inv p words log Now After
 
 -- A seat at rest begins a call, having seen so much of the log.
 abbrev pub BeginKeeps : ConfigParts → Type 1
 BeginKeeps p = (words : List ℕ) (log : List LogEntry) (Has Now : ℕ → Actor → Type 0) (Out : ℕ → ℕ → ℕ → Type 0) (seat number n : ℕ) (a : Actor) (call : Call) → Inv p words log Has Out → Has seat a → is_resting a.client ≡ true → IsInRange p call → a.seen ≤ n → n ≤ length log
-    → Moves Has seat (begun a number call n) Now → Inv p words log Now Out
+    → Moves Has seat (actor_begun a number call n) Now → Inv p words log Now Out
 
 -- A call that has ended is taken away.
 abbrev pub RestKeeps : ConfigParts → Type 1
 RestKeeps p = (words : List ℕ) (log : List LogEntry) (Has Now : ℕ → Actor → Type 0) (Out : ℕ → ℕ → ℕ → Type 0) (seat : ℕ) (a : Actor) → Inv p words log Has Out → Has seat a → a.client.phase ≡ Ended → Moves Has seat (rested a) Now → Inv p words log Now Out
 
--- relations that say the same
+-- the seat has this actor, and the other seats have theirs
+abbrev pub Instead : (Has : ℕ → Actor → Type 0) → (seat : ℕ) → Actor → ℕ → Actor → Type 0
+Instead Has seat a j b = ((j ≡ seat) × (b ≡ a)) ⊎ ((j ≢ seat) × Has j b)
+
+-- relations that say the same of actors, and of rights
 pub record AreSame (Has Now : ℕ → Actor → Type 0) : Type 0 where
   pub on : (seat : ℕ) (a : Actor) → Has seat a → Now seat a
   pub back : (seat : ℕ) (a : Actor) → Now seat a → Has seat a
 
-abbrev pub SameKeeps : ConfigParts → Type 1
-SameKeeps p = (words : List ℕ) (log : List LogEntry) (Has Now : ℕ → Actor → Type 0) (Out : ℕ → ℕ → ℕ → Type 0) → Inv p words log Has Out → AreSame Has Now → Inv p words log Now Out
+pub record AreSameRights (Out After : (lock compute depth : ℕ) → Type 0) : Type 0 where
+  pub on : (lock compute depth : ℕ) → Out lock compute depth → After lock compute depth
+  pub back : (lock compute depth : ℕ) → After lock compute depth → Out lock compute depth
 
--- where all clients rest and no right is out, nobody holds a lock, and no node is to be posted
-pub record AllRest (p : ConfigParts) (s : Scene) (log : List LogEntry) : Type 0 where
-  pub free : (lock : ℕ) → s.hold lock ≡ Nobody
-  pub posted : (seat n : ℕ) → s.post n ≢ Pending seat
+-- the same actors and rights, said otherwise, have the invariant
+abbrev pub SameKeeps : ConfigParts → Type 1
+SameKeeps p = (words : List ℕ) (log : List LogEntry) (Has Now : ℕ → Actor → Type 0) (Out After : ℕ → ℕ → ℕ → Type 0) → Inv p words log Has Out → AreSame Has Now → AreSameRights Out After → Inv p words log Now After

@@ -3,14 +3,14 @@ use Rattle.std.specs.Prelude.{◌≡◌, ℕ, ◌<◌, List, []}
 use Rattle.sh_base.specs.declared.config.ConfigParts.{ConfigParts}
 use Rattle.sh_base.specs.Setting.{all_seats}
 use Rattle.sh_map.specs.declared.log.Entry.{Entry as LogEntry}
-use Rattle.sh_own.specs.Laid.{AreLaid}
+use Rattle.sh_image.specs.Laid.{AreLaid}
 use Rattle.sh_client.specs.Machine.{fresh_machine}
 use Rattle.sh_core.specs.Actors.{Actor}
 use Rattle.sh_core.specs.Core.{Inv, Moves}
 
 -- a seat has no actor
-abbrev pub IsFree : (Has : ℕ → Actor → Type 0) → (seat : ℕ) → Type 0
-IsFree Has seat = (a : Actor) → Has seat a → ⊥
+abbrev pub IsFreeSeat : (Has : ℕ → Actor → Type 0) → (seat : ℕ) → Type 0
+IsFreeSeat Has seat = (a : Actor) → Has seat a → ⊥
 
 -- a new client, which has seen nothing
 abbrev pub entered : ConfigParts → (seat : ℕ) → Actor
@@ -22,4 +22,4 @@ LaidKeeps p = (words : List ℕ) (Has : ℕ → Actor → Type 0) (Out : ℕ →
 
 -- a seat of the setting that is free has a new client from now on
 abbrev pub EnterKeeps : ConfigParts → Type 1
-EnterKeeps p = (words : List ℕ) (log : List LogEntry) (Has Now : ℕ → Actor → Type 0) (Out : ℕ → ℕ → ℕ → Type 0) (seat : ℕ) → Inv p words log Has Out → seat < all_seats p → IsFree Has seat → Moves Has seat (entered p seat) Now → Inv p words log Now Out
+EnterKeeps p = (words : List ℕ) (log : List LogEntry) (Has Now : ℕ → Actor → Type 0) (Out : ℕ → ℕ → ℕ → Type 0) (seat : ℕ) → Inv p words log Has Out → seat < all_seats p → IsFreeSeat Has seat → Moves Has seat (entered p seat) Now → Inv p words log Now Out

@@ -1,245 +1,358 @@
--- The last store of a body under its node's lock.
-use Rattle.std.proofs.Common.{◌≡◌, ℕ, zero, suc, ◌+◌, ◌<◌, ◌≤◌, List, [], ◌∷◌, ◌++◌, length, get_or, set, Option, Some, None, refl, sym, ap, ◌∙◌, subst, ⊎_elim, arith, append-nil, length-append}
-use Rattle.std.specs.Prelude.{◌^◌, slice_get}
+-- The last store of a body under its node's lock, and the turn of each store of one.
+use Rattle.std.proofs.Common.{◌≡◌, ◌≢◌, ℕ, suc, ◌+◌, ◌<◌, ◌≤◌, Bool, true, false, List, [], ◌∷◌, ◌++◌, length, get_or, set, Option, Some, None, refl, sym, ap, ◌∙◌, subst, ⊎_elim, arith, append-nil, eqb-true, length-append}
+use Rattle.std.specs.Prelude.{◌==◌, ◌^◌, ◌-◌, if◌then◌else◌, slice_get}
+use Rattle.std.proofs.lemmas.Bool.Decides.{nat_tests}
 use Rattle.std.proofs.lemmas.List.{ext_get_or}
 use Rattle.std.proofs.lemmas.Option.{slice_get-get_or}
 use Rattle.std.proofs.Math.Seq.{get_or-append_seam}
 use Rattle.sh_base.specs.declared.config.ConfigParts.{ConfigParts}
-use Rattle.sh_base.specs.Setting.{node_size, IsNode, IsSetting}
+use Rattle.sh_base.specs.declared.event.Event.TheVariants.{Store}
+use Rattle.sh_base.specs.Setting.{node_size, IsSetting}
 use Rattle.sh_base.specs.Layout.{lock_of, node_word, rear_at, entry_at}
 use Rattle.sh_base.proofs.LayoutLemmas.{node_size_is, rear_at_low}
 use Rattle.sh_map.specs.declared.log.Entry.{Entry as LogEntry}
-use Rattle.sh_map.specs.Log.{key_of as change_key}
 use Rattle.sh_map.specs.Made.{entries_by}
-use Rattle.sh_image.specs.declared.leaf.LeafEntry.{LeafEntry}
 use Rattle.sh_image.specs.Entries.{entry_words}
 use Rattle.sh_image.specs.Leaf.{Leaf, leaf_in, leaf_words}
+use Rattle.sh_image.specs.Inner.{Inner, inner_in, inner_words}
 use Rattle.sh_edit.specs.Splitting.{left_half, right_half, separator_of}
-use Rattle.sh_edit.proofs.HalvesLemmas.{left_lawful, right_lawful, separator_within}
-use Rattle.sh_read.specs.Moments.{Whole, One}
-use Rattle.sh_scene.proofs.Spelled.{leaf_long}
-use Rattle.sh_scene.specs.Scene.{Linked, Posted, Pending, Skipped, Seat, Hold, Held, Writes, Owns, Scene, put}
-use Rattle.sh_scene.specs.Nodes.{IsLinked, entries_of}
-use Rattle.sh_scene.specs.Ground.{Ground}
-use Rattle.sh_scene.specs.Change.{Change}
-use Rattle.sh_scene.specs.Acts.{ended}
-use Rattle.sh_scene.proofs.Puts.{put_here, put_else, put_case}
-use Rattle.sh_ends.specs.Images.{patched}
-use Rattle.sh_ends.proofs.LeafEnds.{bound_of, entry_end, rewritten_end, leaf_split_end}
-use Rattle.sh_decide.specs.declared.state.Post.{Post}
-use Rattle.sh_client.specs.declared.state.Tally.{Tally}
+use Rattle.sh_edit.specs.Pairing.{with_pair, left_inner, right_inner, middle_of}
+use Rattle.sh_state.specs.TreeState.{Class, Fresh, Linked, ParentLink, Posted, Pending, Skipped, Seat, LockState, Held, Writes, TreeState, put}
+use Rattle.sh_state.specs.Nodes.{IsLinked, standing_entries}
+use Rattle.sh_state.specs.Ground.{Ground}
+use Rattle.sh_state.specs.Change.{Change}
+use Rattle.sh_state.proofs.Puts.{put_here, put_else, put_case}
+use Rattle.sh_state.proofs.Spelled.{leaf_long, inner_long}
+use Rattle.sh_acts.specs.Acts.{ended}
+use Rattle.sh_acts.specs.Images.{patched}
+use Rattle.sh_acts.proofs.LeafEnds.{bound_of, entry_end, rewritten_end, leaf_split_end}
+use Rattle.sh_acts.proofs.InnerEnds.{pair_end, inner_split_end}
+use Rattle.sh_decide.specs.declared.state.Posting.{Posting}
+use Rattle.sh_decide.specs.declared.state.Aim.TheVariants.{Posts}
 use Rattle.sh_decide.specs.Aims.{post_of}
+use Rattle.sh_client.specs.declared.state.Giving.{Giving}
+use Rattle.sh_client.specs.declared.state.Tally.{Tally}
 use Rattle.sh_client.specs.declared.state.Then.{Then}
-use Rattle.sh_client.specs.declared.state.Then.TheVariants.{Ends}
+use Rattle.sh_client.specs.declared.state.Then.TheVariants.{Ends, Starts}
 use Rattle.sh_client.specs.declared.state.Write.{Write}
-use Rattle.sh_client.specs.declared.state.Write.TheVariants.{Entry, Leaf as WholeLeaf, LeftLeaf}
+use Rattle.sh_client.specs.declared.state.Write.TheVariants.{Nothing, Entry, Leaf as WholeLeaf, LeftLeaf, Inner as WholeInner, LeftInner}
 use Rattle.sh_client.specs.declared.state.Phase.{Phase}
 use Rattle.sh_client.specs.declared.state.Phase.TheVariants.{Body, Unlock, Leave}
-use Rattle.sh_client.specs.Machine.{Machine, up}
-use Rattle.sh_core.specs.Actors.{Actor, AreAnswered, made_by, updates}
-use Rattle.sh_core.specs.Fits.{Fits, Follows, IsHolding, Carries, storing_hold, write_of}
-use Rattle.sh_core.specs.Keeps.{holding, pending, pending_then, Hands, Waits, Skips, IsAtWork, Keeps}
+use Rattle.sh_client.specs.Machine.{Machine, Registers, to}
+use Rattle.sh_client.specs.Giving.{released, counted, entries_of as entries_made}
+use Rattle.sh_client.specs.Splitting.{giving_of}
+use Rattle.sh_client.specs.Wants.{offset_of}
+use Rattle.sh_core.specs.Actors.{Actor, becomes, made_by, updates}
+use Rattle.sh_core.specs.Fits.{AreSpares, Fits, Follows, HasEntry, FillsFresh, IsHolding, IsStoring, Owes, storing_hold, write_of}
+use Rattle.sh_core.specs.Keeps.{holding, pending, pending_then, skips_counted, Hands, Waits, Skips, IsAtWork, KeepsActor}
 use Rattle.sh_core.specs.Core.{Inv, Moves}
 use Rattle.sh_core.proofs.Logs.{made_by-append, made_by_here, answered_longer}
-use Rattle.sh_core.proofs.Frame.{me, at, with, skips_on, IsCalm, Before, moves_to}
 use Rattle.sh_core.proofs.Causes.{causes_on}
-use Rattle.sh_core_turns.proofs.Roots.{pending_skipped, posted_skipped, decided_entry}
+use Rattle.sh_core.proofs.Others.{entry_on}
+use Rattle.sh_core.proofs.Frame.{next, actor_in, at, goes_on, same_here, same_grows, skips_on, IsCalm, Before, moves_to, hands_keep, Claim}
+use Rattle.sh_core_turns.proofs.Posts.{decided_by_entry, skips_kept, waits_no_more}
+use Rattle.sh_core_turns.proofs.Bodies.{inner_halves, inner_with, leaf_halves, store_more, storing_at}
+
+-- ---- behind the last store
 
 -- the lock is given back next
-abbrev pub rel : ℕ → Option ℕ → Then → Phase
-rel n None after = Unlock n after
-rel n (Some depth) after = Leave n (Some depth) after
+abbrev pub release : ℕ → Option ℕ → Then → Phase
+release n None after = Unlock n after
+release n (Some depth) after = Leave n (Some depth) after
 
-pub rel_holding : (p : ConfigParts) (m : Machine) (n : ℕ) (carry : Option ℕ) (after : Then) → holding p m (rel n carry after) ≡ Some (lock_of p n)
-rel_holding p m n None after = refl
-rel_holding p m n (Some d) after = refl
+release_holding : (p : ConfigParts) (r : Registers) (n : ℕ) (carry : Option ℕ) (after : Then) → holding p r (release n carry after) ≡ Some (lock_of p n)
+release_holding p r n None after = refl
+release_holding p r n (Some d) after = refl
 
-pub rel_pending : (i : ℕ) (m : Machine) (n : ℕ) (carry : Option ℕ) (after : Then) → pending i m (rel n carry after) ≡ pending_then i m.call m.reply after
-rel_pending i m n None after = refl
-rel_pending i m n (Some d) after = refl
+release_pending : (seat : ℕ) (r : Registers) (n : ℕ) (carry : Option ℕ) (after : Then) → pending seat r (release n carry after) ≡ pending_then seat r.call r.reply after
+release_pending seat r n None after = refl
+release_pending seat r n (Some d) after = refl
 
-pub rel_calm : (n : ℕ) (carry : Option ℕ) (after : Then) → IsCalm (rel n carry after)
-rel_calm n None after = tt
-rel_calm n (Some d) after = tt
+release_calm : (n : ℕ) (carry : Option ℕ) (after : Then) → IsCalm (release n carry after)
+release_calm n None after = tt
+release_calm n (Some d) after = tt
 
-pub rel_fits : (p : ConfigParts) (t : Scene) (i f q e : ℕ) (m : Machine) (duty : Option Post) (n : ℕ) (carry : Option ℕ) (after : Then) → IsHolding p t i n carry → Follows p t i f q e m.call m.reply duty after → Fits p t i f q e m duty (rel n carry after)
-rel_fits p t i f q e m duty n None after h w = (h, w)
-rel_fits p t i f q e m duty n (Some d) after h w = (h, w)
-
--- at a body's last store but one a WRITE is under way
-pub storing_at : (i d n : ℕ) (write : Write) (body : List ℕ) (done k : ℕ) → done ≡ k → 0 < k → storing_hold i d n write body done ≡ Writes i d n (write_of write body k)
-storing_at i d n write body zero k e lt = absurd (omega (arith, e, lt))
-storing_at i d n write body (suc done) k e lt = ap (λ (z : ℕ). Writes i d n (write_of write body z)) e
+release_fits : (p : ConfigParts) (t : TreeState) (seat f q e : ℕ) (r : Registers) (duty : Option Posting) (n : ℕ) (carry : Option ℕ) (after : Then) → IsHolding p t seat n carry → Follows p t seat f q e r.call r.reply duty after → Fits p t seat f q e r duty (release n carry after)
+release_fits p t seat f q e r duty n None after h w = record { holding = h; follows = w }
+release_fits p t seat f q e r duty n (Some d) after h w = record { leaving = h; follows = w }
 
 -- the entry that came last
-pub at_last : (log : List LogEntry) (e : LogEntry) → slice_get (log ++ e ∷ []) (length log) ≡ Some e
+at_last : (log : List LogEntry) (e : LogEntry) → slice_get (log ++ e ∷ []) (length log) ≡ Some e
 at_last log e = slice_get-get_or (log ++ e ∷ []) (length log) e (omega (arith, length-append log (e ∷ []))) ∙ ap Some (get_or-append_seam log e [] e)
 
--- a node that wasn't skipped is to be posted
-pub skips_pending : (s t : Scene) (i count r : ℕ) → ((n : ℕ) → t.post n ≡ put s.post r (Pending i) n) → (s.post r ≡ Skipped i → ⊥) → Skips s i count → Skips t i count
-skips_pending s t i count r is off h = record {
-  nodes = h.nodes;
-  once = h.once;
-  are = λ n. let u = h.are n in (
-    λ e. is n ∙ put_else s.post r (Pending i) n (λ q. off (ap s.post (sym q) ∙ u.0 e)) ∙ u.0 e,
-    λ e. u.1 (put_case (λ z. z ≡ Skipped i → s.post n ≡ Skipped i) s.post r (Pending i) n (λ q w. absurd (pending_skipped i w)) (λ ne w. w) (sym (is n) ∙ e)),
-  );
-  counted = h.counted;
-}
+module _ (p : ConfigParts) (words : List ℕ) (s : TreeState) (g : Ground p words s) (seat d n : ℕ) where
+  -- the act of a last store, from what it is to the planned words
+  last_act : (write : Write) (last place : ℕ) (body ws : List ℕ) (done : ℕ) (t : TreeState) → done + 1 ≡ length body → body ≡ ws → length ws ≡ last + 1 → 0 < last → offset_of p write + last ≡ place → s.hold (lock_of p n) ≡ storing_hold seat d n write body done
+      → (s.hold (lock_of p n) ≡ Writes seat d n (write_of write ws last) → d ≤ p.bound → Change p seat s t × Ground p (set words (node_word p n + place) (get_or ws last 0)) t)
+      → Change p seat s t × Ground p (set words (node_word p n + (offset_of p write + done)) (get_or body done 0)) t
+  last_act write last place body ws done t all is long some at held act =
+      let e : done ≡ last = omega (arith, all, ap length is, long) in
+      let hold = held ∙ storing_at seat d n write body done last e some ∙ ap (λ (ws : List ℕ). Writes seat d n (write_of write ws last)) is in
+      subst (λ (v : ℕ × ℕ × List ℕ). Change p seat s t × Ground p (set words (node_word p n + v.0) (get_or v.2 v.1 0)) t) (λ j. (sym (ap (λ (z : ℕ). offset_of p write + z) e ∙ at) j, sym e j, sym is j)) (act hold (bound_of p words s g seat d n (write_of write ws last) hold))
 
-module _ (p : ConfigParts) (ok : IsSetting p) (words : List ℕ) (Has Now : ℕ → Actor → Type 0) (Out : ℕ → ℕ → ℕ → Type 0) (i : ℕ) (s : Scene) (b : Before p words Has Out s) (a : Actor) (m : Machine) where
-  abbrev pub N : ℕ
+  -- of a whole node
+  whole_act : (write : Write) (body ws : List ℕ) (done : ℕ) (t : TreeState) → offset_of p write ≡ 0 → done + 1 ≡ length body → body ≡ ws → length ws ≡ node_size p → s.hold (lock_of p n) ≡ storing_hold seat d n write body done
+      → (s.hold (lock_of p n) ≡ Writes seat d n (write_of write ws (rear_at p)) → d ≤ p.bound → Change p seat s t × Ground p (set words (node_word p n + rear_at p) (get_or ws (rear_at p) 0)) t)
+      → Change p seat s t × Ground p (set words (node_word p n + (offset_of p write + done)) (get_or body done 0)) t
+  whole_act write body ws done t none all is long held act = last_act write (rear_at p) (rear_at p) body ws done t all is (omega (arith, long, node_size_is p)) (omega (arith, rear_at_low p)) (omega (arith, none)) held act
+
+  -- an own node that is filled has these words
+  filled_is : (r : Registers) (fresh : ℕ) (ws : List ℕ) → FillsFresh s seat r.spare r.fresh_words fresh (node_size p) → r.fresh_words ≡ ws → length ws ≡ node_size p → s.node fresh ≡ ws
+  filled_is r fresh ws h is long = let all : length r.fresh_words ≡ node_size p = ap length is ∙ long in ext_get_or 0 (s.node fresh) r.fresh_words (g.long fresh ∙ sym all) (λ o lt. h.words o (omega (arith, lt, g.long fresh))) ∙ is
+
+  -- nobody has skipped it
+  not_skipped : (fresh : ℕ) → s.class fresh ≡ Fresh seat → s.post fresh ≢ Skipped seat
+  not_skipped fresh own q = let posted : s.post fresh ≡ Posted = ⊎_elim (λ (y : IsLinked (s.class fresh)). absurd (subst IsLinked own y)) (λ y. y) (g.outside fresh) in let z : Posted ≡ Skipped seat = sym posted ∙ q in cc
+
+module _ (p : ConfigParts) (ok : IsSetting p) (words : List ℕ) (Has Now : ℕ → Actor → Type 0) (Out : ℕ → ℕ → ℕ → Type 0) (seat : ℕ) (s : TreeState) (b : Before p words Has Out s) (a : Actor) (r : Registers) where
+  abbrev N : ℕ
   N = length s.log
 
   -- the actor that has made its entry
-  abbrev pub maker : Machine → Actor
-  maker n = record { client = n; number = a.number; seen = N + 1; first = a.first; point = N; dones = a.dones }
+  abbrev maker : Machine → Actor
+  maker m = record a { client = m; seen = N + 1; point = N }
 
-  pub entry_made : (now : List ℕ) (t : Scene) (entry : LogEntry) (ph : Phase) (n : Machine) (k : Keeps p s i (me p i a m ph)) → t.log ≡ s.log ++ entry ∷ [] → entry.seat ≡ i → Change p i s t × Ground p now t → ((server : ℕ) → t.counter server ≡ s.counter server)
-      → IsAtWork p t i a.first N (N + 1) n → pending i (at p i m ph) ph ≡ [] → pending i n n.phase ≡ entry ∷ [] → IsCalm n.phase → Moves Has i (maker n) Now → Inv p now (s.log ++ entry ∷ []) Now Out
-  entry_made now t entry ph n k log by ch count work was is calm mv =
-      let more : length t.log ≡ N + 1 = ap length log ∙ length-append s.log (entry ∷ []) in
-      subst (λ (es : List LogEntry). Inv p now es Now Out) log
-      (moves_to p ok words Has Now Out i s b now t (maker n) ch record {
-        work = work;
-        seen = omega (arith, more);
-        first = omega (arith, k.first, k.seen);
-        answered = subst (λ (es : List LogEntry). AreAnswered es i a.dones) (sym log) (answered_longer i a.dones s.log (entry ∷ []) k.answered);
-        causes = causes_on p s.counter t.counter (λ server lt. omega (arith, count server)) s.log (entry ∷ []) t.log log i a.dones k.answered k.causes;
-        ordered = k.ordered;
-        mine = ap (made_by i) log ∙ made_by-append i s.log (entry ∷ []) ∙ ap (λ (es : List LogEntry). made_by i s.log ++ es) (made_by_here i entry by) ∙ ap (λ (es : List LogEntry). es ++ entry ∷ []) (k.mine ∙ ap (λ (es : List LogEntry). updates a.dones ++ es) was ∙ append-nil (updates a.dones)) ∙ ap (λ (es : List LogEntry). updates a.dones ++ es) (sym is);
-      } count calm mv)
+  module _ (carry : Option ℕ) (done : ℕ) (giving : Giving) (h : Has seat (actor_in p seat a r (Body carry done giving))) where
+    abbrev ph : Phase
+    ph = Body carry done giving
 
-  pub keeps_hands : (t : Scene) (l : ℕ) (x : Hold) → t.hold ≡ put s.hold l x → Hands s i (Some l) → Hands t i (Some l)
-  keeps_hands t l x e h k ne o = h k ne (subst (λ (z : Hold). Owns z (Seat i)) (ap (λ (f : ℕ → Hold). f k) e ∙ put_else s.hold l x k ne) o)
+    abbrev K : KeepsActor p s seat (actor_in p seat a r ph)
+    K = b.kept seat (actor_in p seat a r ph) h
 
-  -- a leaf was written over, by one entry or whole
-  pub over_work : (n : ℕ) (carry : Option ℕ) (done : ℕ) (write : Write) (tally : Tally) (k : Keeps p s i (me p i a m (Body n carry done write Ends))) (entry : LogEntry) (depth : ℕ) (image : List ℕ) → let t : Scene = ended p s n i depth image s.class s.post (entry ∷ []) in
-      IsNode p n → Carries p depth carry → k.work.duty ≡ None → entries_by i m.call m.reply ≡ entry ∷ [] → tally.skipped_spent + tally.skipped_worn ≡ m.tally.skipped_spent + m.tally.skipped_worn
-      → IsAtWork p t i a.first N (N + 1) (with p i m tally m.reads m.walk m.body m.right (rel n carry Ends))
-  over_work n carry done write tally k entry depth image real carries none made sum =
-      let t : Scene = ended p s n i depth image s.class s.post (entry ∷ []) in
-      let q : Machine = with p i m tally m.reads m.walk m.body m.right (rel n carry Ends) in
-      record {
-        seated = k.work.seated;
-        duty = None;
-        fits = rel_fits p t i a.first N (N + 1) q None n carry Ends record { real = real; depth = depth; held = put_here s.hold (lock_of p n) (Held (Seat i) depth); carries = carries }
-            (refl, decided_entry p t i a.first N (N + 1) m.call m.reply record { entry = entry; is = made; stands = at_last s.log entry; from = omega (arith, k.first, k.seen); below = omega arith });
-        owes = tt;
-        hands = subst (Hands t i) (sym (rel_holding p q n carry Ends)) (keeps_hands t (lock_of p n) (Held (Seat i) depth) refl k.work.hands);
-        waits = subst (Waits s i) none k.work.waits;
-        spares = k.work.spares;
-        skips = skips_on s t i (m.tally.skipped_spent + m.tally.skipped_worn) (tally.skipped_spent + tally.skipped_worn) (λ x. refl) sum k.work.skips;
-      }
+    abbrev u : IsStoring p s seat r.body giving.node carry done giving.write
+    u = K.work.fits.storing
 
-  -- ---- an update's entry, or its rewritten leaf
-  pub entry_last : (n : ℕ) (carry : Option ℕ) (done index : ℕ) → done + 1 ≡ length m.body → Has i (me p i a m (Body n carry done (Entry index) Ends)) → Moves Has i (maker (with p i m m.tally m.reads m.walk m.body m.right (rel n carry Ends))) Now
-      → Inv p (set words (node_word p n + (entry_at p index + done)) (get_or m.body done 0)) (s.log ++ entries_by i m.call m.reply) Now Out
-  entry_last n carry done index all h mv =
-      let k = b.kept i (me p i a m (Body n carry done (Entry index) Ends)) h in
-      let u = k.work.fits.0 in
-      let f = k.work.fits.1 in
-      let z = f.2 in
-      let K : ℕ = 2 + p.value_words in
-      let long : length m.body ≡ 3 + p.value_words = ap length z.body_is ∙ long_is z.x z.rules.value in
-      let e : done ≡ K = omega (arith, all, long) in
-      let some : 0 < K = omega arith in
-      let hold = u.held ∙ storing_at i u.depth n (Entry index) m.body done K e some ∙ ap (λ (ws : List ℕ). Writes i u.depth n (One index ws K)) z.body_is in
-      let t : Scene = ended p s n i u.depth (patched (s.node n) (entry_at p index) (entry_words z.x)) s.class s.post (z.entry ∷ []) in
-      let q : Machine = with p i m m.tally m.reads m.walk m.body m.right (rel n carry Ends) in
-      let now : List ℕ = set words (node_word p n + (entry_at p index + done)) (get_or m.body done 0) in
-      let act = entry_end p words s b.ground i u.depth n z.low z.entry z.fits.linked (bound_of p words s b.ground i u.depth n (One index (entry_words z.x) K) hold) z.fits.by z.fits.fits z.fits.key z.fits.from z.fits.below index z.x z.index_is hold z.rules z.once z.change in
-      let ch : Change p i s t × Ground p now t = subst (λ (v : ℕ × List ℕ). Change p i s t × Ground p (set words (node_word p n + (entry_at p index + v.0)) (get_or v.1 v.0 0)) t) (λ j. (sym e j, sym z.body_is j)) act in
-      subst (λ (es : List LogEntry). Inv p now (s.log ++ es) Now Out) (sym z.made_is)
-      (entry_made now t z.entry (Body n carry done (Entry index) Ends) q k refl z.fits.by ch (λ server. refl)
-      (over_work n carry done (Entry index) m.tally k z.entry u.depth (patched (s.node n) (entry_at p index) (entry_words z.x)) u.real u.carries f.0 z.made_is refl) refl (rel_pending i q n carry Ends ∙ z.made_is) (rel_calm n carry Ends) mv)
-    where
-      long_is : (x : LeafEntry) → length x.value ≡ p.value_words → length (entry_words x) ≡ 3 + p.value_words
-      long_is x v = omega (arith, length-append x.value (x.version ∷ []), v)
+    abbrev t : (image : List ℕ) (class : ℕ → Class) (post : ℕ → ParentLink) → List LogEntry → TreeState
+    t image class post es = ended p s giving.node seat u.depth image class post es
 
-  abbrev pub rewrote : Tally
-  rewrote = record { again = m.tally.again; rights = m.tally.rights; splits = m.tally.splits; handed = m.tally.handed; from_cache = m.tally.from_cache; skipped_spent = m.tally.skipped_spent; skipped_worn = m.tally.skipped_worn; rewritten = up m.tally.rewritten }
+    -- the client afterwards, which has counted the store
+    abbrev x : Tally → Machine
+    x tally = at p seat (record r { tally = tally }) (release giving.node carry giving.after)
 
-  abbrev pub splitted : Tally
-  splitted = record { again = m.tally.again; rights = m.tally.rights; splits = up m.tally.splits; handed = m.tally.handed; from_cache = m.tally.from_cache; skipped_spent = m.tally.skipped_spent; skipped_worn = m.tally.skipped_worn; rewritten = m.tally.rewritten }
+    released_work : (tally : Tally) (image : List ℕ) (class : ℕ → Class) (post : ℕ → ParentLink) (es : List LogEntry) (q e : ℕ) (duty : Option Posting) → let z : TreeState = t image class post es in
+        Follows p z seat a.first q e r.call r.reply duty giving.after → Owes z seat a.first q e r.call r.reply duty → Waits z seat duty → AreSpares z seat r.spare → Skips z seat (skips_counted tally) → IsAtWork p z seat a.first q e (x tally)
+    released_work tally image class post es q e duty follows owes waits spares skips =
+        let z : TreeState = t image class post es in
+        let l : ℕ = lock_of p giving.node in
+        let y : LockState = Held (Seat seat) u.depth in
+        record {
+          seated = K.work.seated;
+          duty = duty;
+          fits = release_fits p z seat a.first q e (record r { tally = tally }) duty giving.node carry giving.after record { real = u.real; depth = u.depth; held = put_here s.hold l y; carries = u.carries } follows;
+          owes = owes;
+          hands = subst (Hands z seat) (sym (release_holding p (record r { tally = tally }) giving.node carry giving.after)) (λ k ne o. hands_keep s seat l y K.work.hands k ne o);
+          waits = waits;
+          spares = spares;
+          skips = skips;
+        }
 
-  none_before : (n : ℕ) → n ≡ 0 + n
-  none_before n = omega arith
+    -- ---- where an entry is made
 
-  pub leaf_last : (n : ℕ) (carry : Option ℕ) (done : ℕ) → done + 1 ≡ length m.body → Has i (me p i a m (Body n carry done WholeLeaf Ends)) → Moves Has i (maker (with p i m rewrote m.reads m.walk m.body m.right (rel n carry Ends))) Now
-      → Inv p (set words (node_word p n + (0 + done)) (get_or m.body done 0)) (s.log ++ entries_by i m.call m.reply) Now Out
-  leaf_last n carry done all h mv =
-      let k = b.kept i (me p i a m (Body n carry done WholeLeaf Ends)) h in
-      let u = k.work.fits.0 in
-      let f = k.work.fits.1 in
-      let z = f.2 in
-      let K : ℕ = rear_at p in
-      let long : length m.body ≡ node_size p = ap length z.body_is ∙ leaf_long p z.image z.rules in
-      let e : done ≡ K = omega (arith, all, long, node_size_is p) in
-      let some : 0 < K = omega (arith, rear_at_low p) in
-      let hold = u.held ∙ storing_at i u.depth n WholeLeaf m.body done K e some ∙ ap (λ (ws : List ℕ). Writes i u.depth n (Whole ws K)) z.body_is in
-      let t : Scene = ended p s n i u.depth (leaf_words z.image) s.class s.post (z.entry ∷ []) in
-      let q : Machine = with p i m rewrote m.reads m.walk m.body m.right (rel n carry Ends) in
-      let now : List ℕ = set words (node_word p n + (0 + done)) (get_or m.body done 0) in
-      let act = rewritten_end p words s b.ground i u.depth n z.low z.entry z.fits.linked (bound_of p words s b.ground i u.depth n (Whole (leaf_words z.image) K) hold) z.fits.by z.fits.fits z.fits.key z.fits.from z.fits.below z.image hold z.rules z.low_is z.high_is z.next_is z.once z.change in
-      let ch : Change p i s t × Ground p now t = subst (λ (v : ℕ × ℕ × List ℕ). Change p i s t × Ground p (set words (node_word p n + v.0) (get_or v.2 v.1 0)) t) (λ j. ((sym e ∙ none_before done) j, sym e j, sym z.body_is j)) act in
-      subst (λ (es : List LogEntry). Inv p now (s.log ++ es) Now Out) (sym z.made_is)
-      (entry_made now t z.entry (Body n carry done WholeLeaf Ends) q k refl z.fits.by ch (λ server. refl)
-      (over_work n carry done WholeLeaf rewrote k z.entry u.depth (leaf_words z.image) u.real u.carries f.0 z.made_is refl) refl (rel_pending i q n carry Ends ∙ z.made_is) (rel_calm n carry Ends) mv)
+    -- the call's entry stands at its point
+    entry_here : (entry : LogEntry) → entries_by seat r.call r.reply ≡ entry ∷ [] → HasEntry (s.log ++ entry ∷ []) seat a.first N (N + 1) r.call r.reply
+    entry_here entry is = record { entry = entry; is = is; stands = at_last s.log entry; from = omega (arith, K.first, K.seen); below = omega arith }
 
-  -- ---- the left half of a leaf
-  pub left_leaf_last : (n : ℕ) (carry : Option ℕ) (done : ℕ) (after : Then) → done + 1 ≡ length m.body → Has i (me p i a m (Body n carry done LeftLeaf after)) → Moves Has i (maker (with p i m splitted m.reads m.walk m.body m.right (rel n carry after))) Now
-      → Inv p (set words (node_word p n + (0 + done)) (get_or m.body done 0)) (s.log ++ entries_by i m.call m.reply) Now Out
-  left_leaf_last n carry done after all h mv =
-      let k = b.kept i (me p i a m (Body n carry done LeftLeaf after)) h in
-      let u = k.work.fits.0 in
-      let f = k.work.fits.1 in
-      let r : ℕ = f.fresh in
-      let z = f.half.1 in
-      let x : Leaf = leaf_in p (s.node n) in
-      let sep : ℕ = separator_of (entries_of p (s.node n)) z.key z.value in
-      let post : Post = post_of sep r 1 in
-      let old = b.ground.sits n 0 z.low z.fits.linked in
-      let own = b.ground.own r i f.filled.own in
-      let lo : x.low ≤ z.key = omega (arith, z.fits.from, ap change_key z.put_is) in
-      let hi : z.key < x.high = omega (arith, z.fits.below, ap change_key z.put_is) in
-      let high_word : x.high < 2 ^ 64 = omega (arith, old.past) in
-      let left_ok = left_lawful p x z.key z.value r old.body.spells.lawful z.full.some z.full.lacks z.full.full z.full.once lo z.full.is_key hi z.long z.room own.first own.last high_word in
-      let right_ok = right_lawful p x z.key z.value r old.body.spells.lawful z.full.some z.full.lacks z.full.full z.full.once lo z.full.is_key hi z.long in
-      let within = separator_within p x z.key z.value r old.body.spells.lawful z.full.some z.full.lacks z.full.full z.full.once lo z.full.is_key hi z.long in
-      let image : Leaf = left_half x z.key z.value r in
-      let right_long : length m.right ≡ node_size p = ap length z.right_is ∙ leaf_long p (right_half x z.key z.value) right_ok in
-      let right_node : s.node r ≡ leaf_words (right_half x z.key z.value) = ext_get_or 0 (s.node r) m.right (b.ground.long r ∙ sym right_long) (λ o lt. f.filled.words o (omega (arith, lt, b.ground.long r))) ∙ z.right_is in
-      let K : ℕ = rear_at p in
-      let long : length m.body ≡ node_size p = ap length z.body_is ∙ leaf_long p image left_ok in
-      let e : done ≡ K = omega (arith, all, long, node_size_is p) in
-      let some : 0 < K = omega (arith, rear_at_low p) in
-      let hold = u.held ∙ storing_at i u.depth n LeftLeaf m.body done K e some ∙ ap (λ (ws : List ℕ). Writes i u.depth n (Whole ws K)) z.body_is in
-      let t : Scene = ended p s n i u.depth (leaf_words image) (put s.class r (Linked 0 sep)) (put s.post r (Pending i)) (z.entry ∷ []) in
-      let q : Machine = with p i m splitted m.reads m.walk m.body m.right (rel n carry after) in
-      let now : List ℕ = set words (node_word p n + (0 + done)) (get_or m.body done 0) in
-      let act = leaf_split_end p words s b.ground i u.depth n z.low z.entry z.fits.linked (bound_of p words s b.ground i u.depth n (Whole (leaf_words image) K) hold) z.fits.by z.fits.fits z.fits.key z.fits.from z.fits.below x refl z.key z.value r z.put_is hold f.filled.own right_node z.full z.long z.room in
-      let ch : Change p i s t × Ground p now t = subst (λ (v : ℕ × ℕ × List ℕ). Change p i s t × Ground p (set words (node_word p n + v.0) (get_or v.2 v.1 0)) t) (λ j. ((sym e ∙ none_before done) j, sym e j, sym z.body_is j)) act in
-      let no_wait : Waits s i None = subst (Waits s i) f.half.0 k.work.waits in
-      let is_posted : s.post r ≡ Posted = ⊎_elim (λ (y : IsLinked (s.class r)). absurd (subst IsLinked f.filled.own y)) (λ y. y) (b.ground.outside r) in
-      let pend : pending i q (rel n carry after) ≡ z.entry ∷ [] = rel_pending i q n carry after ∙ ap (pending_then i m.call m.reply) z.after_is ∙ z.made_is in
-      subst (λ (es : List LogEntry). Inv p now (s.log ++ es) Now Out) (sym z.made_is)
-      (entry_made now t z.entry (Body n carry done LeftLeaf after) q k refl z.fits.by ch (λ server. refl) record {
-        seated = k.work.seated;
-        duty = Some post;
-        fits = rel_fits p t i a.first N (N + 1) q (Some post) n carry after record { real = u.real; depth = u.depth; held = put_here s.hold (lock_of p n) (Held (Seat i) u.depth); carries = u.carries }
-            (subst (Follows p t i a.first N (N + 1) m.call m.reply (Some post)) (sym z.after_is) refl);
-        owes = record {
-          below = 0;
-          level = refl;
-          linked = put_here s.class r (Linked 0 sep);
-          some = omega (arith, within.0);
-          past = omega (arith, within.1, old.past);
-          mine = put_here s.post r (Pending i);
-          entry = record { entry = z.entry; is = z.made_is; stands = at_last s.log z.entry; from = omega (arith, k.first, k.seen); below = omega arith };
-        };
-        hands = subst (Hands t i) (sym (rel_holding p q n carry after)) (keeps_hands t (lock_of p n) (Held (Seat i) u.depth) refl k.work.hands);
-        waits = λ y ne w. no_wait y (sym (put_else s.post r (Pending i) y ne) ∙ w);
-        spares = λ y is. put_else s.class r (Linked 0 sep) y (λ w. omega (arith, w, is.0, f.filled.under)) ∙ k.work.spares y is;
-        skips = skips_pending s t i (m.tally.skipped_spent + m.tally.skipped_worn) r (λ y. refl) (λ w. posted_skipped i (sym is_posted ∙ w)) k.work.skips;
-      } refl pend (rel_calm n carry after) mv)
+    makes_entry : (tally : Tally) (now image : List ℕ) (class : ℕ → Class) (post : ℕ → ParentLink) (entry : LogEntry) → let z : TreeState = t image class post (entry ∷ []) in
+        entries_by seat r.call r.reply ≡ entry ∷ [] → entry.seat ≡ seat → Change p seat s z × Ground p now z → IsAtWork p z seat a.first N (N + 1) (x tally) → pending seat r ph ≡ [] → pending_then seat r.call r.reply giving.after ≡ entries_by seat r.call r.reply
+        → Moves Has seat (maker (x tally)) Now → Inv p now (s.log ++ entries_by seat r.call r.reply) Now Out
+    makes_entry tally now image class post entry is by ch work was follow mv =
+        let z : TreeState = t image class post (entry ∷ []) in
+        let here = release_pending seat (record r { tally = tally }) giving.node carry giving.after ∙ follow ∙ is in
+        subst (λ (es : List LogEntry). Inv p now (s.log ++ es) Now Out) (sym is)
+        (moves_to p ok words Has Now Out seat s b now z (maker (x tally)) ch record {
+          work = work;
+          seen = omega (arith, length-append s.log (entry ∷ []));
+          first = omega (arith, K.first, K.seen);
+          answered = answered_longer seat a.dones s.log (entry ∷ []) K.answered;
+          causes = causes_on p s.counter s.counter (λ server lt. omega arith) s.log (entry ∷ []) z.log refl seat a.dones K.answered K.causes;
+          ordered = K.ordered;
+          mine = made_by-append seat s.log (entry ∷ []) ∙ ap (λ (es : List LogEntry). made_by seat s.log ++ es) (made_by_here seat entry by) ∙ ap (λ (es : List LogEntry). es ++ entry ∷ []) (K.mine ∙ ap (λ (es : List LogEntry). updates a.dones ++ es) was ∙ append-nil (updates a.dones)) ∙ ap (λ (es : List LogEntry). updates a.dones ++ es) (sym here);
+        } (λ server. refl) (release_calm giving.node carry giving.after) mv)
+
+    -- a leaf was written over, by one entry or whole
+    over_work : (tally : Tally) (image : List ℕ) (entry : LogEntry) → entries_by seat r.call r.reply ≡ entry ∷ [] → skips_counted tally ≡ skips_counted r.tally → giving.after ≡ Ends → K.work.duty ≡ None → IsAtWork p (t image s.class s.post (entry ∷ [])) seat a.first N (N + 1) (x tally)
+    over_work tally image entry is sum ends none =
+        let z : TreeState = t image s.class s.post (entry ∷ []) in
+        released_work tally image s.class s.post (entry ∷ []) N (N + 1) None
+        (subst (Follows p z seat a.first N (N + 1) r.call r.reply None) (sym ends) record { none = refl; decided = decided_by_entry p z seat a.first N (N + 1) r.call r.reply (entry_here entry is) }) tt
+        (subst (Waits s seat) none K.work.waits) K.work.spares (skips_on s z seat (skips_counted r.tally) (skips_counted tally) (λ y. refl) sum K.work.skips)
+
+    -- ---- where none is made
+
+    -- the entry of the call that posts, seen now
+    entry_now : (post : Posting) → K.work.duty ≡ Some post → HasEntry (s.log ++ []) seat a.first a.point N r.call r.reply
+    entry_now post is =
+        let w = subst (Owes s seat a.first a.point a.seen r.call r.reply) is K.work.owes in
+        subst (λ (es : List LogEntry). HasEntry es seat a.first a.point N r.call r.reply) (sym (append-nil s.log)) (entry_on p s s seat a.first a.point a.seen N (same_grows s s seat a.seen N (same_here s) K.seen) r.call r.reply w.entry)
+
+    goes_released : (tally : Tally) (now image : List ℕ) (class : ℕ → Class) (post : ℕ → ParentLink) → let z : TreeState = t image class post [] in
+        Change p seat s z × Ground p now z → IsAtWork p z seat a.first a.point N (x tally) → pending_then seat r.call r.reply giving.after ≡ pending seat r ph → Moves Has seat (next a N (x tally)) Now → Inv p now (s.log ++ []) Now Out
+    goes_released tally now image class post ch work follow mv =
+        let z : TreeState = t image class post [] in
+        moves_to p ok words Has Now Out seat s b now z (next a N (x tally)) ch
+        (goes_on p s z seat N (actor_in p seat a r ph) (x tally) K (append-nil s.log) (λ server. omega arith) K.seen (omega arith) work (release_pending seat (record r { tally = tally }) giving.node carry giving.after ∙ follow))
+        (λ server. refl) (release_calm giving.node carry giving.after) mv
+
+    -- ---- a left half: its right one is hung in, and the seat is to post it
+    half_work : (tally : Tally) (image : List ℕ) (links : ℕ → ParentLink) (below separator fresh : ℕ) (es : List LogEntry) (q e : ℕ) → let z : TreeState = t image (put s.class fresh (Linked below separator)) (put links fresh (Pending seat)) es in
+        FillsFresh s seat r.spare r.fresh_words fresh (node_size p) → giving.after ≡ Starts (Posts (post_of separator fresh (suc below))) → 0 < separator → separator < 2 ^ 64 - 1 → HasEntry z.log seat a.first q e r.call r.reply
+        → ((n : ℕ) → links n ≢ Pending seat) → links fresh ≢ Skipped seat → Skips (record s { post = links }) seat (skips_counted r.tally) → skips_counted tally ≡ skips_counted r.tally → IsAtWork p z seat a.first q e (x tally)
+    half_work tally image links below separator fresh es q e f after some past entry waits off skips sum =
+        let post : Posting = post_of separator fresh (suc below) in
+        let class : ℕ → Class = put s.class fresh (Linked below separator) in
+        let z : TreeState = t image class (put links fresh (Pending seat)) es in
+        let mid : TreeState = record s { post = links } in
+        released_work tally image class (put links fresh (Pending seat)) es q e (Some post)
+        (subst (Follows p z seat a.first q e r.call r.reply (Some post)) (sym after) refl)
+        record { below = below; level = refl; linked = put_here s.class fresh (Linked below separator); some = some; past = past; mine = put_here links fresh (Pending seat); entry = entry }
+        (λ n ne w. waits n (sym (put_else links fresh (Pending seat) n ne) ∙ w))
+        (λ n is. put_else s.class fresh (Linked below separator) n (λ w. omega (arith, w, is.0, f.under)) ∙ K.work.spares n is)
+        (subst (Skips z seat) (sym sum) (skips_kept mid z seat (skips_counted r.tally) fresh (Pending seat) (λ n. refl) off (λ q. cc) skips))
+
+  -- ---- by what is stored
+
+  module _ (n : ℕ) (carry : Option ℕ) (done : ℕ) (all : done + 1 ≡ length r.body) (after : Then) where
+    -- the words are stored, the lock is given back next, and where the entry comes into the log the actor has made it
+    abbrev now : Write → List ℕ
+    now write = set words (node_word p n + (offset_of p write + done)) (get_or r.body done 0)
+
+    abbrev after_it : Write → Machine
+    after_it write = let m : Machine = at p seat r (Body carry done (giving_of n write after)) in to (counted m write) (release n carry after)
+
+    abbrev Had : Write → Type 0
+    Had write = Has seat (actor_in p seat a r (Body carry done (giving_of n write after)))
+
+    abbrev k : (write : Write) → Had write → KeepsActor p s seat (actor_in p seat a r (Body carry done (giving_of n write after)))
+    k write h = K carry done (giving_of n write after) h
+
+    abbrev d : (write : Write) → Had write → ℕ
+    d write h = (k write h).work.fits.storing.depth
+
+    -- an update's entry, or its rewritten leaf
+    entry_last : (index : ℕ) → Had (Entry index) → Moves Has seat (maker (after_it (Entry index))) Now → Inv p (now (Entry index)) (s.log ++ entries_by seat r.call r.reply) Now Out
+    entry_last index h mv =
+        let g : Giving = giving_of n (Entry index) after in
+        let f = (k (Entry index) h).work.fits.plans in
+        let w = f.update in
+        let z = f.change in
+        let v = w.fits in
+        let some : 0 < 2 + p.value_words = omega arith in
+        let long : length (entry_words z.x) ≡ (2 + p.value_words) + 1 = omega (arith, length-append z.x.value (z.x.version ∷ []), z.rules.value) in
+        let image : List ℕ = patched (s.node n) (entry_at p index) (entry_words z.x) in
+        let act = last_act p words s b.ground seat (d (Entry index) h) n (Entry index) (2 + p.value_words) (entry_at p index + (2 + p.value_words)) r.body (entry_words z.x) done (t carry done g h image s.class s.post (w.entry ∷ [])) all z.body_is long some refl (k (Entry index) h).work.fits.storing.held
+        (λ hold bound. entry_end p words s b.ground seat (d (Entry index) h) n w.low w.entry v.linked bound v.by v.fits v.key v.from v.below index z.x z.index_is hold z.rules z.once z.change) in
+        makes_entry carry done g h r.tally (now (Entry index)) image s.class s.post w.entry w.made_is v.by act (over_work carry done g h r.tally image w.entry w.made_is refl f.ends w.none) refl (ap (pending_then seat r.call r.reply) f.ends) mv
+
+    leaf_last : Had WholeLeaf → Moves Has seat (maker (after_it WholeLeaf)) Now → Inv p (now WholeLeaf) (s.log ++ entries_by seat r.call r.reply) Now Out
+    leaf_last h mv =
+        let g : Giving = giving_of n WholeLeaf after in
+        let f = (k WholeLeaf h).work.fits.plans in
+        let w = f.update in
+        let z = f.change in
+        let v = w.fits in
+        let tally : Tally = (after_it WholeLeaf).registers.tally in
+        let image : List ℕ = leaf_words z.image in
+        let act = whole_act p words s b.ground seat (d WholeLeaf h) n WholeLeaf r.body image done (t carry done g h image s.class s.post (w.entry ∷ [])) refl all z.body_is (leaf_long p z.image z.rules) (k WholeLeaf h).work.fits.storing.held
+        (λ hold bound. rewritten_end p words s b.ground seat (d WholeLeaf h) n w.low w.entry v.linked bound v.by v.fits v.key v.from v.below z.image hold z.rules z.low_is z.high_is z.next_is z.once z.change) in
+        makes_entry carry done g h tally (now WholeLeaf) image s.class s.post w.entry w.made_is v.by act (over_work carry done g h tally image w.entry w.made_is refl f.ends w.none) refl (ap (pending_then seat r.call r.reply) f.ends) mv
+
+    -- the left half of a leaf
+    left_leaf_last : Had LeftLeaf → Moves Has seat (maker (after_it LeftLeaf)) Now → Inv p (now LeftLeaf) (s.log ++ entries_by seat r.call r.reply) Now Out
+    left_leaf_last h mv =
+        let g : Giving = giving_of n LeftLeaf after in
+        let f = (k LeftLeaf h).work.fits.plans in
+        let w = f.half.update in
+        let z = f.half in
+        let c = z.cut in
+        let v = w.fits in
+        let leaf : Leaf = leaf_in p (s.node n) in
+        let sep : ℕ = separator_of (standing_entries p (s.node n)) z.key z.value in
+        let tally : Tally = (after_it LeftLeaf).registers.tally in
+        let halves = leaf_halves p ok words s b.ground seat n (entries_by seat r.call r.reply) r.body r.fresh_words f.fresh (k LeftLeaf h).work.duty after z f.filled.own in
+        let left : Leaf = left_half leaf z.key z.value f.fresh in
+        let right : Leaf = right_half leaf z.key z.value in
+        let right_is : s.node f.fresh ≡ leaf_words right = filled_is p words s b.ground seat (d LeftLeaf h) n r f.fresh (leaf_words right) f.filled c.ready_is (leaf_long p right halves.right) in
+        let class : ℕ → Class = put s.class f.fresh (Linked 0 sep) in
+        let post : ℕ → ParentLink = put s.post f.fresh (Pending seat) in
+        let act = whole_act p words s b.ground seat (d LeftLeaf h) n LeftLeaf r.body (leaf_words left) done (t carry done g h (leaf_words left) class post (w.entry ∷ [])) refl all c.body_is (leaf_long p left halves.left) (k LeftLeaf h).work.fits.storing.held
+        (λ hold bound. leaf_split_end p words s b.ground seat (d LeftLeaf h) n w.low w.entry v.linked bound v.by v.fits v.key v.from v.below leaf refl z.key z.value f.fresh z.put_is hold f.filled.own right_is c.full z.long c.room) in
+        makes_entry carry done g h tally (now LeftLeaf) (leaf_words left) class post w.entry w.made_is v.by act
+        (half_work carry done g h tally (leaf_words left) s.post 0 sep f.fresh (w.entry ∷ []) N (N + 1) f.filled c.after_is halves.some halves.past (entry_here carry done g h w.entry w.made_is) (subst (Waits s seat) w.none (k LeftLeaf h).work.waits) (not_skipped p words s b.ground seat (d LeftLeaf h) n f.fresh f.filled.own) (k LeftLeaf h).work.skips refl)
+        refl (ap (pending_then seat r.call r.reply) c.after_is) mv
+
+    -- an inner node with a pair more, which posts its child
+    inner_last : Had WholeInner → Moves Has seat (next a N (after_it WholeInner)) Now → Inv p (now WholeInner) (s.log ++ []) Now Out
+    inner_last h mv =
+        let g : Giving = giving_of n WholeInner after in
+        let f = (k WholeInner h).work.fits.plans in
+        let y = f.plan.pair in
+        let of = f.plan.fits in
+        let post : Posting = post_of y.separator y.child (suc f.plan.level) in
+        let node : Inner = inner_in (s.node n) in
+        let image : List ℕ = inner_words p (with_pair node y) in
+        let links : ℕ → ParentLink = put s.post y.child Posted in
+        let z : TreeState = t carry done g h image s.class links [] in
+        let act = whole_act p words s b.ground seat (d WholeInner h) n WholeInner r.body image done z refl all f.add.body_is (inner_long p (with_pair node y) ok.ranged.value_words.0 (inner_with p ok words s b.ground seat n r.body (k WholeInner h).work.duty after f)) (k WholeInner h).work.fits.storing.held
+        (λ hold bound. pair_end p words s b.ground seat (d WholeInner h) n f.plan.level f.plan.low y ok of.linked bound of.child of.mine of.from of.below node refl hold f.add.space f.add.room) in
+        let was_off : s.post y.child ≢ Skipped seat = λ q. let z : Pending seat ≡ Skipped seat = sym of.mine ∙ q in cc in
+        let decided = decided_by_entry p z seat a.first a.point N r.call r.reply (entry_now carry done g h post f.plan.duty_is) in
+        goes_released carry done g h r.tally (now WholeInner) image s.class links act
+        (released_work carry done g h r.tally image s.class links [] a.point N None (subst (Follows p z seat a.first a.point N r.call r.reply None) (sym f.ends) record { none = refl; decided = decided }) tt
+        (waits_no_more s seat post Posted (λ q. cc) (subst (Waits s seat) f.plan.duty_is (k WholeInner h).work.waits)) (k WholeInner h).work.spares (skips_kept s z seat (skips_counted r.tally) y.child Posted (λ n. refl) was_off (λ q. cc) (k WholeInner h).work.skips))
+        (ap (pending_then seat r.call r.reply) f.ends) mv
+
+    -- the left half of an inner node, which posts that child and is to be posted itself
+    left_inner_last : Had LeftInner → Moves Has seat (next a N (after_it LeftInner)) Now → Inv p (now LeftInner) (s.log ++ []) Now Out
+    left_inner_last h mv =
+        let g : Giving = giving_of n LeftInner after in
+        let f = (k LeftInner h).work.fits.plans in
+        let c = f.half.cut in
+        let l : ℕ = f.half.plan.level in
+        let y = f.half.plan.pair in
+        let of = f.half.plan.fits in
+        let was : Posting = post_of y.separator y.child (suc l) in
+        let node : Inner = inner_in (s.node n) in
+        let sep : ℕ = middle_of p.leaf node.pairs y in
+        let tally : Tally = (after_it LeftInner).registers.tally in
+        let halves = inner_halves p ok words s b.ground seat n r.body r.fresh_words f.fresh (k LeftInner h).work.duty after f.half f.filled.own in
+        let left : List ℕ = inner_words p (left_inner p.leaf node y f.fresh) in
+        let right : List ℕ = inner_words p (right_inner p.leaf node y) in
+        let right_is : s.node f.fresh ≡ right = filled_is p words s b.ground seat (d LeftInner h) n r f.fresh right f.filled c.ready_is (inner_long p (right_inner p.leaf node y) ok.ranged.value_words.0 halves.right) in
+        let links : ℕ → ParentLink = put s.post y.child Posted in
+        let class : ℕ → Class = put s.class f.fresh (Linked (suc l) sep) in
+        let post : ℕ → ParentLink = put links f.fresh (Pending seat) in
+        let mid : TreeState = record s { post = links } in
+        let act = whole_act p words s b.ground seat (d LeftInner h) n LeftInner r.body left done (t carry done g h left class post []) refl all c.body_is (inner_long p (left_inner p.leaf node y f.fresh) ok.ranged.value_words.0 halves.left) (k LeftInner h).work.fits.storing.held
+        (λ hold bound. inner_split_end p words s b.ground seat (d LeftInner h) n l f.half.plan.low y ok of.linked bound of.child of.mine of.from of.below node refl f.fresh hold f.filled.own right_is c.full c.room) in
+        let off : links f.fresh ≢ Skipped seat = put_case (λ v. v ≢ Skipped seat) s.post y.child Posted f.fresh (λ e q. cc) (λ ne. not_skipped p words s b.ground seat (d LeftInner h) n f.fresh f.filled.own) in
+        let was_off : s.post y.child ≢ Skipped seat = λ q. let z : Pending seat ≡ Skipped seat = sym of.mine ∙ q in cc in
+        goes_released carry done g h tally (now LeftInner) left class post act
+        (half_work carry done g h tally left links (suc l) sep f.fresh [] a.point N f.filled c.after_is halves.some halves.past (entry_now carry done g h was f.half.plan.duty_is)
+        (waits_no_more s seat was Posted (λ q. cc) (subst (Waits s seat) f.half.plan.duty_is (k LeftInner h).work.waits)) off (skips_kept s mid seat (skips_counted r.tally) y.child Posted (λ n. refl) was_off (λ q. cc) (k LeftInner h).work.skips) refl)
+        (ap (pending_then seat r.call r.reply) c.after_is) mv
+
+  -- ---- each store of a body
+
+  made_moves : (write : Write) (ph : Phase) (n : ℕ) (carry : Option ℕ) (after : Then) (entry : LogEntry) (es : List LogEntry) → let m : Machine = counted (at p seat r ph) write in es ≡ entry ∷ [] → Moves Has seat (becomes seat (actor_in p seat a r ph) s.log es (released m n carry after)) Now → Moves Has seat (maker (to m (release n carry after))) Now
+  made_moves write ph n None after entry es is mv = subst (λ (es : List LogEntry). Moves Has seat (becomes seat (actor_in p seat a r ph) s.log es (released (counted (at p seat r ph) write) n None after)) Now) is mv
+  made_moves write ph n (Some d) after entry es is mv = subst (λ (es : List LogEntry). Moves Has seat (becomes seat (actor_in p seat a r ph) s.log es (released (counted (at p seat r ph) write) n (Some d) after)) Now) is mv
+
+  next_moves : (write : Write) (ph : Phase) (n : ℕ) (carry : Option ℕ) (after : Then) → let m : Machine = counted (at p seat r ph) write in Moves Has seat (becomes seat (actor_in p seat a r ph) s.log [] (released m n carry after)) Now → Moves Has seat (next a N (to m (release n carry after))) Now
+  next_moves write ph n None after mv = mv
+  next_moves write ph n (Some d) after mv = mv
+
+  bodies : (n : ℕ) (carry : Option ℕ) (done : ℕ) (write : Write) (after : Then) (t : Bool) → (done + 1 == length r.body) ≡ t → let ph : Phase = Body carry done (giving_of n write after) in let m : Machine = at p seat r ph in Has seat (actor_in p seat a r ph)
+      → Moves Has seat (becomes seat (actor_in p seat a r ph) s.log (if t then entries_made m write else []) (if t then released (counted m write) n carry after else to m (Body carry (done + 1) (giving_of n write after)))) Now
+      → Inv p (set words (node_word p n + (offset_of p write + done)) (get_or r.body done 0)) (s.log ++ (if t then entries_made m write else [])) Now Out
+  bodies n carry done write after false e h mv =
+      let off : done + 1 ≢ length r.body = grind (arith, nat_tests) in
+      store_more p ok words Has Now Out seat s b a r carry done (giving_of n write after) off h mv
+  bodies n carry done Nothing after true e h mv = absurd ((K carry done (giving_of n Nothing after) h).work.fits.storing.some refl)
+  bodies n carry done (Entry index) after true e h mv = entry_last n carry done (eqb-true (done + 1) (length r.body) e) after index h (made_moves (Entry index) (Body carry done (giving_of n (Entry index) after)) n carry after _ _ (K carry done (giving_of n (Entry index) after) h).work.fits.plans.update.made_is mv)
+  bodies n carry done WholeLeaf after true e h mv = leaf_last n carry done (eqb-true (done + 1) (length r.body) e) after h (made_moves WholeLeaf (Body carry done (giving_of n WholeLeaf after)) n carry after _ _ (K carry done (giving_of n WholeLeaf after) h).work.fits.plans.update.made_is mv)
+  bodies n carry done LeftLeaf after true e h mv = left_leaf_last n carry done (eqb-true (done + 1) (length r.body) e) after h (made_moves LeftLeaf (Body carry done (giving_of n LeftLeaf after)) n carry after _ _ (K carry done (giving_of n LeftLeaf after) h).work.fits.plans.half.update.made_is mv)
+  bodies n carry done WholeInner after true e h mv = inner_last n carry done (eqb-true (done + 1) (length r.body) e) after h (next_moves WholeInner (Body carry done (giving_of n WholeInner after)) n carry after mv)
+  bodies n carry done LeftInner after true e h mv = left_inner_last n carry done (eqb-true (done + 1) (length r.body) e) after h (next_moves LeftInner (Body carry done (giving_of n LeftInner after)) n carry after mv)
+
+  pub body : (carry : Option ℕ) (done : ℕ) (giving : Giving) → Claim p ok words Has Now Out seat s b a r (Body carry done giving) (Store (node_word p giving.node + (offset_of p giving.write + done)) (get_or r.body done 0))
+  body carry done giving h mv = bodies giving.node carry done giving.write giving.after (done + 1 == length r.body) refl h mv

@@ -1,12 +1,9 @@
 -- The images of accepted READs, and where hops from them lead.
-use Rattle.std.proofs.Common.{◌≡◌, ◌≢◌, ℕ, zero, suc, ◌+◌, ◌-◌, ◌<◌, ◌≤◌, Bool, true, false, List, [], ◌∷◌, length, get_or, refl, sym, ap, ◌∙◌, subst, arith}
-use Rattle.std.specs.Prelude.{◌||◌, ◌==◌, if◌then◌else◌, nat_le, nat_lt}
-use Rattle.std.proofs.lemmas.Bool.Decides.{nat_tests}
+use Rattle.std.proofs.Common.{◌≡◌, ◌≢◌, ℕ, zero, suc, ◌+◌, ◌-◌, ◌<◌, ◌≤◌, List, [], ◌∷◌, length, get_or, refl, sym, ap, ◌∙◌, subst, arith}
 use Rattle.sh_base.specs.declared.config.ConfigParts.{ConfigParts}
 use Rattle.sh_base.specs.Setting.{node_size, IsSetting}
 use Rattle.sh_base.specs.Layout.{node_word, rear_at}
 use Rattle.sh_base.proofs.LayoutLemmas.{node_size_is}
-use Rattle.sh_image.specs.declared.inner.Image.{Image}
 use Rattle.sh_image.specs.declared.inner.Image.TheVariants.{Leaf as LeafImage, Inner as InnerImage}
 use Rattle.sh_image.specs.declared.read.Seen.TheVariants.{Leaf as LeafSeen, Inner as InnerSeen}
 use Rattle.sh_image.specs.Leaf.{Leaf, leaf_in, Spells}
@@ -14,29 +11,27 @@ use Rattle.sh_image.specs.Inner.{Inner, inner_in, SpellsInner}
 use Rattle.sh_image.proofs.UntornLemmas.{untorn_spelled, untorn_inner}
 use Rattle.sh_edit.specs.Held.{held}
 use Rattle.sh_read.proofs.JudgingLemmas.{seen_once}
-use Rattle.sh_descend.specs.declared.Hop.TheVariants.{Here, Right, Down, Restart}
-use Rattle.sh_descend.specs.Descent.{level_of, low_of, high_of, next_of, pairs_of, child_of, hop_of}
-use Rattle.sh_scene.specs.Scene.{Linked, Scene, writing}
-use Rattle.sh_scene.specs.Ground.{Ground}
-use Rattle.sh_scene.specs.Nodes.{level_in}
-use Rattle.sh_scene.proofs.Spelled.{leaf_is, inner_is}
-use Rattle.sh_known.specs.Points.{HadAt}
-use Rattle.sh_known.specs.Knows.{IsFed}
-use Rattle.sh_known.specs.Hand.{IsImageOf}
-use Rattle.sh_known.proofs.Fed.{fed_first, fed_more, fed_leaf, fed_inner}
-use Rattle.sh_known.proofs.HandLemmas.{inner_image, leaf_image}
+use Rattle.sh_state.specs.TreeState.{Linked, TreeState, writing}
+use Rattle.sh_state.specs.Ground.{Ground}
+use Rattle.sh_state.specs.Nodes.{level_in}
+use Rattle.sh_state.proofs.Spelled.{leaf_is, inner_is}
+use Rattle.sh_readers.specs.Points.{HadSince}
+use Rattle.sh_readers.specs.Knows.{IsFed}
+use Rattle.sh_readers.specs.Hand.{IsImageOf}
+use Rattle.sh_readers.proofs.Fed.{fed_first, fed_more, fed_leaf, fed_inner}
+use Rattle.sh_readers.proofs.HandLemmas.{inner_image, leaf_image}
 use Rattle.sh_core.specs.Fits.{HasRead}
 
 -- what a leaf that was accepted holds
-pub record IsSeenLeaf (s : Scene) (first level low : ℕ) (a : Leaf) : Type 0 where
+pub record IsSeenLeaf (s : TreeState) (first level low : ℕ) (a : Leaf) : Type 0 where
   pub level_is : level ≡ 0
   pub image : IsImageOf s level low (LeafImage a)
-  pub holds : (key : ℕ) → key ≢ 0 → low ≤ key → key < a.high → HadAt s.log first key (held a.entries key)
+  pub holds : (key : ℕ) → key ≢ 0 → low ≤ key → key < a.high → HadSince s.log first key (held a.entries key)
 
 differ : (a : Leaf) (b : Inner) → LeafSeen a ≡ InnerSeen b → ⊥
 differ a b e = cc
 
-module _ (p : ConfigParts) (ok : IsSetting p) (words : List ℕ) (s : Scene) (g : Ground p words s) (f n low : ℕ) where
+module _ (p : ConfigParts) (ok : IsSetting p) (words : List ℕ) (s : TreeState) (g : Ground p words s) (f n low : ℕ) where
   -- one word more
   pub more_known : (l : ℕ) (loaded : List ℕ) → s.class n ≡ Linked l low → f ≤ length s.log → length loaded < node_size p → HasRead p s f l n loaded → HasRead p s f l n (get_or words (node_word p n + (node_size p - 1 - length loaded)) 0 ∷ loaded)
   more_known l [] e since lt h =
@@ -57,7 +52,7 @@ module _ (p : ConfigParts) (ok : IsSetting p) (words : List ℕ) (s : Scene) (g 
         record {
           level_is = refl;
           image = subst (λ (x : Leaf). IsImageOf s 0 low (LeafImage x)) is (leaf_image p words s g n low f ws e r);
-          holds = λ key nz from below. subst (λ (x : Leaf). HadAt s.log f key (held x.entries key)) is (r.holds key nz (omega (arith, r.low, lo, from)) (subst (λ (x : Leaf). key < x.high) (sym is) below));
+          holds = λ key nz from below. subst (λ (x : Leaf). HadSince s.log f key (held x.entries key)) is (r.holds key nz (omega (arith, r.low, lo, from)) (subst (λ (x : Leaf). key < x.high) (sym is) below));
         }
     seen_leaf (suc l) a e k sp =
         let untorn = untorn_spelled p ws a sp in
@@ -77,16 +72,3 @@ module _ (p : ConfigParts) (ok : IsSetting p) (words : List ℕ) (s : Scene) (g 
         let is = stands l e k untorn.node in
         let one : inner_in (s.node n) ≡ a = ap inner_in (sym is) ∙ inner_is p ws a sp.words sp.lawful in
         subst (λ (x : Inner). IsImageOf s (suc l) low (InnerImage x)) one (inner_image p words s g n l low e)
-
--- ---- hops
-
-by_right : (a b c : Bool) (n d r : ℕ) → (if a then Restart else if b then Right n else if c then Here else Down d) ≡ Right r → a ≡ false
-by_right true b c n d r e = absurd (cc)
-by_right false b c n d r e = refl
-
-reaches : (l t k a : ℕ) → (nat_lt l t || nat_lt k a) ≡ false → t ≤ l
-reaches l t k a e = grind (arith, nat_tests)
-
--- a hop to the right is from the wanted level, or one above it
-pub right_reaches : (image : Image) (key target r : ℕ) → hop_of image key target ≡ Right r → target ≤ level_of image
-right_reaches image key target r e = reaches (level_of image) target key (low_of image) (by_right (nat_lt (level_of image) target || nat_lt key (low_of image)) (nat_le (high_of image) key) (level_of image == target) (next_of image) (child_of (pairs_of image) key) r e)

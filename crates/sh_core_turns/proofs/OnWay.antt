@@ -1,18 +1,17 @@
--- READs without a lock.
-use Rattle.std.proofs.Common.{◌≡◌, ◌≢◌, ℕ, ◌+◌, ◌-◌, ◌<◌, Bool, true, false, List, [], ◌∷◌, ◌++◌, length, get_or, Option, Some, None, refl, sym, ap, ◌∙◌, subst, arith, eqb-true}
-use Rattle.std.specs.Prelude.{◌==◌, ◌&&◌, if◌then◌else◌, nat_lt}
+-- READs without a lock: each leads on, and finds nothing senseless.
+use Rattle.std.proofs.Common.{◌≡◌, ◌≢◌, ℕ, suc, ◌+◌, ◌-◌, ◌<◌, ◌≤◌, Bool, true, false, List, [], ◌∷◌, ◌++◌, length, get_or, Option, Some, None, refl, sym, ap, ◌∙◌, subst, arith, eqb-true}
+use Rattle.std.specs.Prelude.{◌==◌, ◌&&◌, not, if◌then◌else◌, nat_lt}
 use Rattle.std.proofs.lemmas.Bool.Decides.{nat_tests}
 use Rattle.sh_base.specs.declared.config.ConfigParts.{ConfigParts}
 use Rattle.sh_base.specs.declared.event.Event.TheVariants.{Load}
 use Rattle.sh_base.specs.Setting.{node_size, IsSetting}
 use Rattle.sh_base.specs.Layout.{node_word}
 use Rattle.sh_base.proofs.LayoutLemmas.{node_size_is}
+use Rattle.sh_map.specs.declared.book.Done.{Done}
 use Rattle.sh_map.specs.declared.call.Call.{Call}
 use Rattle.sh_map.specs.declared.call.Call.TheVariants as call
-use Rattle.sh_map.specs.declared.call.Reply.{Reply}
-use Rattle.sh_map.specs.declared.log.Entry.{Entry as LogEntry}
 use Rattle.sh_map.specs.Made.{entries_by}
-use Rattle.sh_map.specs.Calls.{IsInRange, IsKey}
+use Rattle.sh_map.specs.Calls.{IsKey}
 use Rattle.sh_image.specs.declared.inner.Image.{Image}
 use Rattle.sh_image.specs.declared.inner.Image.TheVariants.{Leaf as LeafImage, Inner as InnerImage}
 use Rattle.sh_image.specs.declared.read.Seen.{Seen}
@@ -20,248 +19,249 @@ use Rattle.sh_image.specs.declared.read.Seen.TheVariants.{Leaf as LeafSeen, Inne
 use Rattle.sh_image.specs.Seen.{SeenBy}
 use Rattle.sh_image.specs.Leaf.{Leaf}
 use Rattle.sh_edit.specs.Held.{held}
-use Rattle.sh_alloc.specs.Spares.{lowest, without_lowest}
-use Rattle.sh_alloc.specs.Walks.{start_of as walk_start}
 use Rattle.sh_read.specs.declared.state.Progress.TheVariants.{More}
 use Rattle.sh_read.specs.Judging.{seen_of}
-use Rattle.sh_read.specs.Reads.{Reads, accepted, answer_to, image_in, left_by, reads_with, start_of}
+use Rattle.sh_read.specs.Reads.{Reads, accepted, answer_to, image_in, reads_left, reads_with, reads_start}
 use Rattle.sh_read.proofs.JudgingLemmas.{judged_by}
 use Rattle.sh_descend.specs.declared.Hop.{Hop}
 use Rattle.sh_descend.specs.declared.Hop.TheVariants.{Here, Right, Down, Restart}
-use Rattle.sh_descend.specs.Descent.{hop_of, level_of}
-use Rattle.sh_scene.specs.Scene.{Seat, Scene}
-use Rattle.sh_known.specs.Points.{HadAt}
-use Rattle.sh_known.specs.Hand.{IsNamed, IsImageOf}
-use Rattle.sh_known.proofs.HandLemmas.{right_named, down_named, down_inner, here_is}
-use Rattle.sh_decide.specs.declared.state.Post.{Post}
-use Rattle.sh_client.specs.declared.state.Tally.{Tally}
+use Rattle.sh_descend.specs.Descent.{high_of, hop_of, level_of}
+use Rattle.sh_state.specs.TreeState.{TreeState}
+use Rattle.sh_readers.specs.Points.{HadSince}
+use Rattle.sh_readers.specs.Hand.{IsNamed, IsImageOf}
+use Rattle.sh_readers.proofs.Fed.{fed_node}
 use Rattle.sh_decide.specs.declared.state.Aim.{Aim}
 use Rattle.sh_decide.specs.declared.state.Aim.TheVariants.{Own, Posts}
 use Rattle.sh_decide.specs.declared.state.Way.TheVariants as way
-use Rattle.sh_client.specs.declared.state.Phase.TheVariants.{Root, Read, Draw, Top, Ended}
-use Rattle.sh_client.specs.Machine.{Machine, up, to, answering, sparing}
-use Rattle.sh_decide.specs.Aims.{call_key, is_node, key_of, takes_lock, target}
-use Rattle.sh_decide.specs.Leaves.{answer_of, reply_with}
+use Rattle.sh_decide.specs.Aims.{call_key, aimed_key, takes_lock, target}
+use Rattle.sh_decide.specs.Leaves.{leaf_answer, reply_with}
 use Rattle.sh_decide.specs.Ways.{is_below, way_of, way_by, way_here}
+use Rattle.sh_client.specs.declared.state.Need.TheVariants.{ToGrow}
+use Rattle.sh_client.specs.declared.state.Phase.{Phase}
+use Rattle.sh_client.specs.declared.state.Phase.TheVariants.{Root, Read, Draw, Ended}
+use Rattle.sh_client.specs.Machine.{Machine, Registers, answering, to, up}
 use Rattle.sh_client.specs.Feeds.{read_by, arrived, went}
-use Rattle.sh_client.specs.Splitting.{grown, growing, raised}
-use Rattle.sh_core.specs.Actors.{Actor, becomes, ending, point_of}
-use Rattle.sh_core.specs.Fits.{Owes, IsOnWay, IsThere, HasRead, Reaches, IsBelow, duty_of}
+use Rattle.sh_client.specs.Splitting.{root_grown}
+use Rattle.sh_map.specs.Points.{point_of}
+use Rattle.sh_core.specs.Actors.{Actor, becomes, ending}
+use Rattle.sh_core.specs.Fits.{IsBelow, IsOnWay, IsThere, HasRead, Reaches, duty_of}
 use Rattle.sh_core.specs.Causes.{HasCause}
-use Rattle.sh_core.specs.Keeps.{pending_aim, Keeps}
+use Rattle.sh_core.specs.Keeps.{pending_aim, KeepsActor}
 use Rattle.sh_core.specs.Core.{Inv, Moves}
-use Rattle.sh_core.proofs.Logs.{least_is}
-use Rattle.sh_core.proofs.Frame.{next, me, at, with, goes_on, IsEnding, ends_now, work_with, work_ended, same_here, same_grows, Before, moves_by, stays, one_log}
-use Rattle.sh_core_turns.proofs.Spares.{takes_lowest, none_spare}
-use Rattle.sh_core_turns.proofs.Raising.{work_raised, begins_walk}
-use Rattle.sh_scene.proofs.Joins.{nothing_done}
-use Rattle.sh_core.proofs.Locks.{Claim, quiet}
-use Rattle.sh_core_turns.proofs.UnderLock.{is_lt, not_lt}
-use Rattle.sh_core_turns.proofs.Images.{IsSeenLeaf, more_known, seen_leaf, seen_inner, right_reaches}
+use Rattle.sh_map.proofs.LeastLemmas.{least_is}
+use Rattle.sh_core.proofs.Frame.{Before, Claim, IsEnding, SameCall, actor_in, at, ends_now, one_log, quiet, same_here, stays, work_ended}
+use Rattle.sh_core_turns.specs.Senses.{lacks_answer, of_image, of_read, strays, strays_by}
+use Rattle.sh_core_turns.proofs.Standing.{aim_key, hop_leads, is_lt, names_node, not_lt, whole_accepted}
+use Rattle.sh_core_turns.proofs.Images.{IsSeenLeaf, more_known, seen_leaf, seen_inner}
+use Rattle.sh_core_turns.proofs.FreshNodes.{needs_land}
 
--- a reply with what the map had at a key is a get's
-get_ends : (p : ConfigParts) (log : List LogEntry) (i : ℕ) (a : Actor) (key : ℕ) (had : Option (List ℕ)) → HadAt log a.first key had → IsEnding log i (length log) record { n = a.number; seat = i; call = call.Get key; reply = reply_with had; first = a.first; point = point_of log a.first a.point (call.Get key) (reply_with had); rows = [] }
-get_ends p log i a key (Some v) h = let l = least_is log a.first key (Some v) h.0 h.1 h.2 h.3 in record { answered = record { seat_is = refl; answers = record { within = l.within; row = l.here }; least = l }; from = l.from; past = omega (arith, l.within) }
-get_ends p log i a key None h = let l = least_is log a.first key None h.0 h.1 h.2 h.3 in record { answered = record { seat_is = refl; answers = record { within = l.within; row = l.here }; least = l }; from = l.from; past = omega (arith, l.within) }
+differ : (a b : ℕ) → (a == b) ≡ false → a ≢ b
+differ a b e = grind (arith, nat_tests)
 
--- the key of a descent is a key
-pub aim_key : (p : ConfigParts) (s : Scene) (i f q e : ℕ) (c : Call) (r : Reply) (aim : Aim) (duty : Option Post) → IsInRange p c → duty ≡ duty_of aim → Owes s i f q e c r duty → IsKey (key_of c aim)
-aim_key p s i f q e (call.Get key) r Own duty h is o = h
-aim_key p s i f q e (call.Put key value) r Own duty h is o = h.0
-aim_key p s i f q e (call.Del key) r Own duty h is o = h
-aim_key p s i f q e (call.Range low high) r Own duty h is o = h.0
-aim_key p s i f q e c r (Posts post) duty h is o = let w = subst (Owes s i f q e c r) is o in (w.some, w.past)
+-- where no new root goes over it, a node isn't below the wanted level
+not_below : (top : Bool) (aim : Aim) (image : Image) (level : ℕ) → Reaches top (target aim) level → level_of image ≡ level → (top && is_below aim image) ≡ false → target aim ≤ level
+not_below false aim image level r e q = r
+not_below true Own image level r e q = omega arith
+not_below true (Posts post) image level r e q = let ne = differ post.level (level_of image + 1) q in omega (arith, ne, r, e)
 
-module _ (p : ConfigParts) (ok : IsSetting p) (words : List ℕ) (Has Now : ℕ → Actor → Type 0) (Out : ℕ → ℕ → ℕ → Type 0) (i : ℕ) (s : Scene) (b : Before p words Has Out s) (a : Actor) (m : Machine) (aim : Aim) (top : Bool)
-    (h : Has i (me p i a m (Read aim top))) where
-  abbrev Here' : Machine → Type 0
-  Here' n = Moves Has i (becomes i (me p i a m (Read aim top)) s.log [] n) Now → Inv p words (s.log ++ []) Now Out
+module _ (p : ConfigParts) (ok : IsSetting p) (words : List ℕ) (Has Now : ℕ → Actor → Type 0) (Out : ℕ → ℕ → ℕ → Type 0) (i : ℕ) (s : TreeState) (b : Before p words Has Out s) (a : Actor) (r : Registers) (aim : Aim) (top : Bool)
+    (h : Has i (actor_in p i a r (Read aim top))) where
+  abbrev ph : Phase
+  ph = Read aim top
 
-  abbrev K : Keeps p s i (me p i a m (Read aim top))
-  K = b.kept i (me p i a m (Read aim top)) h
+  abbrev Lands : Machine → Type 0
+  Lands m = Moves Has i (becomes i (actor_in p i a r ph) s.log [] m) Now → Inv p words (s.log ++ []) Now Out
+
+  abbrev LandsWell : (senseless : Bool) → Machine → Type 0
+  LandsWell senseless m = (senseless ≡ false) × Lands m
+
+  abbrev k : KeepsActor p s i (actor_in p i a r ph)
+  k = b.kept i (actor_in p i a r ph) h
 
   abbrev key : ℕ
-  key = key_of m.call aim
+  key = aimed_key r.call aim
 
-  isk : IsKey key
-  isk = aim_key p s i a.first a.point a.seen m.call m.reply aim K.work.duty K.work.seated.in_range K.work.fits.0 K.work.owes
+  is_key : IsKey key
+  is_key = aim_key p s i a.first a.point a.seen r.call r.reply aim k.work.duty k.work.seated.in_range k.work.fits.duty_is k.work.owes
 
   -- to the root word again
-  restarts : (tally : Tally) (reads : Reads) → tally.skipped_spent + tally.skipped_worn ≡ m.tally.skipped_spent + m.tally.skipped_worn → Here' (with p i m tally reads m.walk m.body m.right (Root aim))
-  restarts tally reads sum mv = quiet p ok words Has Now Out i s b a m (Read aim top) (Root aim) tally reads K sum K.work.fits.0 K.work.hands refl tt mv
+  restarts : (x : Registers) → SameCall r x → pending_aim i x.call x.reply aim ≡ pending_aim i r.call r.reply aim → Lands (at p i x (Root aim))
+  restarts x same pend mv = quiet p ok words Has Now Out i s b a r ph (Root aim) x k same k.work.fits.duty_is k.work.hands pend tt mv
 
   -- to a READ of a node
-  reads_on : (tally : Tally) (reads : Reads) (t : Bool) → tally.skipped_spent + tally.skipped_worn ≡ m.tally.skipped_spent + m.tally.skipped_worn → IsOnWay p s a.first m.call reads aim t → Here' (with p i m tally reads m.walk m.body m.right (Read aim t))
-  reads_on tally reads t sum way mv = quiet p ok words Has Now Out i s b a m (Read aim top) (Read aim t) tally reads K sum (K.work.fits.0, way) K.work.hands refl tt mv
+  reads_on : (x : Registers) (t : Bool) → SameCall r x → pending_aim i x.call x.reply aim ≡ pending_aim i r.call r.reply aim → IsOnWay p s a.first x.call x.reads aim t → Lands (at p i x (Read aim t))
+  reads_on x t same pend way mv = quiet p ok words Has Now Out i s b a r ph (Read aim t) x k same record { duty_is = k.work.fits.duty_is; on_way = way } k.work.hands pend tt mv
 
-  begins : (l n : ℕ) (t : Bool) → IsNamed s l n key → Reaches t (target aim) l → IsOnWay p s a.first m.call (start_of n) aim t
+  begins : (l n : ℕ) (t : Bool) → IsNamed s l n key → Reaches t (target aim) l → IsOnWay p s a.first r.call (reads_start n) aim t
   begins l n t named reach = record { level = l; named = named; reach = reach; left = omega (arith, node_size_is p); known = tt }
 
   -- to the lock of a node
-  locks : (tally : Tally) (reads : Reads) (n : ℕ) → tally.skipped_spent + tally.skipped_worn ≡ m.tally.skipped_spent + m.tally.skipped_worn → IsThere s m.call aim n → Here' (with p i m tally reads m.walk m.body m.right (Draw aim n))
-  locks tally reads n sum there mv = quiet p ok words Has Now Out i s b a m (Read aim top) (Draw aim n) tally reads K sum (K.work.fits.0, there) K.work.hands refl tt mv
+  locks : (x : Registers) (n : ℕ) → SameCall r x → pending_aim i x.call x.reply aim ≡ pending_aim i r.call r.reply aim → IsThere s x.call aim n → Lands (at p i x (Draw aim n))
+  locks x n same pend there mv = quiet p ok words Has Now Out i s b a r ph (Draw aim n) x k same record { duty_is = k.work.fits.duty_is; there = there } k.work.hands pend tt mv
 
-  at_level : (l n k t : ℕ) → l ≡ t → IsNamed s l n k → IsNamed s t n k
-  at_level l n k t e h = subst (λ (z : ℕ). IsNamed s z n k) e h
+  at_level : (l n t : ℕ) → l ≡ t → IsNamed s l n key → IsNamed s t n key
+  at_level l n t e = subst (λ (z : ℕ). IsNamed s z n key) e
 
   -- ---- an image that was accepted
   module _ (reads : Reads) (level : ℕ) (named : IsNamed s level reads.node key) (reach : Reaches top (target aim) level) where
+    abbrev x : Registers
+    x = record r { reads = reads }
+
+    abbrev hopped : Reads → Registers
+    hopped now = record r { reads = now; tally = record r.tally { rights = up r.tally.rights } }
+
     abbrev M : Machine
-    M = with p i m m.tally reads m.walk m.body m.right (Read aim top)
+    M = at p i x ph
 
-    abbrev hopped : Tally
-    hopped = record { again = m.tally.again; rights = up m.tally.rights; splits = m.tally.splits; handed = m.tally.handed; from_cache = m.tally.from_cache; skipped_spent = m.tally.skipped_spent; skipped_worn = m.tally.skipped_worn; rewritten = m.tally.rewritten }
+    same : SameCall r x
+    same = record { call_is = refl; reply_is = refl; spare_is = refl; skips_are = refl }
 
-    goes_right : (image : Image) (r : ℕ) (n t : Bool) → IsImageOf s level named.low image → hop_of image key (target aim) ≡ Right r → (takes_lock m.call aim && (level_of image == target aim)) ≡ t
-        → Here' (went M aim image (if n then (if t then way.LockRight r else way.Right r) else way.Root))
-    goes_right image r false t img e q mv = restarts m.tally reads refl mv
-    goes_right image r true true img e q mv =
-        let to = right_named s level named.low key (target aim) image img named.below r isk.1 e in
-        let same : level_of image ≡ target aim = grind (arith, nat_tests) in
-        locks hopped reads r refl (at_level level r key (target aim) (sym img.level_is ∙ same) to) mv
-    goes_right image r true false img e q mv =
-        let to = right_named s level named.low key (target aim) image img named.below r isk.1 e in
-        let le = right_reaches image key (target aim) r e in
-        reads_on hopped (start_of r) false refl (begins level r false to (omega (arith, le, img.level_is))) mv
+    goes_right : (image : Image) (next : ℕ) (t : Bool) → IsImageOf s level named.low image → IsNamed s level next key → target aim ≤ level → (takes_lock r.call aim && (level_of image == target aim)) ≡ t → Lands (went M aim image (if t then way.LockRight next else way.Right next))
+    goes_right image next true img right le q mv =
+        let here : level_of image ≡ target aim = grind (arith, nat_tests) in
+        locks (hopped reads) next record { call_is = refl; reply_is = refl; spare_is = refl; skips_are = refl } refl (at_level level next (target aim) (sym img.level_is ∙ here) right) mv
+    goes_right image next false img right le q mv = reads_on (hopped (reads_start next)) false record { call_is = refl; reply_is = refl; spare_is = refl; skips_are = refl } refl (begins level next false right le) mv
 
-    goes_down : (image : Image) (c : ℕ) (n t : Bool) → IsImageOf s level named.low image → hop_of image key (target aim) ≡ Down c → (takes_lock m.call aim && (level_of image == target aim + 1)) ≡ t
-        → Here' (went M aim image (if n then (if t then way.Lock c else way.Read c) else way.Root))
-    goes_down image c false t img e q mv = restarts m.tally reads refl mv
-    goes_down image c true true img e q mv =
-        let below = down_inner s level named.low key (target aim) image img named.below c e in
-        let to = down_named s level named.low key (target aim) image img named.below below.0 c below.1 e in
-        let same : level_of image ≡ target aim + 1 = grind (arith, nat_tests) in
-        locks m.tally reads c refl (at_level below.0 c key (target aim) (omega (arith, below.1, img.level_is, same)) to.0) mv
-    goes_down image c true false img e q mv =
-        let below = down_inner s level named.low key (target aim) image img named.below c e in
-        let to = down_named s level named.low key (target aim) image img named.below below.0 c below.1 e in
-        reads_on m.tally (start_of c) false refl (begins below.0 c false to.0 to.1) mv
+    goes_down : (image : Image) (below child : ℕ) (t : Bool) → IsImageOf s level named.low image → level ≡ suc below → IsNamed s below child key → target aim ≤ below → (takes_lock r.call aim && (level_of image == target aim + 1)) ≡ t → Lands (went M aim image (if t then way.Lock child else way.Read child))
+    goes_down image below child true img up down le q mv =
+        let here : level_of image ≡ target aim + 1 = grind (arith, nat_tests) in
+        locks x child same refl (at_level below child (target aim) (omega (arith, up, img.level_is, here)) down) mv
+    goes_down image below child false img up down le q mv = reads_on (record r { reads = reads_start child }) false record { call_is = refl; reply_is = refl; spare_is = refl; skips_are = refl } refl (begins below child false down le) mv
 
-    -- what a leaf was seen to hold
+    -- what a leaf was seen to hold; an inner node isn't of level 0
     abbrev Holds : Image → Type 0
-    Holds (LeafImage x) = IsSeenLeaf s a.first level named.low x
-    Holds (InnerImage x) = Unit {0}
+    Holds (LeafImage leaf) = IsSeenLeaf s a.first level named.low leaf
+    Holds (InnerImage node) = 1 ≤ node.level
 
-    done_is : (k : ℕ) (had : Option (List ℕ)) → m.call ≡ call.Get k → HadAt s.log a.first k had → IsEnding s.log i (length s.log) record { n = a.number; seat = i; call = m.call; reply = reply_with had; first = a.first; point = point_of s.log a.first a.point m.call (reply_with had); rows = [] }
-    done_is k had e at = subst (λ (c : Call). IsEnding s.log i (length s.log) record { n = a.number; seat = i; call = c; reply = reply_with had; first = a.first; point = point_of s.log a.first a.point c (reply_with had); rows = [] }) (sym e) (get_ends p s.log i a k had at)
-
-    none_made : (k : ℕ) (r : Reply) → m.call ≡ call.Get k → entries_by i m.call r ≡ []
-    none_made k r e = ap (λ (c : Call). entries_by i c r) e
+    has_answer : (c : Call) (aim : Aim) (image : Image) → level_of image ≡ target aim → Holds image → lacks_answer c aim image ≡ false
+    has_answer c aim (LeafImage leaf) e seen = refl
+    has_answer c Own (InnerImage node) e up = absurd (omega (arith, e, up))
+    has_answer c (Posts post) (InnerImage node) e up = refl
 
     -- a get is answered
-    finds : (k : ℕ) (x : Leaf) → m.call ≡ call.Get k → aim ≡ Own → level ≡ target aim → key < x.high → IsSeenLeaf s a.first level named.low x → Here' (to (answering M (answer_of x.entries (call_key m.call))) Ended)
-    finds k x e own at lt seen mv =
-        let key_at : key ≡ call_key m.call = ap (λ (z : Aim). key_of m.call z) own in
-        let same : call_key m.call ≡ k = ap call_key e in
-        let had : Option (List ℕ) = held x.entries (call_key m.call) in
-        let nz : k ≢ 0 = λ z. omega (arith, z, same, key_at, isk.0) in
-        let at_key : HadAt s.log a.first k had = subst (λ (z : ℕ). HadAt s.log a.first k (held x.entries z)) (sym same) (seen.holds k nz (omega (arith, named.below, key_at, same)) (omega (arith, lt, key_at, same))) in
-        let end = done_is k had e at_key in
-        let duty : K.work.duty ≡ None = K.work.fits.0 ∙ ap duty_of own in
+    abbrev ended : (c : Call) → Option (List ℕ) → Done
+    ended c had = record { n = a.number; seat = i; call = c; reply = reply_with had; first = a.first; point = point_of s.log a.first a.point c (reply_with had); rows = [] }
+
+    get_ends : (q : ℕ) (had : Option (List ℕ)) → HadSince s.log a.first q had → IsEnding s.log i (length s.log) (ended (call.Get q) had)
+    get_ends q (Some v) at = let l = least_is s.log a.first q (Some v) at.0 at.1 at.2 at.3 in record { answered = record { seat_is = refl; answers = record { within = l.within; row = l.here }; least = l }; from = l.from; past = omega (arith, l.within) }
+    get_ends q None at = let l = least_is s.log a.first q None at.0 at.1 at.2 at.3 in record { answered = record { seat_is = refl; answers = record { within = l.within; row = l.here }; least = l }; from = l.from; past = omega (arith, l.within) }
+
+    finds : (q : ℕ) (leaf : Leaf) → r.call ≡ call.Get q → aim ≡ Own → key < leaf.high → IsSeenLeaf s a.first level named.low leaf → Lands (to (answering M (leaf_answer leaf.entries (call_key r.call))) Ended)
+    finds q leaf e own lt seen mv =
+        let key_at : key ≡ call_key r.call = ap (λ (z : Aim). aimed_key r.call z) own in
+        let is : call_key r.call ≡ q = ap call_key e in
+        let had : Option (List ℕ) = held leaf.entries (call_key r.call) in
+        let nz : q ≢ 0 = λ z. omega (arith, z, is, key_at, is_key.0) in
+        let at_key : HadSince s.log a.first q had = subst (λ (z : ℕ). HadSince s.log a.first q (held leaf.entries z)) (sym is) (seen.holds q nz (omega (arith, named.below, key_at, is)) (omega (arith, lt, key_at, is))) in
+        let end = subst (λ (c : Call). IsEnding s.log i (length s.log) (ended c had)) (sym e) (get_ends q had at_key) in
+        let now : Registers = record r { reads = reads; reply = reply_with had } in
         one_log p ok words Has Now Out i s b words s refl
-        (stays p ok words Has Now Out i s b (ending i (me p i a m (Read aim top)) s.log (to (answering M (reply_with had)) Ended))
-        (ends_now p s s i (me p i a m (Read aim top)) (to (answering M (reply_with had)) Ended) s.log K refl (λ server. omega arith) (omega arith) K.seen
-        (work_ended p s s i a.first a.point a.seen (length s.log) m (Read aim top) K.work (same_here s) K.seen m.tally (reply_with had) reads m.walk m.body m.right refl duty K.work.hands) end.answered (subst (λ (c : Call). HasCause p s.counter s.log a.first (point_of s.log a.first a.point c (reply_with had)) c (reply_with had)) (sym e) tt) end.from end.past
-        (ap (λ (z : Aim). pending_aim i m.call m.reply z) own ∙ sym (none_made k (reply_with had) e)) refl) tt mv)
+        (stays p ok words Has Now Out i s b (ending i (actor_in p i a r ph) s.log (at p i now Ended))
+        (ends_now p s s i (actor_in p i a r ph) (at p i now Ended) s.log k refl (λ server. omega arith) (omega arith) k.seen
+        (work_ended p s s i a.first a.point a.seen (length s.log) r ph k.work (same_here s) k.seen now refl refl refl (k.work.fits.duty_is ∙ ap duty_of own) k.work.hands) end.answered (subst (λ (c : Call). HasCause p s.counter s.log a.first (point_of s.log a.first a.point c (reply_with had)) c (reply_with had)) (sym e) tt) end.from end.past
+        (ap (λ (z : Aim). pending_aim i r.call r.reply z) own ∙ sym (ap (λ (c : Call). entries_by i c (reply_with had)) e)) refl) tt mv)
 
-    goes_here : (c : Call) (to : Aim) (image : Image) → m.call ≡ c → aim ≡ to → IsImageOf s level named.low image → Holds image → hop_of image key (target aim) ≡ Here → Here' (went M aim image (way_here c to reads.node image))
-    goes_here c (Posts post) image e own img seen at mv = let z = here_is s level named.low key (target aim) image img named.below at in locks m.tally reads reads.node refl (at_level level reads.node key (target aim) z.0 named) mv
-    goes_here (call.Get k) Own (LeafImage x) e own img seen at mv = let z = here_is s level named.low key (target aim) (LeafImage x) img named.below at in finds k x e own z.0 z.1 seen mv
-    goes_here (call.Get k) Own (InnerImage x) e own img seen at mv = restarts m.tally reads refl mv
-    goes_here (call.Put k v) Own image e own img seen at mv = let z = here_is s level named.low key (target aim) image img named.below at in locks m.tally reads reads.node refl (at_level level reads.node key (target aim) z.0 named) mv
-    goes_here (call.Del k) Own image e own img seen at mv = let z = here_is s level named.low key (target aim) image img named.below at in locks m.tally reads reads.node refl (at_level level reads.node key (target aim) z.0 named) mv
-    goes_here (call.Range low high) Own image e own img seen at mv = restarts m.tally reads refl mv
+    goes_here : (c : Call) (goal : Aim) (image : Image) → r.call ≡ c → aim ≡ goal → level ≡ target aim → level ≡ target goal → key < high_of image → IsImageOf s level named.low image → Holds image → Lands (went M aim image (way_here c goal reads.node image))
+    goes_here c (Posts post) image e own here there lt img seen = locks x reads.node same refl (at_level level reads.node (target aim) here named)
+    goes_here (call.Get q) Own (LeafImage leaf) e own here there lt img seen = finds q leaf e own lt seen
+    goes_here (call.Get q) Own (InnerImage node) e own here there lt img seen = absurd (omega (arith, img.level_is, there, seen))
+    goes_here (call.Put q v) Own image e own here there lt img seen = locks x reads.node same refl (at_level level reads.node (target aim) here named)
+    goes_here (call.Del q) Own image e own here there lt img seen = locks x reads.node same refl (at_level level reads.node (target aim) here named)
+    goes_here (call.Range low high) Own image e own here there lt img seen = restarts x same refl
 
-    goes_by : (image : Image) (hop : Hop) → hop_of image key (target aim) ≡ hop → IsImageOf s level named.low image → Holds image → Here' (went M aim image (way_by p m.call aim reads.node image hop))
-    goes_by image Here e img seen mv = goes_here m.call aim image refl refl img seen e mv
-    goes_by image (Right r) e img seen mv = goes_right image r (is_node p r) (takes_lock m.call aim && (level_of image == target aim)) img e refl mv
-    goes_by image (Down c) e img seen mv = goes_down image c (is_node p c) (takes_lock m.call aim && (level_of image == target aim + 1)) img e refl mv
-    goes_by image Restart e img seen mv = restarts m.tally reads refl mv
+    -- a hop leads to a node
+    abbrev Leads : Image → Hop → Type 0
+    Leads image hop = LandsWell (strays_by p r.call aim image hop) (went M aim image (way_by p r.call aim reads.node image hop))
 
-    -- ---- a new root over it
-    grows_to : (post : Post) (o : Option ℕ) → aim ≡ Posts post → level + 1 ≡ post.level → lowest m.spare ≡ o → Here' (growing M post reads.node o)
-    grows_to post (Some fresh) own up e mv =
-        let duty : K.work.duty ≡ Some post = K.work.fits.0 ∙ ap duty_of own in
-        let below : IsBelow s post reads.node = record { below = level; level = omega (arith, up); named = subst (λ (z : Aim). IsNamed s level reads.node (key_of m.call z)) own named } in
-        let n : Machine = raised (sparing M (without_lowest m.spare)) post reads.node fresh in
-        one_log p ok words Has Now Out i s b words s refl
-        (stays p ok words Has Now Out i s b (next a (length s.log) n)
-        (goes_on p s s i (length s.log) (me p i a m (Read aim top)) n K refl (λ server. omega arith) K.seen (omega arith)
-        (work_raised p s s i a.first a.point a.seen (length s.log) m (Read aim top) K.work (same_grows s s i a.seen (length s.log) (same_here s) K.seen) (λ k. refl) reads m.walk m.body (without_lowest m.spare) post reads.node fresh (takes_lowest s i m.spare K.work.spares fresh e) duty below K.work.hands)
-        (sym (ap (λ (z : Aim). pending_aim i m.call m.reply z) own))) tt mv)
-    grows_to post None own up e mv =
-        let duty : K.work.duty ≡ Some post = K.work.fits.0 ∙ ap duty_of own in
-        let below : IsBelow s post reads.node = record { below = level; level = omega (arith, up); named = subst (λ (z : Aim). IsNamed s level reads.node (key_of m.call z)) own named } in
-        let n : Machine = with p i m m.tally reads (walk_start p i) m.body m.right (Top post reads.node) in
-        one_log p ok words Has Now Out i s b words s refl
-        (moves_by p ok words Has Now Out i s b words s (next a (length s.log) n) (nothing_done p (λ o. o ≢ Seat i) s, b.ground)
-        (goes_on p s s i (length s.log) (me p i a m (Read aim top)) n K refl (λ server. omega arith) K.seen (omega arith)
-        (work_with p s s i a.first a.point a.seen (length s.log) m (Read aim top) K.work (same_here s) K.seen m.tally reads (walk_start p i) m.body m.right (Top post reads.node) refl (duty, below, begins_walk p ok s i m.spare (none_spare s i m.spare K.work.spares e)) K.work.hands)
-        (sym (ap (λ (z : Aim). pending_aim i m.call m.reply z) own))) (λ server. refl) (λ server q. cc) mv)
+    by_hop : (image : Image) (hop : Hop) → hop_of image key (target aim) ≡ hop → IsImageOf s level named.low image → Holds image → target aim ≤ level → Leads image hop
+    by_hop image Here e img seen le =
+        let z = hop_leads s level named.low key (target aim) image img named.below is_key.1 le Here e in
+        (has_answer r.call aim image (img.level_is ∙ z.0) seen, goes_here r.call aim image refl refl z.0 z.0 z.1 img seen)
+    by_hop image (Right next) e img seen le =
+        let right = hop_leads s level named.low key (target aim) image img named.below is_key.1 le (Right next) e in
+        subst (λ (t : Bool). LandsWell (not t) (went M aim image (if t then (if takes_lock r.call aim && (level_of image == target aim) then way.LockRight next else way.Right next) else way.Root))) (sym (names_node p words s b.ground level next key right))
+        (refl, goes_right image next (takes_lock r.call aim && (level_of image == target aim)) img right le refl)
+    by_hop image (Down child) e img seen le =
+        let down = hop_leads s level named.low key (target aim) image img named.below is_key.1 le (Down child) e in
+        subst (λ (t : Bool). LandsWell (not t) (went M aim image (if t then (if takes_lock r.call aim && (level_of image == target aim + 1) then way.Lock child else way.Read child) else way.Root))) (sym (names_node p words s b.ground down.0 child key down.2))
+        (refl, goes_down image down.0 child (takes_lock r.call aim && (level_of image == target aim + 1)) img down.1 down.2 down.3 refl)
+    by_hop image Restart e img seen le = absurd (hop_leads s level named.low key (target aim) image img named.below is_key.1 le Restart e)
 
-    goes_up : (image : Image) (to : Aim) → aim ≡ to → IsImageOf s level named.low image → is_below to image ≡ true → Here' (grown M to reads.node)
-    goes_up image Own own img e mv = cc
-    goes_up image (Posts post) own img e mv =
-        let same : level_of image + 1 ≡ post.level = sym (eqb-true post.level (level_of image + 1) e) in
-        grows_to post (lowest m.spare) own (omega (arith, same, img.level_is)) refl mv
+    -- a new root goes over it
+    goes_up : (image : Image) (goal : Aim) → aim ≡ goal → IsImageOf s level named.low image → is_below goal image ≡ true → Lands (root_grown M goal reads.node)
+    goes_up image Own own img e = cc
+    goes_up image (Posts post) own img e =
+        let up : level_of image + 1 ≡ post.level = sym (eqb-true post.level (level_of image + 1) e) in
+        let below : IsBelow s post reads.node k.work.duty = record { duty_is = k.work.fits.duty_is ∙ ap duty_of own; below = level; level = omega (arith, up, img.level_is); named = subst (λ (z : Aim). IsNamed s level reads.node (aimed_key r.call z)) own named } in
+        needs_land p ok words Has Now Out i s b a r ph k reads ph (ToGrow post reads.node) below k.work.hands (sym (ap (pending_aim i r.call r.reply) own))
 
-    goes_way : (image : Image) (t : Bool) → (top && is_below aim image) ≡ t → IsImageOf s level named.low image → Holds image → Here' (went M aim image (if t then way.Grow else way_by p m.call aim reads.node image (hop_of image key (target aim))))
-    goes_way image true e img seen mv = goes_up image aim refl img (both top (is_below aim image) e) mv
+    leads : (image : Image) → IsImageOf s level named.low image → Holds image → LandsWell (strays p r.call aim top image) (went M aim image (way_of p r.call aim top reads.node image))
+    leads image img seen = by (top && is_below aim image) refl
       where
         both : (x y : Bool) → (x && y) ≡ true → y ≡ true
         both true y q = q
         both false y q = cc
-    goes_way image false e img seen mv = goes_by image (hop_of image key (target aim)) refl img seen mv
 
-    pub goes_on_way : (image : Image) → IsImageOf s level named.low image → Holds image → Here' (went M aim image (way_of p m.call aim top reads.node image))
-    goes_on_way image img seen mv = goes_way image (top && is_below aim image) refl img seen mv
+        by : (t : Bool) → (top && is_below aim image) ≡ t → LandsWell (if t then false else strays_by p r.call aim image (hop_of image key (target aim))) (went M aim image (if t then way.Grow else way_by p r.call aim reads.node image (hop_of image key (target aim))))
+        by true e = (refl, goes_up image aim refl img (both top (is_below aim image) e))
+        by false e = by_hop image (hop_of image key (target aim)) refl img seen (not_below top aim image level reach img.level_is e)
 
   -- ---- a word is loaded
-  abbrev x : ℕ
-  x = get_or words (node_word p m.reads.node + (node_size p - 1 - length m.reads.loaded)) 0
+  abbrev ws : List ℕ
+  ws = get_or words (node_word p r.reads.node + (node_size p - 1 - length r.reads.loaded)) 0 ∷ r.reads.loaded
 
-  abbrev r : Reads
-  r = reads_with m.reads.node (x ∷ m.reads.loaded)
+  abbrev rd : Reads
+  rd = reads_with r.reads.node ws
 
-  abbrev rd : Reads → Machine
-  rd reads = with p i m m.tally reads m.walk m.body m.right (Read aim top)
+  abbrev with : Reads → Machine
+  with reads = at p i (record r { reads = reads }) ph
 
-  abbrev torn : Tally
-  torn = record { again = up m.tally.again; rights = m.tally.rights; splits = m.tally.splits; handed = m.tally.handed; from_cache = m.tally.from_cache; skipped_spent = m.tally.skipped_spent; skipped_worn = m.tally.skipped_worn; rewritten = m.tally.rewritten }
+  abbrev on_way : IsOnWay p s a.first r.call r.reads aim top
+  on_way = k.work.fits.on_way
 
-  on_way : IsOnWay p s a.first m.call m.reads aim top
-  on_way = K.work.fits.1
+  known : HasRead p s a.first on_way.level r.reads.node ws
+  known = more_known p ok words s b.ground a.first r.reads.node on_way.named.low on_way.level r.reads.loaded on_way.named.linked (omega (arith, k.first, k.seen)) on_way.left on_way.known
 
-  known : HasRead p s a.first on_way.level m.reads.node (x ∷ m.reads.loaded)
-  known = more_known p ok words s b.ground a.first m.reads.node on_way.named.low on_way.level m.reads.loaded on_way.named.linked (omega (arith, K.first, K.seen)) on_way.left on_way.known
+  last_word : length ws ≡ node_size p → get_or ws 0 0 ≡ get_or words (node_word p r.reads.node + 0) 0
+  last_word long = let none : node_size p - 1 - length r.reads.loaded ≡ 0 = omega (arith, long) in ap (λ (o : ℕ). get_or words (node_word p r.reads.node + o) 0) none
 
-  accepted_is : (image : Image) → nat_lt (length (x ∷ m.reads.loaded)) (node_size p) ≡ false → image_in (seen_of p (x ∷ m.reads.loaded)) ≡ Some image → accepted p r ≡ Some image
-  accepted_is image e q = rw e q
+  abbrev stray : Image → Bool
+  stray image = strays p r.call aim top image
 
-  last_word : length (x ∷ m.reads.loaded) ≡ node_size p → x ≡ get_or words (node_word p m.reads.node + 0) 0
-  last_word long = let none : node_size p - 1 - length m.reads.loaded ≡ 0 = omega (arith, long) in ap (λ (o : ℕ). get_or words (node_word p m.reads.node + o) 0) none
+  -- what it comes to, by what the words of the node are seen to be
+  abbrev Comes : Seen → Type 0
+  Comes v = LandsWell (of_read false (of_image stray (accepted p (reads_left v rd))) (answer_to v)) (read_by (with (reads_left v rd)) aim top (answer_to v))
 
-  -- all words are loaded
-  lands : (v : Seen) → seen_of p (x ∷ m.reads.loaded) ≡ v → nat_lt (length (x ∷ m.reads.loaded)) (node_size p) ≡ false → length (x ∷ m.reads.loaded) ≡ node_size p → Here' (read_by (rd (left_by v r)) aim top (answer_to v))
-  lands (LeafSeen y) e some long mv =
-      let sp = subst (SeenBy p (x ∷ m.reads.loaded)) e (judged_by p (x ∷ m.reads.loaded) ok.ranged.value_words.0 long) in
-      let z = seen_leaf p ok words s b.ground a.first m.reads.node on_way.named.low (x ∷ m.reads.loaded) long (last_word long) on_way.level y on_way.named.linked known sp in
-      goes_on_way r on_way.level on_way.named on_way.reach (LeafImage y) z.image z (subst (λ (o : Option Image). Moves Has i (becomes i (me p i a m (Read aim top)) s.log [] (arrived (rd r) aim top o)) Now) (accepted_is (LeafImage y) some (ap image_in e)) mv)
-  lands (InnerSeen y) e some long mv =
-      let sp = subst (SeenBy p (x ∷ m.reads.loaded)) e (judged_by p (x ∷ m.reads.loaded) ok.ranged.value_words.0 long) in
-      let z = seen_inner p ok words s b.ground a.first m.reads.node on_way.named.low (x ∷ m.reads.loaded) long (last_word long) on_way.level y on_way.named.linked known sp in
-      goes_on_way r on_way.level on_way.named on_way.reach (InnerImage y) z tt (subst (λ (o : Option Image). Moves Has i (becomes i (me p i a m (Read aim top)) s.log [] (arrived (rd r) aim top o)) Now) (accepted_is (InnerImage y) some (ap image_in e)) mv)
-  lands (Torn rear front) e some long mv = reads_on torn (start_of m.reads.node) top refl (begins on_way.level m.reads.node top on_way.named on_way.reach) mv
-  lands (TornEntry index rear front) e some long mv = reads_on torn (start_of m.reads.node) top refl (begins on_way.level m.reads.node top on_way.named on_way.reach) mv
-  lands OddSeen e some long mv = restarts m.tally r refl mv
+  accepts : (image : Image) → accepted p rd ≡ Some image → IsImageOf s on_way.level on_way.named.low image → Holds rd on_way.level on_way.named on_way.reach image → LandsWell (of_image stray (accepted p rd)) (arrived (with rd) aim top (accepted p rd))
+  accepts image is img seen = subst (λ (o : Option Image). LandsWell (of_image stray o) (arrived (with rd) aim top o)) (sym is) (leads rd on_way.level on_way.named on_way.reach image img seen)
 
-  loads : (t : Bool) → nat_lt (length (x ∷ m.reads.loaded)) (node_size p) ≡ t → Here' (read_by (rd (if t then r else left_by (seen_of p (x ∷ m.reads.loaded)) r)) aim top (if t then More else answer_to (seen_of p (x ∷ m.reads.loaded))))
-  loads true e mv = reads_on m.tally r top refl record { level = on_way.level; named = on_way.named; reach = on_way.reach; left = is_lt (length (x ∷ m.reads.loaded)) (node_size p) e; known = known } mv
-  loads false e mv = let le = not_lt (length (x ∷ m.reads.loaded)) (node_size p) e in lands (seen_of p (x ∷ m.reads.loaded)) refl e (omega (arith, le, on_way.left)) mv
+  again : Lands (at p i (record r { reads = reads_start r.reads.node; tally = record r.tally { again = up r.tally.again } }) (Read aim top))
+  again = reads_on (record r { reads = reads_start r.reads.node; tally = record r.tally { again = up r.tally.again } }) top record { call_is = refl; reply_is = refl; spare_is = refl; skips_are = refl } refl (begins on_way.level r.reads.node top on_way.named on_way.reach)
 
-  pub read : Here' (read_by (rd (if nat_lt (length (x ∷ m.reads.loaded)) (node_size p) then r else left_by (seen_of p (x ∷ m.reads.loaded)) r)) aim top (if nat_lt (length (x ∷ m.reads.loaded)) (node_size p) then More else answer_to (seen_of p (x ∷ m.reads.loaded))))
-  read mv = loads (nat_lt (length (x ∷ m.reads.loaded)) (node_size p)) refl mv
+  comes : (v : Seen) → seen_of p ws ≡ v → nat_lt (length ws) (node_size p) ≡ false → (long : length ws ≡ node_size p) → SeenBy p ws v → Comes v
+  comes (LeafSeen leaf) e some long sp =
+      let z = seen_leaf p ok words s b.ground a.first r.reads.node on_way.named.low ws long (last_word long) on_way.level leaf on_way.named.linked known sp in
+      accepts (LeafImage leaf) (whole_accepted p r.reads.node ws (LeafImage leaf) some (ap image_in e)) z.image z
+  comes (InnerSeen node) e some long sp =
+      let z = seen_inner p ok words s b.ground a.first r.reads.node on_way.named.low ws long (last_word long) on_way.level node on_way.named.linked known sp in
+      accepts (InnerImage node) (whole_accepted p r.reads.node ws (InnerImage node) some (ap image_in e)) z sp.lawful.level.0
+  comes (Torn rear front) e some long sp = (refl, again)
+  comes (TornEntry index rear front) e some long sp = (refl, again)
+  comes OddSeen e some long sp = absurd (fed_node p ok words s b.ground r.reads.node on_way.level on_way.named.low a.first ws on_way.named.linked long known (last_word long) sp)
 
-pub read_claim : (p : ConfigParts) (ok : IsSetting p) (words : List ℕ) (Has Now : ℕ → Actor → Type 0) (Out : ℕ → ℕ → ℕ → Type 0) (i : ℕ) (s : Scene) (b : Before p words Has Out s) (a : Actor) (m : Machine) (aim : Aim) (top : Bool)
-    → Claim p ok words Has Now Out i s b a m (Read aim top) (Load (node_word p m.reads.node + (node_size p - 1 - length m.reads.loaded)))
-read_claim p ok words Has Now Out i s b a m aim top h mv = read p ok words Has Now Out i s b a m aim top h mv
+  abbrev Feeds : Bool → Type 0
+  Feeds t = LandsWell (of_read false (of_image stray (accepted p (if t then rd else reads_left (seen_of p ws) rd))) (if t then More else answer_to (seen_of p ws))) (read_by (with (if t then rd else reads_left (seen_of p ws) rd)) aim top (if t then More else answer_to (seen_of p ws)))
+
+  loads : (t : Bool) → nat_lt (length ws) (node_size p) ≡ t → Feeds t
+  loads true e = (refl, reads_on (record r { reads = rd }) top record { call_is = refl; reply_is = refl; spare_is = refl; skips_are = refl } refl record { level = on_way.level; named = on_way.named; reach = on_way.reach; left = is_lt (length ws) (node_size p) e; known = known })
+  loads false e =
+      let le = not_lt (length ws) (node_size p) e in
+      let long : length ws ≡ node_size p = omega (arith, le, on_way.left) in
+      comes (seen_of p ws) refl e long (judged_by p ws ok.ranged.value_words.0 long)
+
+  pub way_read : Feeds (nat_lt (length ws) (node_size p))
+  way_read = loads (nat_lt (length ws) (node_size p)) refl
+
+pub read_claim : (p : ConfigParts) (ok : IsSetting p) (words : List ℕ) (Has Now : ℕ → Actor → Type 0) (Out : ℕ → ℕ → ℕ → Type 0) (i : ℕ) (s : TreeState) (b : Before p words Has Out s) (a : Actor) (r : Registers) (aim : Aim) (top : Bool)
+    → Claim p ok words Has Now Out i s b a r (Read aim top) (Load (node_word p r.reads.node + (node_size p - 1 - length r.reads.loaded)))
+read_claim p ok words Has Now Out i s b a r aim top h = (way_read p ok words Has Now Out i s b a r aim top h).1

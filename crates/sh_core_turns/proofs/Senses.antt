@@ -1,73 +1,78 @@
 -- What a wanted event finds is never senseless.
-use Rattle.std.proofs.Common.{◌≡◌, ℕ, ◌+◌, ◌-◌, Bool, true, false, List, length, get_or, Some, None, refl, sym, ap, ◌∙◌, subst, arith}
-use Rattle.std.specs.Prelude.{not, if◌then◌else◌, nat_lt}
+use Rattle.std.proofs.Common.{◌≡◌, ℕ, Bool, false, List, Option, refl, sym, ap, ◌∙◌, subst}
+use Rattle.std.specs.Prelude.{not}
 use Rattle.sh_base.specs.declared.config.ConfigParts.{ConfigParts}
 use Rattle.sh_base.specs.declared.event.Event.{Event}
-use Rattle.sh_base.specs.declared.event.Event.TheVariants.{Load}
-use Rattle.sh_base.specs.Setting.{node_size, IsSetting}
-use Rattle.sh_base.specs.Layout.{node_word, root_word}
-use Rattle.sh_base.specs.Places.{Root as RootSite}
+use Rattle.sh_base.specs.Setting.{IsSetting}
 use Rattle.sh_base.specs.Memory.{found_by}
-use Rattle.sh_alloc.specs.Walks.{fed_by as walk_fed, want_of as walk_wants}
-use Rattle.sh_scene.specs.Scene.{Scene}
-use Rattle.sh_client.specs.declared.state.Want.TheVariants as want
+use Rattle.sh_map.specs.declared.call.Call.{Call}
+use Rattle.sh_image.specs.declared.inner.Image.{Image}
+use Rattle.sh_image.specs.declared.inner.Image.TheVariants.{Leaf as LeafImage, Inner as InnerImage}
+use Rattle.sh_alloc.specs.declared.state.ChunkWant.{ChunkWant}
+use Rattle.sh_alloc.specs.declared.state.ChunkWant.TheVariants as chunk
+use Rattle.sh_alloc.specs.Walks.{walk_fed, walk_wants}
+use Rattle.sh_descend.specs.declared.Hop.{Hop}
+use Rattle.sh_descend.specs.Descent.{hop_of}
+use Rattle.sh_state.specs.TreeState.{TreeState}
+use Rattle.sh_decide.specs.declared.state.Posting.{Posting}
 use Rattle.sh_decide.specs.declared.state.Aim.{Aim}
+use Rattle.sh_decide.specs.declared.state.Aim.TheVariants.{Own, Posts}
+use Rattle.sh_decide.specs.declared.state.Decision.TheVariants as decision
+use Rattle.sh_decide.specs.Aims.{aimed_key, target}
+use Rattle.sh_decide.specs.Deciding.{decided_by, decided_here}
+use Rattle.sh_client.specs.declared.state.Need.{Need}
+use Rattle.sh_client.specs.declared.state.Need.TheVariants.{ToSplit, ToGrow}
 use Rattle.sh_client.specs.declared.state.Phase.{Phase}
-use Rattle.sh_client.specs.declared.state.Phase.TheVariants.{Root, Read, Hold, Seek}
-use Rattle.sh_client.specs.Machine.{Machine}
-use Rattle.sh_decide.specs.Aims.{is_node}
-use Rattle.sh_client.specs.Wants.{load_of, want_in, want_of}
+use Rattle.sh_client.specs.declared.state.Phase.TheVariants.{Root, Read, ReadLocked, Seek}
+use Rattle.sh_client.specs.declared.state.Want.TheVariants as want
+use Rattle.sh_client.specs.Machine.{Registers}
+use Rattle.sh_client.specs.Wants.{want_in, want_of}
 use Rattle.sh_core.specs.Actors.{Actor}
-use Rattle.sh_core_turns.specs.Senses.{is_senseless, is_senseless_in, NeverSenseless}
-use Rattle.sh_core.proofs.Frame.{me, at, Before}
-use Rattle.sh_core.proofs.Calls.{before}
-use Rattle.sh_core_turns.proofs.OnWay.{aim_key}
-use Rattle.sh_core_turns.proofs.SensesOnWay.{is_number, read_is_sound}
-use Rattle.sh_core_turns.proofs.SensesHeld.{hold_is_sound, walk_is_sound}
+use Rattle.sh_core.specs.Fits.{Needs}
+use Rattle.sh_core.proofs.Frame.{actor_is, Before, actor_in, at, before}
+use Rattle.sh_core_turns.specs.Senses.{NeverSenseless, is_other_kind, is_senseless, is_senseless_in, of_image, of_walk, splits_other_kind}
+use Rattle.sh_core_turns.proofs.Standing.{load_is, split_here}
+use Rattle.sh_core_turns.proofs.Needs.{event_is}
+use Rattle.sh_core_turns.proofs.Locks.{root_named}
+use Rattle.sh_core_turns.proofs.OnWay.{way_read}
+use Rattle.sh_core_turns.proofs.InnerDecisions.{locked_reads}
 
-event_is : (x y : Event) → want.Event x ≡ want.Event y → x ≡ y
-event_is x y e = cc
+-- ---- a chunk is found
 
-module _ (p : ConfigParts) (ok : IsSetting p) (words : List ℕ) (Has : ℕ → Actor → Type 0) (Out : ℕ → ℕ → ℕ → Type 0) (i : ℕ) (s : Scene) (b : Before p words Has Out s) (a : Actor) (m : Machine) where
+-- no node of the other kind is to be split
+pub split_kind : (p : ConfigParts) (c : Call) (aim : Aim) (image : Image) (hop : Hop) → decided_by p c aim image hop ≡ decision.Split → is_other_kind aim image ≡ false
+split_kind p c aim image hop e = kind aim image (sym (ap (decided_by p c aim image) (split_here p c aim image hop e)) ∙ e)
+  where
+    kind : (aim : Aim) (image : Image) → decided_here p c aim image ≡ decision.Split → is_other_kind aim image ≡ false
+    kind Own (LeafImage a) e = refl
+    kind Own (InnerImage a) e = cc
+    kind (Posts post) (LeafImage a) e = cc
+    kind (Posts post) (InnerImage a) e = refl
+
+no_other_kind : (p : ConfigParts) (s : TreeState) (i : ℕ) (r : Registers) (duty : Option Posting) (ph : Phase) (need : Need) → Needs p s i r duty need → splits_other_kind (at p i r ph) need ≡ false
+no_other_kind p s i r duty ph (ToSplit aim depth) h = let z = h.to_split in ap (of_image (λ (x : Image). is_other_kind aim x)) z.accepted_is ∙ split_kind p r.call aim z.image (hop_of z.image (aimed_key r.call aim) (target aim)) z.split
+no_other_kind p s i r duty ph (ToGrow post root) h = refl
+
+walks_well : (split : Bool) (wants : ChunkWant) → split ≡ false → of_walk split wants ≡ false
+walks_well split (chunk.Got server chunk) h = h
+walks_well split wants h = refl
+
+-- ---- each phase
+module _ (p : ConfigParts) (ok : IsSetting p) (words : List ℕ) (Has : ℕ → Actor → Type 0) (Out : ℕ → ℕ → ℕ → Type 0) (i : ℕ) (s : TreeState) (b : Before p words Has Out s) (a : Actor) (r : Registers) where
   abbrev Sound : Phase → Event → Type 0
-  Sound ph e = Has i (me p i a m ph) → is_senseless_in (at p i m ph) (found_by words e) ph ≡ false
+  Sound ph e = Has i (actor_in p i a r ph) → is_senseless_in (at p i r ph) (found_by words e) ph ≡ false
 
-  root : (aim : Aim) → Sound (Root aim) (Load root_word)
-  root aim h =
-      let is : get_or words root_word 0 ≡ s.root = b.ground.shows.each RootSite tt in
-      ap (λ (n : ℕ). not (is_node p n)) is ∙ is_number p s.root (b.ground.sits s.root s.height 0 b.ground.root).real
-
-  abbrev next_load : Event
-  next_load = Load (node_word p m.reads.node + (node_size p - 1 - length m.reads.loaded))
-
-  on_way : (aim : Aim) (top : Bool) → Sound (Read aim top) next_load
-  on_way aim top h =
-      let k = b.kept i (me p i a m (Read aim top)) h in
-      let f = k.work.fits in
-      read_is_sound p ok words s b.ground a.first m.call m.reads aim top (omega (arith, k.first, k.seen)) (aim_key p s i a.first a.point a.seen m.call m.reply aim k.work.duty k.work.seated.in_range f.0 k.work.owes) f.1
-
-  under_lock : (aim : Aim) (depth : ℕ) → Sound (Hold aim depth) next_load
-  under_lock aim depth h = hold_is_sound p ok words Has Out i s b a m aim depth h
-
-  seeks : (aim : Aim) (depth : ℕ) (e : Event) → Sound (Seek aim depth) e
-  seeks aim depth e h = let f = (b.kept i (me p i a m (Seek aim depth)) h).work.fits in walk_is_sound p s m.call m.reads aim f.3 (walk_wants p (walk_fed p m.walk (found_by words e)))
-
-  -- a READ that wants a load
-  loads : (ph : Phase) (e : Event) (t : Bool) → load_of (if t then Some (node_word p m.reads.node + (node_size p - 1 - length m.reads.loaded)) else None) ≡ want.Event e → Sound ph next_load → Sound ph e
-  loads ph e true q h = subst (Sound ph) (event_is next_load e q) h
-  loads ph e false q h = cc
-
-  sound : (ph : Phase) (e : Event) → want_in (at p i m ph) ph ≡ want.Event e → Sound ph e
-  sound (Root aim) e q h = subst (Sound (Root aim)) (event_is _ e q) (root aim) h
-  sound (Read aim top) e q h = loads (Read aim top) e (nat_lt (length m.reads.loaded) (node_size p)) q (on_way aim top) h
-  sound (Hold aim depth) e q h = loads (Hold aim depth) e (nat_lt (length m.reads.loaded) (node_size p)) q (under_lock aim depth) h
-  sound (Seek aim depth) e q h = seeks aim depth e h
+  sound : (ph : Phase) (e : Event) → want_in (at p i r ph) ph ≡ want.Event e → Sound ph e
+  sound (Root aim) e q h = subst (Sound (Root aim)) (event_is _ e q) (λ h. ap not (root_named p ok words Has Has Out i s b a r)) h
+  sound (Read aim top) e q h = subst (Sound (Read aim top)) (load_is p r.reads e q) (λ h. (way_read p ok words Has Has Out i s b a r aim top h).0) h
+  sound (ReadLocked aim depth) e q h = subst (Sound (ReadLocked aim depth)) (load_is p r.reads e q) (λ h. (locked_reads p ok words Has Has Out i s b a r aim depth h).0) h
+  sound (Seek need) e q h =
+      let k = b.kept i (actor_in p i a r (Seek need)) h in
+      walks_well (splits_other_kind (at p i r (Seek need)) need) (walk_wants p (walk_fed p r.walk (found_by words e))) (no_other_kind p s i r k.work.duty (Seek need) need k.work.fits.needs)
   sound ph e q h = refl
 
 pub never_senseless : (p : ConfigParts) → IsSetting p → NeverSenseless p
 never_senseless p ok words log Has Out i a e inv h q =
-    let c = a.client in
-    let w = (inv.kept i a h).work.seated in
-    let a_is : a ≡ me p i a c c.phase = λ z. record { client = record { setting = w.setting_is z; seat = w.seat_is z; spare = c.spare; tally = c.tally; call = c.call; reply = c.reply; reads = c.reads; walk = c.walk; body = c.body; right = c.right; phase = c.phase }; number = a.number; seen = a.seen; first = a.first; point = a.point; dones = a.dones } in
-    let P : Actor → Type 0 = λ x. Has i x → want_of x.client ≡ want.Event e → is_senseless x.client (found_by words e) ≡ false in
-    subst P (sym a_is) (λ h q. sound p ok words Has Out i inv.scene (before p words log Has Out inv) a c c.phase e q h) h q
+    let is = actor_is p i a a.client.phase (inv.kept i a h).work.seated refl in
+    subst (λ (x : Actor). Has i x → want_of x.client ≡ want.Event e → is_senseless x.client (found_by words e) ≡ false) (sym is)
+    (λ h q. sound p ok words Has Out i inv.scene (before p words log Has Out inv) a a.client.registers a.client.phase e q h) h q

@@ -1,5 +1,5 @@
 -- A client starts again in the senseless cases, and in no other.
-use Rattle.std.proofs.Common.{◌≡◌, ◌≢◌, ℕ, ◌+◌, Bool, true, false, ◌∷◌, length, Option, Some, None, refl, sym, ◌∙◌}
+use Rattle.std.proofs.Common.{◌≡◌, ◌≢◌, ℕ, ◌+◌, Bool, true, false, List, ◌∷◌, length, Option, Some, None, refl, sym, ap, ◌∙◌}
 use Rattle.std.specs.Prelude.{◌==◌, ◌&&◌, ◌*◌, not, if◌then◌else◌, nat_lt}
 use Rattle.sh_base.specs.declared.config.ConfigParts.{ConfigParts}
 use Rattle.sh_base.specs.Setting.{node_size, last_version, last_entry_version}
@@ -14,78 +14,76 @@ use Rattle.sh_image.specs.declared.read.Seen.{Seen}
 use Rattle.sh_image.specs.declared.read.Seen.TheVariants.{Leaf as LeafSeen, Inner as InnerSeen, Torn, TornEntry, Odd as OddSeen}
 use Rattle.sh_alloc.specs.declared.state.ChunkWant.{ChunkWant}
 use Rattle.sh_alloc.specs.declared.state.ChunkWant.TheVariants as chunk
-use Rattle.sh_alloc.specs.Spares.{lowest}
-use Rattle.sh_alloc.specs.Walks.{fed_by as walk_fed, want_of as walk_wants}
+use Rattle.sh_alloc.specs.Spares.{lowest, without_lowest}
+use Rattle.sh_alloc.specs.Walks.{walk_fed, walk_wants}
 use Rattle.sh_read.specs.declared.state.Progress.{Progress}
 use Rattle.sh_read.specs.declared.state.Progress.TheVariants.{More, Accepted, Again, Odd}
 use Rattle.sh_read.specs.Judging.{seen_of}
-use Rattle.sh_read.specs.Reads.{Reads, accepted, answer_to, left_by, progress_of, reads_with}
+use Rattle.sh_read.specs.Reads.{Reads, accepted, answer_to, reads_left, progress_of, reads_with}
 use Rattle.sh_descend.specs.declared.Hop.{Hop}
 use Rattle.sh_descend.specs.declared.Hop.TheVariants.{Here, Right, Down, Restart}
 use Rattle.sh_descend.specs.Descent.{hop_of, level_of}
-use Rattle.sh_decide.specs.declared.state.Post.{Post}
+use Rattle.sh_decide.specs.declared.state.Posting.{Posting}
 use Rattle.sh_decide.specs.declared.state.Aim.{Aim}
 use Rattle.sh_decide.specs.declared.state.Aim.TheVariants.{Own, Posts}
+use Rattle.sh_decide.specs.declared.state.Way.{Way}
 use Rattle.sh_decide.specs.declared.state.Way.TheVariants as way
 use Rattle.sh_decide.specs.declared.state.Decision.{Decision}
 use Rattle.sh_decide.specs.declared.state.Decision.TheVariants as decision
+use Rattle.sh_client.specs.declared.state.Need.{Need}
+use Rattle.sh_client.specs.declared.state.Need.TheVariants.{ToSplit, ToGrow}
 use Rattle.sh_client.specs.declared.state.Phase.{Phase}
-use Rattle.sh_client.specs.declared.state.Phase.TheVariants.{Root, Read, Hold, Seek}
-use Rattle.sh_client.specs.Machine.{Machine, to}
-use Rattle.sh_decide.specs.Aims.{is_node, key_of, takes_lock, target}
+use Rattle.sh_client.specs.declared.state.Phase.TheVariants.{Root, Read, ReadLocked, Seek}
+use Rattle.sh_client.specs.Machine.{Machine, sparing, to}
+use Rattle.sh_decide.specs.Aims.{is_node, aimed_key, takes_lock, target}
 use Rattle.sh_decide.specs.Leaves.{are_keys_once, index_of, version_at}
 use Rattle.sh_decide.specs.Ways.{is_below, way_by, way_here}
 use Rattle.sh_decide.specs.Deciding.{change_at, decided_by, decided_here, has_separator, post_in, put_in, put_into, del_in, unless_worn, update_in}
-use Rattle.sh_client.specs.Splitting.{chunk_taken, growing, grown, halved_by, sought_by, splitting, walked}
+use Rattle.sh_client.specs.Splitting.{chunk_taken, root_grown, halved_by, needing, sought_by, walked}
 use Rattle.sh_client.specs.Feeds.{arrived, did, fed_in, held_by, hold_by, loaded, read_by, reading, went}
-use Rattle.sh_core_turns.specs.Senses.{is_other_kind, is_wrong, is_wrong_by, is_wrong_here, lacks_answer, of_image, of_read, of_walk, strays, strays_by, is_at_root, gives_back, leaves_off, starts_again, is_senseless_in, IsMade, AreAllCases}
-use Rattle.sh_core_turns.proofs.SensesHeld.{split_kind}
+use Rattle.sh_core_turns.specs.Senses.{is_other_kind, is_wrong, is_wrong_by, is_wrong_here, lacks_answer, of_image, of_read, of_walk, strays, strays_by, is_at_root, gives_back, leaves_off, starts_again, is_senseless_in, splits_other_kind, IsMade, AreAllCases}
+use Rattle.sh_core_turns.proofs.Senses.{split_kind}
 
 -- ---- READs without a lock
 module _ (m : Machine) where
-  grows : (post : Post) (root : ℕ) (o : Option ℕ) → false ≡ is_at_root (growing m post root o).phase
+  grows : (post : Posting) (root : ℕ) (o : Option ℕ) → false ≡ is_at_root (needing m (ToGrow post root) o).phase
   grows post root (Some fresh) = refl
   grows post root None = refl
 
-  grows_over : (top : Bool) (aim : Aim) (image : Image) → (top && is_below aim image) ≡ true → false ≡ is_at_root (grown m aim m.reads.node).phase
+  grows_over : (top : Bool) (aim : Aim) (image : Image) → (top && is_below aim image) ≡ true → false ≡ is_at_root (root_grown m aim m.registers.reads.node).phase
   grows_over true Own image e = cc
   grows_over false Own image e = cc
-  grows_over top (Posts post) image e = grows post m.reads.node (lowest m.spare)
+  grows_over top (Posts post) image e = grows post m.registers.reads.node (lowest m.registers.spare)
 
-  covers : (c : Call) (aim : Aim) (image : Image) → ((low high : ℕ) → c ≢ call.Range low high) → lacks_answer c aim image ≡ is_at_root (went m aim image (way_here c aim m.reads.node image)).phase
+  covers : (c : Call) (aim : Aim) (image : Image) → ((low high : ℕ) → c ≢ call.Range low high) → lacks_answer c aim image ≡ is_at_root (went m aim image (way_here c aim m.registers.reads.node image)).phase
   covers c (Posts post) (LeafImage a) h = refl
   covers c (Posts post) (InnerImage a) h = refl
   covers (call.Range low high) Own image h = absurd (h low high refl)
   covers c Own (LeafImage a) h = refl
   covers c Own (InnerImage a) h = refl
 
-  leads : (p : ConfigParts) (c : Call) (aim : Aim) (image : Image) (hop : Hop) → ((low high : ℕ) → c ≢ call.Range low high) → strays_by p c aim image hop ≡ is_at_root (went m aim image (way_by p c aim m.reads.node image hop)).phase
+  off_root : (aim : Aim) (image : Image) (n t : Bool) (v w : Way) → is_at_root (went m aim image v).phase ≡ false → is_at_root (went m aim image w).phase ≡ false → not n ≡ is_at_root (went m aim image (if n then (if t then v else w) else way.Root)).phase
+  off_root aim image true true v w h k = sym h
+  off_root aim image true false v w h k = sym k
+  off_root aim image false t v w h k = refl
+
+  leads : (p : ConfigParts) (c : Call) (aim : Aim) (image : Image) (hop : Hop) → ((low high : ℕ) → c ≢ call.Range low high) → strays_by p c aim image hop ≡ is_at_root (went m aim image (way_by p c aim m.registers.reads.node image hop)).phase
   leads p c aim image Here h = covers c aim image h
-  leads p c aim image (Right r) h = by (is_node p r) (takes_lock c aim && (level_of image == target aim))
-    where
-      by : (n t : Bool) → not n ≡ is_at_root (went m aim image (if n then (if t then way.LockRight r else way.Right r) else way.Root)).phase
-      by true true = refl
-      by true false = refl
-      by false t = refl
-  leads p c aim image (Down r) h = by (is_node p r) (takes_lock c aim && (level_of image == target aim + 1))
-    where
-      by : (n t : Bool) → not n ≡ is_at_root (went m aim image (if n then (if t then way.Lock r else way.Read r) else way.Root)).phase
-      by true true = refl
-      by true false = refl
-      by false t = refl
+  leads p c aim image (Right r) h = off_root aim image (is_node p r) (takes_lock c aim && (level_of image == target aim)) (way.LockRight r) (way.Right r) refl refl
+  leads p c aim image (Down r) h = off_root aim image (is_node p r) (takes_lock c aim && (level_of image == target aim + 1)) (way.Lock r) (way.Read r) refl refl
   leads p c aim image Restart h = refl
 
-  arrives : (aim : Aim) (top : Bool) (o : Option Image) → ((low high : ℕ) → m.call ≢ call.Range low high) → of_image (λ (x : Image). strays m.setting m.call aim top x) o ≡ is_at_root (arrived m aim top o).phase
+  arrives : (aim : Aim) (top : Bool) (o : Option Image) → ((low high : ℕ) → m.registers.call ≢ call.Range low high) → of_image (λ (x : Image). strays m.setting m.registers.call aim top x) o ≡ is_at_root (arrived m aim top o).phase
   arrives aim top None h = refl
   arrives aim top (Some image) h = by (top && is_below aim image) refl
     where
-      by : (t : Bool) → (top && is_below aim image) ≡ t → (if t then false else strays_by m.setting m.call aim image (hop_of image (key_of m.call aim) (target aim))) ≡ is_at_root (went m aim image (if t then way.Grow else way_by m.setting m.call aim m.reads.node image (hop_of image (key_of m.call aim) (target aim)))).phase
+      by : (t : Bool) → (top && is_below aim image) ≡ t → (if t then false else strays_by m.setting m.registers.call aim image (hop_of image (aimed_key m.registers.call aim) (target aim))) ≡ is_at_root (went m aim image (if t then way.Grow else way_by m.setting m.registers.call aim m.registers.reads.node image (hop_of image (aimed_key m.registers.call aim) (target aim)))).phase
       by true e = grows_over top aim image e
-      by false e = leads m.setting m.call aim image (hop_of image (key_of m.call aim) (target aim)) h
+      by false e = leads m.setting m.registers.call aim image (hop_of image (aimed_key m.registers.call aim) (target aim)) h
 
-  reads : (aim : Aim) (top : Bool) (v : Progress) → ((low high : ℕ) → m.call ≢ call.Range low high) → of_read false (of_image (λ (x : Image). strays m.setting m.call aim top x) (accepted m.setting m.reads)) v ≡ is_at_root (read_by m aim top v).phase
+  reads : (aim : Aim) (top : Bool) (v : Progress) → ((low high : ℕ) → m.registers.call ≢ call.Range low high) → of_read false (of_image (λ (x : Image). strays m.setting m.registers.call aim top x) (accepted m.setting m.registers.reads)) v ≡ is_at_root (read_by m aim top v).phase
   reads aim top More h = refl
-  reads aim top Accepted h = arrives aim top (accepted m.setting m.reads) h
+  reads aim top Accepted h = arrives aim top (accepted m.setting m.registers.reads) h
   reads aim top (Again rear front) h = refl
   reads aim top Odd h = refl
 
@@ -95,20 +93,16 @@ abbrev is_restart : Decision → Bool
 is_restart decision.Restart = true
 is_restart d = false
 
-worn : (p : ConfigParts) (version : ℕ) (d : Decision) (t : Bool) → is_restart d ≡ false → is_restart (if t then d else decision.Worn version) ≡ false
-worn p version d true h = h
-worn p version d false h = refl
+chosen : (t : Bool) (d other : Decision) → is_restart d ≡ false → is_restart other ≡ false → is_restart (if t then d else other) ≡ false
+chosen true d other h k = h
+chosen false d other h k = k
 
 changes : (p : ConfigParts) (a : Leaf) (i : ℕ) → is_restart (change_at p a i) ≡ false
-changes p a i = by (nat_lt (version_at a.entries i) last_entry_version)
-  where
-    by : (t : Bool) → is_restart (if t then decision.Entry i else unless_worn p a.version (decision.Rewrite i)) ≡ false
-    by true = refl
-    by false = worn p a.version (decision.Rewrite i) (nat_lt a.version (last_version p)) refl
+changes p a i = chosen (nat_lt (version_at a.entries i) last_entry_version) (decision.Entry i) (unless_worn p a.version (decision.Rewrite i)) refl (chosen (nat_lt a.version (last_version p)) (decision.Rewrite i) (decision.Worn a.version) refl refl)
 
 puts_into : (p : ConfigParts) (a : Leaf) (o : Option ℕ) → is_restart (put_into p a o) ≡ false
 puts_into p a (Some i) = changes p a i
-puts_into p a None = worn p a.version decision.Split (nat_lt a.version (last_version p)) refl
+puts_into p a None = chosen (nat_lt a.version (last_version p)) decision.Split (decision.Worn a.version) refl refl
 
 puts : (p : ConfigParts) (a : Leaf) (o : Option ℕ) → is_restart (put_in p a o) ≡ false
 puts p a (Some i) = changes p a i
@@ -125,12 +119,9 @@ updates p a (call.Get key) h = cc
 updates p a (call.Range low high) h = cc
 
 posts : (p : ConfigParts) (a : Inner) → is_restart (post_in p a) ≡ false
-posts p a = by (nat_lt a.version (last_version p)) (nat_lt (length a.pairs) (2 * p.leaf))
-  where
-    by : (t u : Bool) → is_restart (if t then (if u then decision.Add else decision.Split) else decision.Skip) ≡ false
-    by true true = refl
-    by true false = refl
-    by false u = refl
+posts p a =
+    let space : Bool = nat_lt (length a.pairs) (2 * p.leaf) in
+    chosen (nat_lt a.version (last_version p)) (if space then decision.Add else decision.Split) decision.Skip (chosen space decision.Add decision.Split refl refl) refl
 
 -- the decision to start again is the senseless one
 decides_here : (p : ConfigParts) (c : Call) (aim : Aim) (image : Image) → takes_lock c aim ≡ true → is_wrong_here aim image ≡ is_restart (decided_here p c aim image)
@@ -158,70 +149,73 @@ decides p c aim image (Down n) h = refl
 decides p c aim image Restart h = refl
 
 abbrev is_off : Machine → Bool
-is_off m = leaves_off m.phase m.reads.loaded
+is_off m = leaves_off m.phase m.registers.reads.loaded
 
 module _ (m : Machine) where
-  halves : (aim : Aim) (depth : ℕ) (image : Image) (o : Option ℕ) → is_other_kind aim image ≡ false → false ≡ is_off (splitting m aim depth image o)
-  halves Own depth (LeafImage a) (Some fresh) e = refl
-  halves Own depth (InnerImage a) (Some fresh) e = cc
-  halves (Posts post) depth (LeafImage a) (Some fresh) e = cc
-  halves (Posts post) depth (InnerImage a) (Some fresh) e = refl
-  halves aim depth image None e = refl
+  -- a split never gives the lock back, where the image that was accepted is of the kind
+  halves : (x : Machine) (aim : Aim) (depth fresh : ℕ) (o : Option Image) → (of_image (λ (image : Image). is_other_kind aim image) o ≡ gives_back (halved_by x aim depth fresh o).phase) × ((loaded : List ℕ) → of_image (λ (image : Image). is_other_kind aim image) o ≡ leaves_off (halved_by x aim depth fresh o).phase loaded)
+  halves x aim depth fresh None = (refl, λ loaded. refl)
+  halves x Own depth fresh (Some (LeafImage a)) = (refl, λ loaded. refl)
+  halves x Own depth fresh (Some (InnerImage a)) = (refl, λ loaded. refl)
+  halves x (Posts post) depth fresh (Some (LeafImage a)) = (refl, λ loaded. refl)
+  halves x (Posts post) depth fresh (Some (InnerImage a)) = (refl, λ loaded. refl)
 
-  does : (aim : Aim) (depth : ℕ) (image : Image) (d : Decision) → (d ≡ decision.Split → is_other_kind aim image ≡ false) → is_restart d ≡ is_off (did m aim depth image d)
-  does aim depth image decision.Split h = halves aim depth image (lowest m.spare) (h refl)
+  abbrev seen : Option Image
+  seen = accepted m.setting m.registers.reads
+
+  splits : (aim : Aim) (depth : ℕ) (o : Option ℕ) → of_image (λ (image : Image). is_other_kind aim image) seen ≡ false → false ≡ is_off (needing m (ToSplit aim depth) o)
+  splits aim depth None e = refl
+  splits aim depth (Some fresh) e = sym e ∙ (halves (sparing m (without_lowest m.registers.spare)) aim depth fresh seen).1 (halved_by (sparing m (without_lowest m.registers.spare)) aim depth fresh seen).registers.reads.loaded
+
+  does : (aim : Aim) (depth : ℕ) (image : Image) (d : Decision) → (d ≡ decision.Split → of_image (λ (x : Image). is_other_kind aim x) seen ≡ false) → is_restart d ≡ is_off (did m aim depth image d)
+  does aim depth image decision.Split h = splits aim depth (lowest m.registers.spare) (h refl)
   does aim depth image d h = refl
 
-  holds : (aim : Aim) (depth : ℕ) (o : Option Image) → takes_lock m.call aim ≡ true → of_image (λ (x : Image). is_wrong m.setting m.call aim x) o ≡ is_off (held_by m aim depth o)
-  holds aim depth None h = refl
-  holds aim depth (Some image) h =
-      let hop : Hop = hop_of image (key_of m.call aim) (target aim) in
-      decides m.setting m.call aim image hop h ∙ does aim depth image (decided_by m.setting m.call aim image hop) (split_kind m.setting m.call aim image hop)
+  holds : (aim : Aim) (depth : ℕ) (o : Option Image) → seen ≡ o → takes_lock m.registers.call aim ≡ true → of_image (λ (x : Image). is_wrong m.setting m.registers.call aim x) o ≡ is_off (held_by m aim depth o)
+  holds aim depth None is h = refl
+  holds aim depth (Some image) is h =
+      let hop : Hop = hop_of image (aimed_key m.registers.call aim) (target aim) in
+      decides m.setting m.registers.call aim image hop h ∙ does aim depth image (decided_by m.setting m.registers.call aim image hop) (λ d. ap (of_image (λ (x : Image). is_other_kind aim x)) is ∙ split_kind m.setting m.registers.call aim image hop d)
 
-  walks : (aim : Aim) (depth : ℕ) (o : Option Image) (server chunk : ℕ) → of_image (λ (x : Image). is_other_kind aim x) o ≡ gives_back (halved_by (chunk_taken m server chunk) aim depth (first_node m.setting server chunk) o).phase
-  walks aim depth None server chunk = refl
-  walks Own depth (Some (LeafImage a)) server chunk = refl
-  walks Own depth (Some (InnerImage a)) server chunk = refl
-  walks (Posts post) depth (Some (LeafImage a)) server chunk = refl
-  walks (Posts post) depth (Some (InnerImage a)) server chunk = refl
-
-  seeks : (aim : Aim) (depth : ℕ) (w : ChunkWant) → of_walk (of_image (λ (x : Image). is_other_kind aim x) (accepted m.setting m.reads)) w ≡ gives_back (sought_by m aim depth w).phase
-  seeks aim depth (chunk.Event e) = refl
-  seeks aim depth (chunk.Got server number) = walks aim depth (accepted m.setting m.reads) server number
-  seeks Own depth chunk.AllSpent = refl
-  seeks (Posts post) depth chunk.AllSpent = refl
+  seeks : (need : Need) (w : ChunkWant) → of_walk (splits_other_kind m need) w ≡ gives_back (sought_by m need w).phase
+  seeks need (chunk.Event e) = refl
+  seeks (ToSplit aim depth) (chunk.Got server number) = (halves (chunk_taken m server number) aim depth (first_node m.setting server number) seen).0
+  seeks (ToSplit Own depth) chunk.AllSpent = refl
+  seeks (ToSplit (Posts post) depth) chunk.AllSpent = refl
+  seeks (ToGrow post root) (chunk.Got server number) = refl
+  seeks (ToGrow post root) chunk.AllSpent = refl
 
 -- the READ under the lock is fed the word
 module _ (m : Machine) (word : ℕ) where
   abbrev r : Reads
-  r = reads_with m.reads.node (word ∷ m.reads.loaded)
+  r = reads_with m.registers.reads.node (word ∷ m.registers.reads.loaded)
 
   abbrev with : Reads → Machine
-  with left = record m { reads = left }
+  with left = record m { registers = record m.registers { reads = left } }
 
   abbrev Case : (aim : Aim) (depth : ℕ) (left : Reads) (v : Progress) → Type 0
-  Case aim depth left v = of_read true (of_image (λ (x : Image). is_wrong m.setting m.call aim x) (accepted m.setting left)) v ≡ is_off (hold_by (with left) aim depth v)
+  Case aim depth left v = of_read true (of_image (λ (x : Image). is_wrong m.setting m.registers.call aim x) (accepted m.setting left)) v ≡ is_off (hold_by (with left) aim depth v)
 
-  sees : (aim : Aim) (depth : ℕ) (v : Seen) → takes_lock m.call aim ≡ true → Case aim depth (left_by v r) (answer_to v)
-  sees aim depth (LeafSeen a) h = holds (with r) aim depth (accepted m.setting r) h
-  sees aim depth (InnerSeen a) h = holds (with r) aim depth (accepted m.setting r) h
+  sees : (aim : Aim) (depth : ℕ) (v : Seen) → takes_lock m.registers.call aim ≡ true → Case aim depth (reads_left v r) (answer_to v)
+  sees aim depth (LeafSeen a) h = holds (with r) aim depth (accepted m.setting r) refl h
+  sees aim depth (InnerSeen a) h = holds (with r) aim depth (accepted m.setting r) refl h
   sees aim depth (Torn rear front) h = refl
   sees aim depth (TornEntry i rear front) h = refl
   sees aim depth OddSeen h = refl
 
-  feeds : (aim : Aim) (depth : ℕ) (t : Bool) → takes_lock m.call aim ≡ true → Case aim depth (if t then r else left_by (seen_of m.setting (word ∷ m.reads.loaded)) r) (if t then More else answer_to (seen_of m.setting (word ∷ m.reads.loaded)))
+  feeds : (aim : Aim) (depth : ℕ) (t : Bool) → takes_lock m.registers.call aim ≡ true → Case aim depth (if t then r else reads_left (seen_of m.setting (word ∷ m.registers.reads.loaded)) r) (if t then More else answer_to (seen_of m.setting (word ∷ m.registers.reads.loaded)))
   feeds aim depth true h = refl
-  feeds aim depth false h = sees aim depth (seen_of m.setting (word ∷ m.reads.loaded)) h
+  feeds aim depth false h = sees aim depth (seen_of m.setting (word ∷ m.registers.reads.loaded)) h
 
   roots : (aim : Aim) (t : Bool) → not t ≡ is_at_root (if t then reading m word (Read aim true) else to m (Root aim)).phase
   roots aim true = refl
   roots aim false = refl
 
-  in_phase : (ph : Phase) → IsMade m.call ph → is_senseless_in m word ph ≡ starts_again ph (fed_in m word ph)
+  in_phase : (ph : Phase) → IsMade m.registers.call ph → is_senseless_in m word ph ≡ starts_again ph (fed_in m word ph)
   in_phase (Root aim) h = roots aim (is_node m.setting word)
-  in_phase (Read aim top) h = reads (loaded m word) aim top (progress_of m.setting m.reads word) h
-  in_phase (Hold aim depth) h = feeds aim depth (nat_lt (length (word ∷ m.reads.loaded)) (node_size m.setting)) h
-  in_phase (Seek aim depth) h = seeks (walked m word) aim depth (walk_wants m.setting (walk_fed m.setting m.walk word))
+  in_phase (Read aim top) h = reads (loaded m word) aim top (progress_of m.setting m.registers.reads word) h
+  in_phase (ReadLocked aim depth) h = feeds aim depth (nat_lt (length (word ∷ m.registers.reads.loaded)) (node_size m.setting)) h
+  in_phase (Seek need) h = seeks (walked m word) need (walk_wants m.setting (walk_fed m.setting m.registers.walk word))
   in_phase ph h = refl
 
 pub are_all_cases : AreAllCases

@@ -1,5 +1,5 @@
 -- A post is skipped: its node is one of those that the seat skipped, and the seat has none to post.
-use Rattle.std.proofs.Common.{◌≡◌, ◌≢◌, ℕ, ◌+◌, ◌<◌, Bool, true, false, List, [], ◌∷◌, length, Some, None, refl, sym, ◌∙◌, subst, inl, inr, arith, append-nil}
+use Rattle.std.proofs.Common.{◌≡◌, ◌≢◌, ℕ, ◌+◌, ◌<◌, true, List, [], ◌∷◌, length, Some, None, refl, sym, ◌∙◌, subst, inl, inr, arith, append-nil}
 use Rattle.std.specs.Prelude.{◌-◌, ◌^◌}
 use Rattle.std.specs.List.{AllByRecursion}
 use Rattle.std.proofs.lemmas.Bool.Decides.{nat_tests}
@@ -11,137 +11,108 @@ use Rattle.sh_map.specs.Made.{entries_by}
 use Rattle.sh_alloc.specs.declared.state.Walk.{Walk}
 use Rattle.sh_read.specs.Reads.{Reads}
 use Rattle.sh_tree.specs.Lists.{is_in}
-use Rattle.sh_tree.proofs.ListLemmas.{in_head, in_more, in_cases, few_nodes}
-use Rattle.sh_scene.specs.Scene.{Class, Undrawn, Reserved, Fresh, Linked, Pending, Skipped, Seat, Held, Scene}
-use Rattle.sh_scene.specs.Nodes.{IsLinked}
-use Rattle.sh_scene.specs.Ground.{Ground}
-use Rattle.sh_scene.specs.Change.{Change}
-use Rattle.sh_scene.specs.Acts.{skipped}
-use Rattle.sh_scene.proofs.Puts.{put_case}
-use Rattle.sh_scene.proofs.Posts.{skip_act}
-use Rattle.sh_scene.proofs.Joins.{join_after}
-use Rattle.sh_decide.specs.declared.state.Post.{Post}
-use Rattle.sh_client.specs.declared.state.Tally.{Tally}
+use Rattle.sh_tree.proofs.ListLemmas.{in_head, in_more, few_nodes}
+use Rattle.sh_state.specs.TreeState.{Class, Linked, Posted, Pending, Skipped, Seat, Held, TreeState}
+use Rattle.sh_state.specs.Nodes.{IsLinked}
+use Rattle.sh_state.specs.Ground.{Ground}
+use Rattle.sh_state.specs.Change.{Change}
+use Rattle.sh_state.proofs.Joins.{join_after}
+use Rattle.sh_acts.specs.Acts.{skipped}
+use Rattle.sh_acts.proofs.Posts.{skip_act}
+use Rattle.sh_decide.specs.declared.state.Posting.{Posting}
 use Rattle.sh_client.specs.declared.state.Then.TheVariants.{Ends}
 use Rattle.sh_client.specs.declared.state.Write.TheVariants.{Nothing}
 use Rattle.sh_client.specs.declared.state.Phase.{Phase}
 use Rattle.sh_client.specs.declared.state.Phase.TheVariants.{Waiting, Ended}
-use Rattle.sh_client.specs.Machine.{Machine, up}
+use Rattle.sh_client.specs.declared.state.Tally.{Tally}
+use Rattle.sh_client.specs.Machine.{Registers, up}
+use Rattle.sh_client.specs.Splitting.{giving_of}
 use Rattle.sh_core.specs.Actors.{Actor, ending}
-use Rattle.sh_core.specs.Fits.{IsDecided, Owes, Fits}
-use Rattle.sh_core.specs.Keeps.{holding, pending, Hands, Waits, Skips, IsAtWork, Keeps}
+use Rattle.sh_core.specs.Fits.{Owes, Fits}
+use Rattle.sh_core.specs.Keeps.{holding, pending, skips_counted, Hands, Waits, Skips, IsAtWork, KeepsActor}
 use Rattle.sh_core.proofs.Causes.{decided_cause}
 use Rattle.sh_core.proofs.Others.{owes_on}
-use Rattle.sh_core.proofs.Frame.{next, me, at, with, goes_on, ends_now, decided_ends, SameNodes, same_grows, skips_on}
-use Rattle.sh_core_turns.proofs.Roots.{pending_skipped, posted_skipped, decided_entry}
-
-skipped_pending : (i : ℕ) → Skipped i ≡ Pending i → ⊥
-skipped_pending i e = cc
-
-off_list : (ns : List ℕ) (n : ℕ) (b : Bool) → is_in ns n ≡ b → (is_in ns n ≡ true → ⊥) → is_in ns n ≡ false
-off_list ns n true e off = absurd (off e)
-off_list ns n false e off = e
+use Rattle.sh_core.proofs.Frame.{next, actor_in, at, goes_on, ends_now, decided_ends, SameNodes, same_grows, skips_on}
+use Rattle.sh_core_turns.proofs.Posts.{decided_by_entry, skips_more, waits_no_more}
 
 -- a counter that isn't at its last value is counted on
-pub counts_up : (x : ℕ) → x < 2 ^ 64 - 1 → up x ≡ x + 1
+counts_up : (x : ℕ) → x < 2 ^ 64 - 1 → up x ≡ x + 1
 counts_up x lt = grind (arith, nat_tests)
 
-module _ (p : ConfigParts) (ok : IsSetting p) (words : List ℕ) (s : Scene) (g : Ground p words s) (i : ℕ) where
-  real : (n : ℕ) → s.post n ≡ Skipped i → IsNode p n
-  real n e = elim (g.outside n) [ inl h ↦ go (s.class n) refl h | inr h ↦ absurd (posted_skipped i (sym h ∙ e)) ]
+module _ (p : ConfigParts) (ok : IsSetting p) (words : List ℕ) (s : TreeState) (g : Ground p words s) (seat : ℕ) where
+  real : (n : ℕ) → s.post n ≡ Skipped seat → IsNode p n
+  real n e = elim (g.outside n) [ inl h ↦ go (s.class n) refl h | inr h ↦ let z : Posted ≡ Skipped seat = sym h ∙ e in absurd (cc) ]
     where
       go : (c : Class) → s.class n ≡ c → IsLinked c → IsNode p n
-      go Undrawn e h = absurd h
-      go Reserved e h = absurd h
-      go (Fresh j) e h = absurd h
       go (Linked l a) e h = (g.sits n l a e).real
+      go c e h = absurd h
 
-  all_real : (ns : List ℕ) → ((n : ℕ) → is_in ns n ≡ true → s.post n ≡ Skipped i) → AllByRecursion (IsNode p) ns
+  all_real : (ns : List ℕ) → ((n : ℕ) → is_in ns n ≡ true → s.post n ≡ Skipped seat) → AllByRecursion (IsNode p) ns
   all_real [] h = tt
   all_real (n ∷ ns) h = (real n (h n (in_head n ns)), all_real ns (λ m e. h m (in_more n m ns e)))
 
   -- as many were skipped as there are nodes, at most
-  pub few_skipped : (count : ℕ) → Skips s i count → count < 2 ^ 64 - 1
+  few_skipped : (count : ℕ) → Skips s seat count → count < 2 ^ 64 - 1
   few_skipped count h = omega (arith, h.counted, few_nodes p h.nodes (all_real h.nodes (λ n. (h.are n).0)) h.once, (nodes_small p ok).1)
 
--- one more
-pub skips_more : (s : Scene) (i count c : ℕ) → s.post c ≡ Pending i → Skips s i count → Skips (skipped s c i) i (count + 1)
-skips_more s i count c mine h = record {
-  nodes = c ∷ h.nodes;
-  once = (off_list h.nodes c (is_in h.nodes c) refl (λ e. pending_skipped i (sym mine ∙ (h.are c).0 e)), h.once);
-  are = λ n. (
-    λ e. put_case (λ z. z ≡ Skipped i) s.post c (Skipped i) n (λ q. refl) (λ ne. elim (in_cases c n h.nodes e) [ inl q ↦ absurd (ne (sym q)) | inr rest ↦ (h.are n).0 rest ]),
-    put_case (λ z. z ≡ Skipped i → is_in (c ∷ h.nodes) n ≡ true) s.post c (Skipped i) n (λ q e. subst (λ (m : ℕ). is_in (c ∷ h.nodes) m ≡ true) (sym q) (in_head c h.nodes)) (λ ne e. in_more c n h.nodes ((h.are n).1 e)),
-  );
-  counted = omega (arith, h.counted);
-}
-
--- no node is left to be posted
-pub waits_skipped : (s : Scene) (i : ℕ) (post : Post) → Waits s i (Some post) → Waits (skipped s post.node i) i None
-waits_skipped s i post w n = put_case (λ z. z ≢ Pending i) s.post post.node (Skipped i) n (λ q. skipped_pending i) (λ ne. w n ne)
-
 -- The client's part. The post is skipped in the scene u, which is of the same nodes, posts and log as the one before the turn.
-module _ (p : ConfigParts) (ok : IsSetting p) (now : List ℕ) (s u : Scene) (i : ℕ) (a : Actor) (m : Machine) (ph : Phase) (k : Keeps p s i (me p i a m ph)) (ch : Change p i s u × Ground p now u) (same : SameNodes s u)
-    (post : Post) (duty : k.work.duty ≡ Some post) where
+module _ (p : ConfigParts) (ok : IsSetting p) (now : List ℕ) (s u : TreeState) (seat : ℕ) (a : Actor) (r : Registers) (ph : Phase) (k : KeepsActor p s seat (actor_in p seat a r ph)) (ch : Change p seat s u × Ground p now u) (same : SameNodes s u)
+    (post : Posting) (duty : k.work.duty ≡ Some post) where
   abbrev N : ℕ
   N = length s.log
 
-  abbrev count : ℕ
-  count = m.tally.skipped_spent + m.tally.skipped_worn
+  abbrev t : TreeState
+  t = skipped u post.node seat
 
-  abbrev t : Scene
-  t = skipped u post.node i
-
-  owed : Owes u i a.first a.point N m.call m.reply (Some post)
-  owed = subst (Owes u i a.first a.point N m.call m.reply) duty (owes_on p s u i a.first a.point a.seen N (same_grows s u i a.seen N same k.seen) m.call m.reply k.work.duty k.work.owes)
+  owed : Owes u seat a.first a.point N r.call r.reply (Some post)
+  owed = subst (Owes u seat a.first a.point N r.call r.reply) duty (owes_on p s u seat a.first a.point a.seen N (same_grows s u seat a.seen N same k.seen) r.call r.reply k.work.duty k.work.owes)
 
   -- neither counter is at its last value
-  here : Skips u i count
-  here = skips_on s u i count count same.post refl k.work.skips
+  here : Skips u seat (skips_counted r.tally)
+  here = skips_on s u seat (skips_counted r.tally) (skips_counted r.tally) same.post refl k.work.skips
 
-  few : count < 2 ^ 64 - 1
-  few = few_skipped p ok now u ch.1 i count here
+  few : skips_counted r.tally < 2 ^ 64 - 1
+  few = few_skipped p ok now u ch.1 seat (skips_counted r.tally) here
 
-  pub spent_more : up m.tally.skipped_spent + m.tally.skipped_worn ≡ count + 1
-  spent_more = omega (arith, counts_up m.tally.skipped_spent (omega (arith, few)))
+  pub spent_more : up r.tally.skipped_spent + r.tally.skipped_worn ≡ skips_counted r.tally + 1
+  spent_more = omega (arith, counts_up r.tally.skipped_spent (omega (arith, few)))
 
-  pub worn_more : m.tally.skipped_spent + up m.tally.skipped_worn ≡ count + 1
-  worn_more = omega (arith, counts_up m.tally.skipped_worn (omega (arith, few)))
+  pub worn_more : r.tally.skipped_spent + up r.tally.skipped_worn ≡ skips_counted r.tally + 1
+  worn_more = omega (arith, counts_up r.tally.skipped_worn (omega (arith, few)))
 
-  pub skips_act : Change p i s t × Ground p now t
+  pub skips_act : Change p seat s t × Ground p now t
   skips_act =
-      let act = skip_act p now u ch.1 i post.node owed.below post.separator owed.linked owed.some owed.mine in
-      (join_after p (λ o. o ≢ Seat i) s u t ch.0 act.0 (λ n. refl) (λ n. refl), act.1)
+      let act = skip_act p now u ch.1 seat post.node owed.below post.separator owed.linked owed.some owed.mine in
+      (join_after p (λ o. o ≢ Seat seat) s u t ch.0 act.0 (λ n. refl) (λ n. refl), act.1)
 
-  -- the call is answered by its entry
-  pub skips_decided : IsDecided p t i a.first a.point N m.call m.reply
-  skips_decided = decided_entry p t i a.first a.point N m.call m.reply owed.entry
+  -- the client afterwards has counted it
+  module _ (tally : Tally) (reads : Reads) (walk : Walk) (sum : skips_counted tally ≡ skips_counted r.tally + 1) where
+    abbrev x : Registers
+    x = record r { tally = tally; reads = reads; walk = walk }
 
-  work_skipped : (first : ℕ) (tally : Tally) (reads : Reads) (walk : Walk) (body right : List ℕ) (to : Phase) → let n : Machine = with p i m tally reads walk body right to in tally.skipped_spent + tally.skipped_worn ≡ count + 1
-      → Fits p t i first a.point N n None to → Hands u i (holding p n to) → IsAtWork p t i first a.point N n
-  work_skipped first tally reads walk body right to sum fits hands = record {
-    seated = k.work.seated;
-    duty = None;
-    fits = fits;
-    owes = tt;
-    hands = hands;
-    waits = waits_skipped u i post (λ n ne c. subst (Waits s i) duty k.work.waits n ne (sym (same.post n) ∙ c));
-    spares = λ r is. same.class r ∙ k.work.spares r is;
-    skips = subst (Skips t i) (sym sum) (skips_more u i count post.node owed.mine here);
-  }
+    work_skipped : (first : ℕ) (to : Phase) → Fits p t seat first a.point N x None to → Hands u seat (holding p x to) → IsAtWork p t seat first a.point N (at p seat x to)
+    work_skipped first to fits hands = record {
+      seated = k.work.seated;
+      duty = None;
+      fits = fits;
+      owes = tt;
+      hands = hands;
+      waits = waits_no_more u seat post (Skipped seat) (λ q. cc) (λ n ne c. subst (Waits s seat) duty k.work.waits n ne (sym (same.post n) ∙ c));
+      spares = λ n is. same.class n ∙ k.work.spares n is;
+      skips = subst (Skips t seat) (sym sum) (skips_more u seat (skips_counted r.tally) post.node (λ q. let z : Pending seat ≡ Skipped seat = sym owed.mine ∙ q in cc) here);
+    }
 
-  -- it gives its lock back, and then ends
-  pub keeps_skipped : (tally : Tally) (reads : Reads) (walk : Walk) (body right : List ℕ) (node depth : ℕ) → tally.skipped_spent + tally.skipped_worn ≡ count + 1 → u.hold (lock_of p node) ≡ Held (Seat i) depth → IsNode p node → Hands u i (Some (lock_of p node))
-      → pending i (at p i m ph) ph ≡ entries_by i m.call m.reply → Keeps p t i (next a N (with p i m tally reads walk body right (Waiting node depth Nothing Ends)))
-  keeps_skipped tally reads walk body right node depth sum held real hands was =
-      let to : Phase = Waiting node depth Nothing Ends in
-      goes_on p s t i N (me p i a m ph) (with p i m tally reads walk body right to) k same.log same.counts k.seen (omega arith) (work_skipped a.first tally reads walk body right to sum (held, (refl, skips_decided), real) hands) (sym was)
+    -- it gives its lock back, and then ends, answered by its entry
+    pub keeps_skipped : (node depth : ℕ) → u.hold (lock_of p node) ≡ Held (Seat seat) depth → IsNode p node → Hands u seat (Some (lock_of p node)) → pending seat r ph ≡ entries_by seat r.call r.reply → KeepsActor p t seat (next a N (at p seat x (Waiting depth (giving_of node Nothing Ends))))
+    keeps_skipped node depth held real hands was =
+        let to : Phase = Waiting depth (giving_of node Nothing Ends) in
+        let decided = decided_by_entry p t seat a.first a.point N r.call r.reply owed.entry in
+        goes_on p s t seat N (actor_in p seat a r ph) (at p seat x to) k same.log same.counts k.seen (omega arith) (work_skipped a.first to record { real = real; held = held; plans = record { none = refl; decided = decided } } hands) (sym was)
 
-  -- or it has no lock, and ends now
-  pub keeps_ended : (tally : Tally) (reads : Reads) (walk : Walk) (body right : List ℕ) → tally.skipped_spent + tally.skipped_worn ≡ count + 1 → Hands u i None → pending i (at p i m ph) ph ≡ entries_by i m.call m.reply
-      → Keeps p t i (ending i (me p i a m ph) s.log (with p i m tally reads walk body right Ended))
-  keeps_ended tally reads walk body right sum hands was =
-      let w = subst (Owes s i a.first a.point a.seen m.call m.reply) duty k.work.owes in
-      let decided = decided_entry p s i a.first a.point a.seen m.call m.reply w.entry in
-      let end = decided_ends p s s.log [] i a m (sym (append-nil s.log)) k.seen k.first m.call m.reply decided in
-      ends_now p s t i (me p i a m ph) (with p i m tally reads walk body right Ended) s.log k same.log same.counts (omega arith) k.seen (work_skipped N tally reads walk body right Ended sum refl hands) end.answered (decided_cause p s s.log i a k.seen m.call m.reply decided) end.from end.past was refl
+    -- or it has no lock, and ends now
+    pub keeps_ended : Hands u seat None → pending seat r ph ≡ entries_by seat r.call r.reply → KeepsActor p t seat (ending seat (actor_in p seat a r ph) s.log (at p seat x Ended))
+    keeps_ended hands was =
+        let w = subst (Owes s seat a.first a.point a.seen r.call r.reply) duty k.work.owes in
+        let decided = decided_by_entry p s seat a.first a.point a.seen r.call r.reply w.entry in
+        let end = decided_ends p s s.log [] seat a (sym (append-nil s.log)) k.seen k.first r.call r.reply decided in
+        ends_now p s t seat (actor_in p seat a r ph) (at p seat x Ended) s.log k same.log same.counts (omega arith) k.seen (work_skipped N Ended refl hands) end.answered (decided_cause p s s.log seat a k.seen r.call r.reply decided) end.from end.past was refl

@@ -1,95 +1,168 @@
--- The image of a node that stands, and the decisions on it that its hop leads to.
-use Rattle.std.proofs.Common.{◌≡◌, ℕ, zero, suc, Bool, true, false, List, refl, sym, ap, ◌∙◌, subst, arith}
-use Rattle.std.specs.Prelude.{if◌then◌else◌}
+-- The image of a node that stands where a descent has come, and where hops from images lead.
+use Rattle.std.proofs.Common.{◌≡◌, ◌≢◌, ℕ, suc, ◌+◌, ◌-◌, ◌<◌, ◌≤◌, Bool, true, false, List, [], ◌∷◌, length, Option, Some, None, refl, sym, ap, ◌∙◌, subst, arith}
+use Rattle.std.specs.Prelude.{◌^◌, ◌==◌, ◌&&◌, not, if◌then◌else◌, nat_le, nat_lt}
+use Rattle.std.proofs.lemmas.Bool.Decides.{nat_tests}
 use Rattle.sh_base.specs.declared.config.ConfigParts.{ConfigParts}
-use Rattle.sh_base.specs.Setting.{IsSetting}
+use Rattle.sh_base.specs.declared.event.Event.{Event}
+use Rattle.sh_base.specs.declared.event.Event.TheVariants.{Load}
+use Rattle.sh_base.specs.Setting.{node_size, nodes, IsNode, IsSetting}
+use Rattle.sh_base.specs.Layout.{node_word}
+use Rattle.sh_map.specs.declared.call.Call.{Call}
+use Rattle.sh_map.specs.declared.call.Call.TheVariants as call
+use Rattle.sh_map.specs.declared.call.Reply.{Reply}
+use Rattle.sh_map.specs.Calls.{IsInRange, IsKey}
+use Rattle.sh_image.specs.declared.inner.Pair.{Pair}
 use Rattle.sh_image.specs.declared.inner.Image.{Image}
 use Rattle.sh_image.specs.declared.inner.Image.TheVariants.{Leaf as LeafImage, Inner as InnerImage}
-use Rattle.sh_image.specs.Leaf.{Leaf, leaf_in, Spells}
-use Rattle.sh_image.specs.Inner.{Inner, inner_in, SpellsInner}
-use Rattle.sh_read.specs.Reads.{reads_with}
+use Rattle.sh_image.specs.declared.read.Seen.{Seen}
+use Rattle.sh_image.specs.Leaf.{Leaf, leaf_in}
+use Rattle.sh_image.specs.Inner.{Inner, inner_in}
+use Rattle.sh_image.specs.Seen.{SeenBy}
+use Rattle.sh_edit.specs.Pairing.{IsNewSeparator}
+use Rattle.sh_image.specs.Node.{seen_as}
+use Rattle.sh_read.specs.Judging.{seen_of}
+use Rattle.sh_read.specs.Reads.{Reads, accepted, image_in, reads_with, wanted}
+use Rattle.sh_read.proofs.JudgingLemmas.{judged_by, seen_once}
 use Rattle.sh_descend.specs.declared.Hop.{Hop}
-use Rattle.sh_descend.specs.declared.Hop.TheVariants.{Here, Right as HopRight, Down, Restart as HopRestart}
-use Rattle.sh_descend.specs.Descent.{hop_of}
-use Rattle.sh_scene.specs.Scene.{Linked, Scene}
-use Rattle.sh_scene.specs.Ground.{Ground}
-use Rattle.sh_scene.specs.Nodes.{level_in}
-use Rattle.sh_scene.proofs.Spelled.{leaf_is, inner_is}
-use Rattle.sh_known.specs.Hand.{IsImageOf}
-use Rattle.sh_known.proofs.HandLemmas.{inner_image, right_named}
-use Rattle.sh_client.specs.declared.state.Tally.{Tally}
+use Rattle.sh_descend.specs.declared.Hop.TheVariants.{Here, Right, Down, Restart}
+use Rattle.sh_descend.specs.Descent.{hop_of, high_of}
+use Rattle.sh_state.specs.TreeState.{Linked, TreeState}
+use Rattle.sh_state.specs.Ground.{Ground}
+use Rattle.sh_acts.proofs.InnerEnds.{is_new}
+use Rattle.sh_readers.specs.Hand.{IsImageOf, IsNamed}
+use Rattle.sh_readers.proofs.HandLemmas.{down_inner, down_named, here_is, inner_image, never_restart, right_named}
+use Rattle.sh_decide.specs.declared.state.Posting.{Posting}
 use Rattle.sh_decide.specs.declared.state.Aim.{Aim}
-use Rattle.sh_client.specs.declared.state.Then.TheVariants.{Starts, Takes}
+use Rattle.sh_decide.specs.declared.state.Aim.TheVariants.{Own, Posts}
+use Rattle.sh_decide.specs.Aims.{is_node, aimed_key, target}
 use Rattle.sh_decide.specs.declared.state.Decision.TheVariants as decision
-use Rattle.sh_client.specs.declared.state.Phase.TheVariants.{Hold as Holds}
-use Rattle.sh_client.specs.Machine.{Machine, up}
-use Rattle.sh_decide.specs.Aims.{is_node, key_of, target}
-use Rattle.sh_decide.specs.Deciding.{decided_by, decided_here}
-use Rattle.sh_client.specs.Feeds.{did}
-use Rattle.sh_core.specs.Actors.{Actor}
-use Rattle.sh_core.proofs.Frame.{me, with, Before}
-use Rattle.sh_core_turns.proofs.OnWay.{aim_key}
-use Rattle.sh_core_turns.proofs.UnderLock.{Lands, gives}
+use Rattle.sh_decide.specs.Deciding.{decided_by, has_separator}
+use Rattle.sh_decide.proofs.IndexLemmas.{once_is}
+use Rattle.sh_client.specs.declared.state.Want.TheVariants as want
+use Rattle.sh_client.specs.Wants.{load_of}
+use Rattle.sh_core.specs.Fits.{IsThere, Owes, duty_of}
+use Rattle.sh_core_turns.specs.Senses.{is_wrong_here}
 
-module _ (p : ConfigParts) (words : List ℕ) (s : Scene) (g : Ground p words s) (n low : ℕ) (ws : List ℕ) (is : ws ≡ s.node n) where
-  -- words that spell a leaf are those of one
-  pub leaf_level : (l : ℕ) (x : Leaf) → s.class n ≡ Linked l low → Spells p ws x → l ≡ 0
-  leaf_level l x e sp =
-      let up = (g.sits n l low e).level_is in
-      let down : level_in ws ≡ 0 = ap level_in sp.words in
-      let same : level_in ws ≡ level_in (s.node n) = ap level_in is in
-      omega (arith, up, down, same)
+pub is_lt : (a b : ℕ) → nat_lt a b ≡ true → a < b
+is_lt a b e = grind (arith, nat_tests)
 
-  pub standing_leaf : (l : ℕ) (x : Leaf) → s.class n ≡ Linked l low → Spells p ws x → IsImageOf s l low (LeafImage x)
-  standing_leaf l x e sp = subst (λ (z : ℕ). s.class n ≡ Linked z low → IsImageOf s z low (LeafImage x)) (sym (leaf_level l x e sp)) at_zero e
+pub not_lt : (a b : ℕ) → nat_lt a b ≡ false → b ≤ a
+not_lt a b e = grind (arith, nat_tests)
+
+differ_test : (a b : ℕ) → a ≢ b → (a == b) ≡ false
+differ_test a b h = grind (arith, nat_tests)
+
+between : (n last : ℕ) → 1 ≤ n → n ≤ last → (nat_le 1 n && nat_le n last) ≡ true
+between n last a b = grind (arith, nat_tests)
+
+-- the number of a linked node is a node's
+pub is_number : (p : ConfigParts) (n : ℕ) → IsNode p n → is_node p n ≡ true
+is_number p n h = between n (nodes p) h.first h.last
+
+pub names_node : (p : ConfigParts) (words : List ℕ) (s : TreeState) → Ground p words s → (level n key : ℕ) → IsNamed s level n key → is_node p n ≡ true
+names_node p words s g level n key h = is_number p n (g.sits n level h.low h.linked).real
+
+-- the key of a descent is a key
+pub aim_key : (p : ConfigParts) (s : TreeState) (seat first point seen : ℕ) (c : Call) (reply : Reply) (aim : Aim) (duty : Option Posting) → IsInRange p c → duty ≡ duty_of aim → Owes s seat first point seen c reply duty → IsKey (aimed_key c aim)
+aim_key p s seat first point seen (call.Get key) r Own duty h is o = h
+aim_key p s seat first point seen (call.Put key value) r Own duty h is o = h.0
+aim_key p s seat first point seen (call.Del key) r Own duty h is o = h
+aim_key p s seat first point seen (call.Range low high) r Own duty h is o = h.0
+aim_key p s seat first point seen c r (Posts post) duty h is o = let w = subst (Owes s seat first point seen c r) is o in (w.some, w.past)
+
+-- all words of a READ are loaded: their image is accepted
+pub whole_accepted : (p : ConfigParts) (node : ℕ) (ws : List ℕ) (image : Image) → nat_lt (length ws) (node_size p) ≡ false → image_in (seen_of p ws) ≡ Some image → accepted p (reads_with node ws) ≡ Some image
+whole_accepted p node ws image e q = rw e q
+
+-- the load that a READ wants
+pub load_is : (p : ConfigParts) (reads : Reads) (e : Event) → load_of (wanted p reads) ≡ want.Event e → Load (node_word p reads.node + (node_size p - 1 - length reads.loaded)) ≡ e
+load_is p reads e = by (nat_lt (length reads.loaded) (node_size p))
+  where
+    by : (t : Bool) → load_of (if t then Some (node_word p reads.node + (node_size p - 1 - length reads.loaded)) else None) ≡ want.Event e → Load (node_word p reads.node + (node_size p - 1 - length reads.loaded)) ≡ e
+    by true q = cc
+    by false q = cc
+
+pub some_image : (x y : Image) → Some x ≡ Some y → x ≡ y
+some_image x y e = cc
+
+-- ---- where a hop leads, from the image of a node of a level that begins no later than the key
+
+abbrev pub HopLeads : TreeState → (level key target : ℕ) → Image → Hop → Type 0
+HopLeads s level key target image Here = (level ≡ target) × (key < high_of image)
+HopLeads s level key target image (Right next) = IsNamed s level next key
+HopLeads s level key target image (Down child) = (below : ℕ) × (level ≡ suc below) × IsNamed s below child key × (target ≤ below)
+HopLeads s level key target image Restart = ⊥
+
+pub hop_leads : (s : TreeState) (level low key target : ℕ) (image : Image) → IsImageOf s level low image → low ≤ key → key < 2 ^ 64 - 1 → target ≤ level → (hop : Hop) → hop_of image key target ≡ hop → HopLeads s level key target image hop
+hop_leads s level low key target image img from past reach Here e = here_is s level low key target image img from e
+hop_leads s level low key target image img from past reach (Right next) e = right_named s level low key target image img from next past e
+hop_leads s level low key target image img from past reach (Down child) e =
+    let below = down_inner s level low key target image img from child e in
+    let named = down_named s level low key target image img from below.0 child below.1 e in
+    (below.0, below.1, named.0, named.1)
+hop_leads s level low key target image img from past reach Restart e = never_restart s level low key target image img from reach e
+
+-- only at this hop a node is split
+pub split_here : (p : ConfigParts) (c : Call) (aim : Aim) (image : Image) (hop : Hop) → decided_by p c aim image hop ≡ decision.Split → hop ≡ Here
+split_here p c aim image Here d = refl
+split_here p c aim image (Right next) d = by (is_node p next) d
+  where
+    by : (t : Bool) → (if t then decision.Right next else decision.Restart) ≡ decision.Split → Right next ≡ Here
+    by true d = cc
+    by false d = cc
+split_here p c aim image (Down child) d = cc
+split_here p c aim image Restart d = cc
+
+-- ---- the node at the end of a descent
+
+-- a leaf for a call, and an inner node for a post
+abbrev pub standing_image : ConfigParts → (node : List ℕ) → Aim → Image
+standing_image p node Own = LeafImage (leaf_in p node)
+standing_image p node (Posts post) = InnerImage (inner_in node)
+
+-- its words spell that image, in which nothing is wrong
+pub record StandsWell (p : ConfigParts) (s : TreeState) (node : List ℕ) (low : ℕ) (aim : Aim) : Type 0 where
+  pub image : IsImageOf s (target aim) low (standing_image p node aim)
+  pub seen : seen_of p node ≡ seen_as (standing_image p node aim)
+  pub right : is_wrong_here aim (standing_image p node aim) ≡ false
+
+no_pair : (pairs : List Pair) (separator : ℕ) → IsNewSeparator pairs separator → has_separator pairs separator ≡ false
+no_pair [] separator h = refl
+no_pair (x ∷ xs) separator h = rw (differ_test x.separator separator h.0) (no_pair xs separator h.1)
+
+module _ (p : ConfigParts) (ok : IsSetting p) (words : List ℕ) (s : TreeState) (g : Ground p words s) where
+  spelled_seen : (n : ℕ) (v : Seen) → SeenBy p (s.node n) v → seen_of p (s.node n) ≡ v
+  spelled_seen n v h = let some = ok.ranged.value_words.0 in seen_once p (s.node n) some (seen_of p (s.node n)) v (judged_by p (s.node n) some (g.long n)) h
+
+  leaf_stands : (n low : ℕ) → s.class n ≡ Linked 0 low → IsImageOf s 0 low (LeafImage (leaf_in p (s.node n)))
+  leaf_stands n low linked =
+      let z = g.sits n 0 low linked in
+      record { level_is = refl; low_is = z.low_is; fences = z.fences; past = z.past; next = z.next; children = λ below q. absurd (omega (arith, q)); sorted = tt }
+
+  pub stands_well : (seat first point seen n : ℕ) (c : Call) (reply : Reply) (aim : Aim) (duty : Option Posting) → duty ≡ duty_of aim → Owes s seat first point seen c reply duty → (there : IsThere s c aim n) → StandsWell p s (s.node n) there.low aim
+  stands_well seat first point seen n c r Own duty is owes there =
+      let z = (g.sits n 0 there.low there.linked).body in
+      let a : Leaf = leaf_in p (s.node n) in
+      record { image = leaf_stands n there.low there.linked; seen = spelled_seen n (seen_as (LeafImage a)) z.spells; right = ap not (sym (once_is a.entries true ((λ t. z.once), (λ t. refl)))) }
+  stands_well seat first point seen n c r (Posts post) duty is owes there =
+      let w = subst (Owes s seat first point seen c r) is owes in
+      let linked : s.class n ≡ Linked (suc w.below) there.low = there.linked ∙ ap (λ (l : ℕ). Linked l there.low) w.level in
+      let a : Inner = inner_in (s.node n) in
+      record {
+        image = subst (λ (l : ℕ). IsImageOf s l there.low (InnerImage a)) (sym w.level) (inner_image p words s g n w.below there.low linked);
+        seen = spelled_seen n (seen_as (InnerImage a)) (g.sits n (suc w.below) there.low linked).body.spells;
+        right = no_pair a.pairs post.separator (is_new p words s g seat n post.node w.below there.low post.separator linked w.linked w.mine);
+      }
+
+  -- a READ of all its words is accepted
+  pub standing_accepted : (n : ℕ) (image : Image) (loaded : List ℕ) → seen_of p (s.node n) ≡ seen_as image → loaded ≡ s.node n → accepted p (reads_with n loaded) ≡ Some image
+  standing_accepted n image loaded seen is =
+      let long : length loaded ≡ node_size p = ap length is ∙ g.long n in
+      whole_accepted p n loaded image (whole long) (ap image_in (ap (seen_of p) is ∙ seen) ∙ as_image image)
     where
-      at_zero : s.class n ≡ Linked 0 low → IsImageOf s 0 low (LeafImage x)
-      at_zero e =
-          let z = g.sits n 0 low e in
-          let one : leaf_in p (s.node n) ≡ x = ap (leaf_in p) (sym is) ∙ leaf_is p ws x sp.words sp.lawful in
-          subst (λ (y : Leaf). IsImageOf s 0 low (LeafImage y)) one record { level_is = refl; low_is = z.low_is; fences = z.fences; past = z.past; next = z.next; children = λ below q. absurd (omega (arith, q)); sorted = tt }
+      whole : length loaded ≡ node_size p → nat_lt (length loaded) (node_size p) ≡ false
+      whole long = grind (arith, nat_tests)
 
-  pub standing_inner : (l : ℕ) (x : Inner) → s.class n ≡ Linked l low → SpellsInner p ws x → IsImageOf s l low (InnerImage x)
-  standing_inner zero x e sp =
-      let up = (g.sits n 0 low e).level_is in
-      let down : level_in ws ≡ x.level = ap level_in sp.words in
-      let same : level_in ws ≡ level_in (s.node n) = ap level_in is in
-      absurd (omega (arith, up, down, same, sp.lawful.level.0))
-  standing_inner (suc l) x e sp =
-      let one : inner_in (s.node n) ≡ x = ap inner_in (sym is) ∙ inner_is p ws x sp.words sp.lawful in
-      subst (λ (y : Inner). IsImageOf s (suc l) low (InnerImage y)) one (inner_image p words s g n l low e)
-
-module _ (p : ConfigParts) (ok : IsSetting p) (words : List ℕ) (Has Now : ℕ → Actor → Type 0) (Out : ℕ → ℕ → ℕ → Type 0) (i : ℕ) (s : Scene) (b : Before p words Has Out s) (a : Actor) (m : Machine) (aim : Aim) (depth : ℕ)
-    (h : Has i (me p i a m (Holds aim depth))) (loaded : List ℕ) where
-  abbrev pub M : Machine
-  M = with p i m m.tally (reads_with m.reads.node loaded) m.walk m.body m.right (Holds aim depth)
-
-  abbrev hopped : Tally
-  hopped = record { again = m.tally.again; rights = up m.tally.rights; splits = m.tally.splits; handed = m.tally.handed; from_cache = m.tally.from_cache; skipped_spent = m.tally.skipped_spent; skipped_worn = m.tally.skipped_worn; rewritten = m.tally.rewritten }
-
-  abbrev Goes : Machine → Type 0
-  Goes n = Lands p ok words Has Now Out i s b a m aim depth h n
-
-  -- the lock is given back, and the descent starts again
-  pub restarts : (image : Image) → Goes (did M aim depth image decision.Restart)
-  restarts image mv = let k = b.kept i (me p i a m (Holds aim depth)) h in gives p ok words Has Now Out i s b a m aim depth h m.tally loaded (Starts aim) refl k.work.fits.0 refl mv
-
-  -- or the lock to the right is taken
-  pub rights : (image : Image) (r : ℕ) → (k : IsImageOf s (target aim) (b.kept i (me p i a m (Holds aim depth)) h).work.fits.1.low image) → hop_of image (key_of m.call aim) (target aim) ≡ HopRight r → Goes (did M aim depth image (decision.Right r))
-  rights image r img e mv =
-      let k = b.kept i (me p i a m (Holds aim depth)) h in
-      let f = k.work.fits in
-      let key = aim_key p s i a.first a.point a.seen m.call m.reply aim k.work.duty k.work.seated.in_range f.0 k.work.owes in
-      gives p ok words Has Now Out i s b a m aim depth h hopped loaded (Takes aim r) refl (f.0, right_named s (target aim) f.1.low (key_of m.call aim) (target aim) image img f.1.below r key.1 e) refl mv
-
-  -- so what is left is the decision where the node covers the key
-  pub by_hop : (image : Image) (hop : Hop) → hop_of image (key_of m.call aim) (target aim) ≡ hop → IsImageOf s (target aim) (b.kept i (me p i a m (Holds aim depth)) h).work.fits.1.low image
-      → (hop_of image (key_of m.call aim) (target aim) ≡ Here → Goes (did M aim depth image (decided_here p m.call aim image))) → Goes (did M aim depth image (decided_by p m.call aim image hop))
-  by_hop image Here e img here mv = here e mv
-  by_hop image (HopRight r) e img here mv = by (is_node p r) mv
-    where
-      by : (t : Bool) → Goes (did M aim depth image (if t then decision.Right r else decision.Restart))
-      by true mv = rights image r img e mv
-      by false mv = restarts image mv
-  by_hop image (Down c) e img here mv = restarts image mv
-  by_hop image HopRestart e img here mv = restarts image mv
+      as_image : (x : Image) → image_in (seen_as x) ≡ Some x
+      as_image (LeafImage a) = refl
+      as_image (InnerImage a) = refl

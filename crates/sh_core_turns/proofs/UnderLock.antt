@@ -1,120 +1,164 @@
--- READs under the node's lock, up to the decision on the image.
-use Rattle.std.proofs.Common.{◌≡◌, ℕ, suc, ◌+◌, ◌-◌, ◌<◌, ◌≤◌, Bool, true, false, List, [], ◌∷◌, ◌++◌, length, get_or, drop, Option, Some, refl, sym, ap, ◌∙◌, subst, arith, drop_of_length-le}
-use Rattle.std.specs.Prelude.{if◌then◌else◌, nat_lt}
-use Rattle.std.proofs.lemmas.Bool.Decides.{nat_tests}
+-- READs under the node's lock: all of its words are the standing ones, so nothing that they say is senseless.
+use Rattle.std.proofs.Common.{◌≡◌, ℕ, suc, ◌+◌, ◌-◌, ◌<◌, Bool, true, false, List, [], ◌∷◌, ◌++◌, length, get_or, drop, Option, Some, refl, sym, ap, ◌∙◌, subst, arith}
+use Rattle.std.specs.Prelude.{not, if◌then◌else◌, nat_lt}
 use Rattle.std.proofs.Math.Seq.{drop-cons}
 use Rattle.sh_base.specs.declared.config.ConfigParts.{ConfigParts}
 use Rattle.sh_base.specs.Setting.{node_size, IsNode, IsSetting}
 use Rattle.sh_base.specs.Layout.{node_word}
 use Rattle.sh_base.specs.Places.{Node}
 use Rattle.sh_base.proofs.LayoutLemmas.{node_size_is}
+use Rattle.sh_map.specs.Calls.{IsKey}
 use Rattle.sh_image.specs.declared.inner.Image.{Image}
-use Rattle.sh_image.specs.declared.read.Seen.{Seen}
-use Rattle.sh_image.specs.declared.read.Seen.TheVariants.{Leaf as LeafSeen, Inner as InnerSeen, Torn, TornEntry, Odd as OddSeen}
 use Rattle.sh_image.specs.declared.inner.Image.TheVariants.{Leaf as LeafImage, Inner as InnerImage}
+use Rattle.sh_image.specs.declared.read.Seen.{Seen}
 use Rattle.sh_read.specs.declared.state.Progress.TheVariants.{More}
+use Rattle.sh_image.specs.Node.{seen_as}
 use Rattle.sh_read.specs.Judging.{seen_of}
 use Rattle.sh_read.specs.Moments.{word}
-use Rattle.sh_read.specs.Reads.{Reads, accepted, answer_to, image_in, left_by, reads_with}
-use Rattle.sh_scene.specs.Scene.{Hold, Scene, writing_of}
-use Rattle.sh_client.specs.declared.state.Tally.{Tally}
+use Rattle.sh_read.specs.Reads.{Reads, accepted, answer_to, reads_left, reads_with}
+use Rattle.sh_descend.specs.declared.Hop.{Hop}
+use Rattle.sh_descend.specs.declared.Hop.TheVariants.{Here, Right, Down, Restart}
+use Rattle.sh_descend.specs.Descent.{hop_of}
+use Rattle.sh_state.specs.TreeState.{LockState, TreeState, writing_of}
+use Rattle.sh_readers.specs.Hand.{IsNamed}
 use Rattle.sh_decide.specs.declared.state.Aim.{Aim}
+use Rattle.sh_decide.specs.declared.state.Decision.TheVariants as decision
+use Rattle.sh_decide.specs.Aims.{aimed_key, target}
+use Rattle.sh_decide.specs.Deciding.{decided_by, decided_here}
 use Rattle.sh_client.specs.declared.state.Then.{Then}
-use Rattle.sh_client.specs.declared.state.Then.TheVariants.{Starts}
+use Rattle.sh_client.specs.declared.state.Then.TheVariants.{Starts, Takes}
 use Rattle.sh_client.specs.declared.state.Write.TheVariants.{Nothing}
-use Rattle.sh_client.specs.declared.state.Phase.TheVariants.{Hold as Holds, Waiting}
-use Rattle.sh_client.specs.Machine.{Machine, up}
-use Rattle.sh_decide.specs.Aims.{target}
-use Rattle.sh_decide.specs.Deciding.{decision_of}
+use Rattle.sh_client.specs.declared.state.Phase.{Phase}
+use Rattle.sh_client.specs.declared.state.Phase.TheVariants.{ReadLocked, Waiting}
+use Rattle.sh_client.specs.Machine.{Machine, Registers, up}
 use Rattle.sh_client.specs.Feeds.{did, held_by, hold_by}
+use Rattle.sh_client.specs.Splitting.{giving_of}
 use Rattle.sh_core.specs.Actors.{Actor, becomes}
 use Rattle.sh_core.specs.Fits.{AreLast, Follows}
-use Rattle.sh_core.specs.Keeps.{pending_aim, pending_then, Keeps}
+use Rattle.sh_core.specs.Keeps.{pending_aim, pending_then, KeepsActor}
 use Rattle.sh_core.specs.Core.{Inv, Moves}
-use Rattle.sh_core.proofs.Frame.{me, with, Before}
-use Rattle.sh_core.proofs.Locks.{quiet}
+use Rattle.sh_core.proofs.Frame.{Before, SameCall, actor_in, at, quiet}
+use Rattle.sh_core_turns.specs.Senses.{is_wrong, is_wrong_by, of_image, of_read}
+use Rattle.sh_core_turns.proofs.Standing.{StandsWell, aim_key, hop_leads, is_lt, names_node, not_lt, standing_accepted, standing_image, stands_well}
 
-pub is_lt : (a b : ℕ) → nat_lt a b ≡ true → a < b
-is_lt a b e = grind (arith, nat_tests)
+module _ (p : ConfigParts) (ok : IsSetting p) (words : List ℕ) (Has Now : ℕ → Actor → Type 0) (Out : ℕ → ℕ → ℕ → Type 0) (i : ℕ) (s : TreeState) (b : Before p words Has Out s) (a : Actor) (r : Registers) (aim : Aim) (depth : ℕ)
+    (h : Has i (actor_in p i a r (ReadLocked aim depth))) where
+  abbrev ph : Phase
+  ph = ReadLocked aim depth
 
-pub not_lt : (a b : ℕ) → nat_lt a b ≡ false → b ≤ a
-not_lt a b e = grind (arith, nat_tests)
-
-module _ (p : ConfigParts) (ok : IsSetting p) (words : List ℕ) (Has Now : ℕ → Actor → Type 0) (Out : ℕ → ℕ → ℕ → Type 0) (i : ℕ) (s : Scene) (b : Before p words Has Out s) (a : Actor) (m : Machine) (aim : Aim) (depth : ℕ)
-    (h : Has i (me p i a m (Holds aim depth))) where
+  -- the machine that the turn leads to keeps the invariant; and what it found wasn't senseless
   abbrev pub Lands : Machine → Type 0
-  Lands n = Moves Has i (becomes i (me p i a m (Holds aim depth)) s.log [] n) Now → Inv p words (s.log ++ []) Now Out
+  Lands m = Moves Has i (becomes i (actor_in p i a r ph) s.log [] m) Now → Inv p words (s.log ++ []) Now Out
 
-  abbrev pub K : Keeps p s i (me p i a m (Holds aim depth))
-  K = b.kept i (me p i a m (Holds aim depth)) h
+  abbrev pub LandsWell : (senseless : Bool) → Machine → Type 0
+  LandsWell senseless m = (senseless ≡ false) × Lands m
+
+  abbrev pub K : KeepsActor p s i (actor_in p i a r ph)
+  K = b.kept i (actor_in p i a r ph) h
 
   abbrev n : ℕ
-  n = m.reads.node
+  n = r.reads.node
 
   pub real : IsNode p n
-  real = let f = K.work.fits in (b.ground.sits n (target aim) f.1.low f.1.linked).real
-
-  -- under the lock the words in memory are the standing ones
-  pub stands : (o : ℕ) → o < node_size p → get_or words (node_word p n + o) 0 ≡ get_or (s.node n) o 0
-  stands o lt = b.ground.shows.each (Node n o) (real, lt) ∙ ap (λ (x : Hold). word p (s.node n) (writing_of n x) o) K.work.fits.2
+  real = let there = K.work.fits.holds.at.there in (b.ground.sits n (target aim) there.low there.linked).real
 
   -- the lock is given back, with nothing stored
-  pub gives : (tally : Tally) (loaded : List ℕ) (after : Then) → tally.skipped_spent + tally.skipped_worn ≡ m.tally.skipped_spent + m.tally.skipped_worn → Follows p s i a.first a.point (length s.log) m.call m.reply K.work.duty after → pending_then i m.call m.reply after ≡ pending_aim i m.call m.reply aim
-      → Lands (with p i m tally (reads_with n loaded) m.walk m.body m.right (Waiting n depth Nothing after))
-  gives tally loaded after sum follows pend mv = quiet p ok words Has Now Out i s b a m (Holds aim depth) (Waiting n depth Nothing after) tally (reads_with n loaded) K sum (K.work.fits.2, follows, real) K.work.hands pend tt mv
+  pub gives : (x : Registers) (after : Then) → SameCall r x → Follows p s i a.first a.point (length s.log) x.call x.reply K.work.duty after → pending_then i x.call x.reply after ≡ pending_aim i r.call r.reply aim → Lands (at p i x (Waiting depth (giving_of n Nothing after)))
+  gives x after same follows pend mv = quiet p ok words Has Now Out i s b a r ph (Waiting depth (giving_of n Nothing after)) x K same record { real = real; held = K.work.fits.holds.held; plans = follows } K.work.hands pend tt mv
 
-  -- the READ goes on
-  pub reads_on : (tally : Tally) (loaded : List ℕ) → tally.skipped_spent + tally.skipped_worn ≡ m.tally.skipped_spent + m.tally.skipped_worn → length loaded < node_size p → AreLast p (s.node n) loaded → Lands (with p i m tally (reads_with n loaded) m.walk m.body m.right (Holds aim depth))
-  reads_on tally loaded sum lt last mv = let f = K.work.fits in quiet p ok words Has Now Out i s b a m (Holds aim depth) (Holds aim depth) tally (reads_with n loaded) K sum (f.0, f.1, f.2, record { left = lt; standing = last }) K.work.hands refl tt mv
+  -- under the lock the words in memory are the standing ones
+  stands : (o : ℕ) → o < node_size p → get_or words (node_word p n + o) 0 ≡ get_or (s.node n) o 0
+  stands o lt = b.ground.shows.each (Node n o) (real, lt) ∙ ap (λ (x : LockState). word p (s.node n) (writing_of n x) o) K.work.fits.holds.held
 
-  abbrev x : ℕ
-  x = get_or words (node_word p n + (node_size p - 1 - length m.reads.loaded)) 0
+  abbrev fed : ℕ
+  fed = get_or words (node_word p n + (node_size p - 1 - length r.reads.loaded)) 0
 
-  abbrev pub ws : List ℕ
-  ws = x ∷ m.reads.loaded
+  abbrev ws : List ℕ
+  ws = fed ∷ r.reads.loaded
 
-  abbrev rd : Reads → Machine
-  rd reads = with p i m m.tally reads m.walk m.body m.right (Holds aim depth)
+  abbrev pub rd : Reads
+  rd = reads_with n ws
 
-  abbrev torn : Tally
-  torn = record { again = up m.tally.again; rights = m.tally.rights; splits = m.tally.splits; handed = m.tally.handed; from_cache = m.tally.from_cache; skipped_spent = m.tally.skipped_spent; skipped_worn = m.tally.skipped_worn; rewritten = m.tally.rewritten }
+  abbrev with : Reads → Machine
+  with reads = at p i (record r { reads = reads }) ph
 
-  -- one word more of the standing ones
+  abbrev pub M : Machine
+  M = with rd
+
+  -- one word more of them
   more : AreLast p (s.node n) ws
   more =
-      let f = K.work.fits.3 in
-      let j : ℕ = node_size p - 1 - length m.reads.loaded in
+      let f = K.work.fits.reading in
+      let j : ℕ = node_size p - 1 - length r.reads.loaded in
       let lt : j < node_size p = omega (arith, node_size_is p) in
       let within : j < length (s.node n) = omega (arith, lt, b.ground.long n) in
       let here : node_size p - length ws ≡ j = omega (arith, f.left) in
-      let before : suc j ≡ node_size p - length m.reads.loaded = omega (arith, f.left) in
-      ap (λ (z : ℕ). drop z (s.node n)) here ∙ drop-cons (s.node n) j 0 within ∙ ap (λ (z : ℕ). get_or (s.node n) j 0 ∷ drop z (s.node n)) before ∙ ap (λ (zs : List ℕ). get_or (s.node n) j 0 ∷ zs) f.standing ∙ ap (λ (z : ℕ). z ∷ m.reads.loaded) (sym (stands j lt))
+      let before : suc j ≡ node_size p - length r.reads.loaded = omega (arith, f.left) in
+      ap (λ (z : ℕ). drop z (s.node n)) here ∙ drop-cons (s.node n) j 0 within ∙ ap (λ (z : ℕ). get_or (s.node n) j 0 ∷ drop z (s.node n)) before ∙ ap (λ (zs : List ℕ). get_or (s.node n) j 0 ∷ zs) f.standing ∙ ap (λ (z : ℕ). z ∷ r.reads.loaded) (sym (stands j lt))
 
   -- all are loaded: they are the node's
-  pub whole : length ws ≡ node_size p → ws ≡ s.node n
+  whole : length ws ≡ node_size p → ws ≡ s.node n
   whole long = let none : node_size p - length ws ≡ 0 = omega (arith, long) in sym more ∙ ap (λ (z : ℕ). drop z (s.node n)) none
 
-  none_yet : AreLast p (s.node n) []
-  none_yet = let short : length (s.node n) ≤ node_size p - 0 = omega (arith, b.ground.long n) in drop_of_length-le (s.node n) short
+  -- ---- the image is the standing one
+  abbrev pub image : Image
+  image = standing_image p (s.node n) aim
 
-  -- what the decision on an accepted image, which is the standing one, leads to
-  module _ (decides : (image : Image) → length ws ≡ node_size p → image_in (seen_of p ws) ≡ Some image → accepted p (reads_with n ws) ≡ Some image → Lands (did (rd (reads_with n ws)) aim depth image (decision_of p m.call aim image))) where
-    accepted_is : (image : Image) → nat_lt (length ws) (node_size p) ≡ false → image_in (seen_of p ws) ≡ Some image → accepted p (reads_with n ws) ≡ Some image
-    accepted_is image e q = rw e q
+  abbrev key : ℕ
+  key = aimed_key r.call aim
 
-    accepts : (image : Image) → image_in (seen_of p ws) ≡ Some image → nat_lt (length ws) (node_size p) ≡ false → length ws ≡ node_size p → Lands (held_by (rd (reads_with n ws)) aim depth (accepted p (reads_with n ws)))
-    accepts image q e long mv = decides image long q (accepted_is image e q) (subst (λ (o : Option Image). Moves Has i (becomes i (me p i a m (Holds aim depth)) s.log [] (held_by (rd (reads_with n ws)) aim depth o)) Now) (accepted_is image e q) mv)
+  is_key : IsKey key
+  is_key = aim_key p s i a.first a.point a.seen r.call r.reply aim K.work.duty K.work.seated.in_range K.work.fits.holds.at.duty_is K.work.owes
 
-    lands : (v : Seen) → seen_of p ws ≡ v → nat_lt (length ws) (node_size p) ≡ false → length ws ≡ node_size p → Lands (hold_by (rd (left_by v (reads_with n ws))) aim depth (answer_to v))
-    lands (LeafSeen y) q e long mv = accepts (LeafImage y) (ap image_in q) e long mv
-    lands (InnerSeen y) q e long mv = accepts (InnerImage y) (ap image_in q) e long mv
-    lands (Torn rear front) q e long mv = reads_on torn [] refl (omega (arith, node_size_is p)) none_yet mv
-    lands (TornEntry index rear front) q e long mv = reads_on torn [] refl (omega (arith, node_size_is p)) none_yet mv
-    lands OddSeen q e long mv = gives m.tally ws (Starts aim) refl K.work.fits.0 refl mv
+  well : StandsWell p s (s.node n) K.work.fits.holds.at.there.low aim
+  well = stands_well p ok words s b.ground i a.first a.point a.seen n r.call r.reply aim K.work.duty K.work.fits.holds.at.duty_is K.work.owes K.work.fits.holds.at.there
 
-    loads : (t : Bool) → nat_lt (length ws) (node_size p) ≡ t → Lands (hold_by (rd (if t then reads_with n ws else left_by (seen_of p ws) (reads_with n ws))) aim depth (if t then More else answer_to (seen_of p ws)))
-    loads true e mv = reads_on m.tally ws refl (is_lt (length ws) (node_size p) e) more mv
-    loads false e mv = let le = not_lt (length ws) (node_size p) e in lands (seen_of p ws) refl e (omega (arith, le, K.work.fits.3.left)) mv
+  -- the descent starts again
+  pub restarts : Lands (did M aim depth image decision.Restart)
+  restarts mv = gives (record r { reads = rd }) (Starts aim) record { call_is = refl; reply_is = refl; spare_is = refl; skips_are = refl } K.work.fits.holds.at.duty_is refl mv
 
-    pub hold : Lands (hold_by (rd (if nat_lt (length ws) (node_size p) then reads_with n ws else left_by (seen_of p ws) (reads_with n ws))) aim depth (if nat_lt (length ws) (node_size p) then More else answer_to (seen_of p ws)))
-    hold mv = loads (nat_lt (length ws) (node_size p)) refl mv
+  -- the lock to the right is taken
+  goes_right : (next : ℕ) → IsNamed s (target aim) next key → Lands (did M aim depth image (decision.Right next))
+  goes_right next named mv = gives (record r { reads = rd; tally = record r.tally { rights = up r.tally.rights } }) (Takes aim next) record { call_is = refl; reply_is = refl; spare_is = refl; skips_are = refl } record { duty_is = K.work.fits.holds.at.duty_is; there = named } refl mv
+
+  -- what is wrong of an image, and where the word that is fed leads
+  abbrev wrong : Image → Bool
+  wrong x = is_wrong p r.call aim x
+
+  abbrev pub Feeds : (t : Bool) → Type 0
+  Feeds t = LandsWell (of_read true (of_image wrong (accepted p (if t then rd else reads_left (seen_of p ws) rd))) (if t then More else answer_to (seen_of p ws))) (hold_by (with (if t then rd else reads_left (seen_of p ws) rd)) aim depth (if t then More else answer_to (seen_of p ws)))
+
+  -- what is left is the decision where the node covers the key
+  module _ (here : ws ≡ s.node n → accepted p rd ≡ Some image → hop_of image key (target aim) ≡ Here → Lands (did M aim depth image (decided_here p r.call aim image))) where
+    by_hop : (hop : Hop) → hop_of image key (target aim) ≡ hop → ws ≡ s.node n → accepted p rd ≡ Some image → LandsWell (is_wrong_by p aim image hop) (did M aim depth image (decided_by p r.call aim image hop))
+    by_hop Here e is acc = (well.right, here is acc e)
+    by_hop (Right next) e is acc =
+        let there = K.work.fits.holds.at.there in
+        let named = hop_leads s (target aim) there.low key (target aim) image well.image there.below is_key.1 (omega arith) (Right next) e in
+        subst (λ (t : Bool). LandsWell (not t) (did M aim depth image (if t then decision.Right next else decision.Restart))) (sym (names_node p words s b.ground (target aim) next key named)) (refl, goes_right next named)
+    by_hop (Down child) e is acc =
+        let there = K.work.fits.holds.at.there in
+        let down = hop_leads s (target aim) there.low key (target aim) image well.image there.below is_key.1 (omega arith) (Down child) e in
+        absurd (omega (arith, down.1, down.3))
+    by_hop Restart e is acc = let there = K.work.fits.holds.at.there in absurd (hop_leads s (target aim) there.low key (target aim) image well.image there.below is_key.1 (omega arith) Restart e)
+
+    sees : (x : Image) → LandsWell (of_image wrong (accepted p rd)) (held_by M aim depth (accepted p rd)) → LandsWell (of_read true (of_image wrong (accepted p (reads_left (seen_as x) rd))) (answer_to (seen_as x))) (hold_by (with (reads_left (seen_as x) rd)) aim depth (answer_to (seen_as x)))
+    sees (LeafImage y) z = z
+    sees (InnerImage y) z = z
+
+    loads : (t : Bool) → nat_lt (length ws) (node_size p) ≡ t → Feeds t
+    loads true e =
+        let f = K.work.fits.holds in (
+          refl,
+          λ mv. quiet p ok words Has Now Out i s b a r ph ph (record r { reads = rd }) K record { call_is = refl; reply_is = refl; spare_is = refl; skips_are = refl }
+              record { holds = record { at = f.at; held = f.held }; reading = record { left = is_lt (length ws) (node_size p) e; standing = more } } K.work.hands refl tt mv,
+        )
+    loads false e =
+        let le = not_lt (length ws) (node_size p) e in
+        let is = whole (omega (arith, le, K.work.fits.reading.left)) in
+        let acc = standing_accepted p ok words s b.ground n image ws well.seen is in
+        subst (λ (v : Seen). LandsWell (of_read true (of_image wrong (accepted p (reads_left v rd))) (answer_to v)) (hold_by (with (reads_left v rd)) aim depth (answer_to v))) (sym (ap (seen_of p) is ∙ well.seen))
+        (sees image (subst (λ (o : Option Image). LandsWell (of_image wrong o) (held_by M aim depth o)) (sym acc) (by_hop (hop_of image key (target aim)) refl is acc)))
+
+    pub locked_read : Feeds (nat_lt (length ws) (node_size p))
+    locked_read = loads (nat_lt (length ws) (node_size p)) refl

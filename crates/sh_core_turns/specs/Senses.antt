@@ -11,22 +11,26 @@ use Rattle.sh_image.specs.declared.inner.Image.{Image}
 use Rattle.sh_image.specs.declared.inner.Image.TheVariants.{Leaf as LeafImage, Inner as InnerImage}
 use Rattle.sh_alloc.specs.declared.state.ChunkWant.{ChunkWant}
 use Rattle.sh_alloc.specs.declared.state.ChunkWant.TheVariants as chunk
-use Rattle.sh_alloc.specs.Walks.{fed_by as walk_fed, want_of as walk_wants}
+use Rattle.sh_alloc.specs.Walks.{walk_fed, walk_wants}
 use Rattle.sh_read.specs.declared.state.Progress.{Progress}
 use Rattle.sh_read.specs.declared.state.Progress.TheVariants.{More, Accepted, Again, Odd}
-use Rattle.sh_read.specs.Reads.{accepted, progress_of, fed_by as read_fed}
+use Rattle.sh_read.specs.Reads.{accepted, progress_of, read_fed}
 use Rattle.sh_descend.specs.Descent.{hop_of}
 use Rattle.sh_descend.specs.declared.Hop.{Hop}
 use Rattle.sh_descend.specs.declared.Hop.TheVariants.{Here, Right, Down, Restart}
 use Rattle.sh_decide.specs.declared.state.Aim.{Aim}
 use Rattle.sh_decide.specs.declared.state.Aim.TheVariants.{Own, Posts}
+use Rattle.sh_client.specs.declared.state.Need.{Need}
+use Rattle.sh_client.specs.declared.state.Need.TheVariants.{ToSplit}
 use Rattle.sh_client.specs.declared.state.Phase.{Phase}
-use Rattle.sh_client.specs.declared.state.Phase.TheVariants.{Root, Read, Hold, Seek, Waiting}
+use Rattle.sh_client.specs.declared.state.Phase.TheVariants.{Root, Read, ReadLocked, Seek, Waiting}
+use Rattle.sh_client.specs.declared.state.Then.{Then}
 use Rattle.sh_client.specs.declared.state.Then.TheVariants.{Starts}
+use Rattle.sh_client.specs.declared.state.Write.{Write}
 use Rattle.sh_client.specs.declared.state.Write.TheVariants.{Nothing}
 use Rattle.sh_client.specs.declared.state.Want.TheVariants as want
 use Rattle.sh_client.specs.Machine.{Machine}
-use Rattle.sh_decide.specs.Aims.{is_node, key_of, takes_lock, target}
+use Rattle.sh_decide.specs.Aims.{is_node, aimed_key, takes_lock, target}
 use Rattle.sh_decide.specs.Leaves.{are_keys_once}
 use Rattle.sh_decide.specs.Deciding.{has_separator}
 use Rattle.sh_decide.specs.Ways.{is_below}
@@ -51,7 +55,7 @@ strays_by p call aim image Restart = true
 
 -- no hop is asked of the root that a new root goes over
 abbrev pub strays : ConfigParts → Call → Aim → (top : Bool) → Image → Bool
-strays p call aim top image = if top && is_below aim image then false else strays_by p call aim image (hop_of image (key_of call aim) (target aim))
+strays p call aim top image = if top && is_below aim image then false else strays_by p call aim image (hop_of image (aimed_key call aim) (target aim))
 
 -- ---- an image that was READ under its lock
 
@@ -76,7 +80,7 @@ is_wrong_by p aim image (Down child) = true
 is_wrong_by p aim image Restart = true
 
 abbrev pub is_wrong : ConfigParts → Call → Aim → Image → Bool
-is_wrong p call aim image = is_wrong_by p aim image (hop_of image (key_of call aim) (target aim))
+is_wrong p call aim image = is_wrong_by p aim image (hop_of image (aimed_key call aim) (target aim))
 
 -- ---- a turn
 
@@ -97,13 +101,18 @@ abbrev pub of_walk : (split : Bool) → ChunkWant → Bool
 of_walk split (chunk.Got server chunk) = split
 of_walk split want = false
 
+-- the node in hand is to be split, and is of the other kind
+abbrev pub splits_other_kind : Machine → Need → Bool
+splits_other_kind m (ToSplit aim depth) = of_image (λ (x : Image). is_other_kind aim x) (accepted m.setting m.registers.reads)
+splits_other_kind m need = false
+
 -- Fed this word, a client does so: at the root word with a number that names no node; in a READ, which under a lock may
 -- not be torn either; and with a chunk for the split of a node of the other kind.
 abbrev pub is_senseless_in : Machine → (word : ℕ) → Phase → Bool
 is_senseless_in m word (Root aim) = not (is_node m.setting word)
-is_senseless_in m word (Read aim top) = of_read false (of_image (λ (x : Image). strays m.setting m.call aim top x) (accepted m.setting (read_fed m.setting m.reads word))) (progress_of m.setting m.reads word)
-is_senseless_in m word (Hold aim depth) = of_read true (of_image (λ (x : Image). is_wrong m.setting m.call aim x) (accepted m.setting (read_fed m.setting m.reads word))) (progress_of m.setting m.reads word)
-is_senseless_in m word (Seek aim depth) = of_walk (of_image (λ (x : Image). is_other_kind aim x) (accepted m.setting m.reads)) (walk_wants m.setting (walk_fed m.setting m.walk word))
+is_senseless_in m word (Read aim top) = of_read false (of_image (λ (x : Image). strays m.setting m.registers.call aim top x) (accepted m.setting (read_fed m.setting m.registers.reads word))) (progress_of m.setting m.registers.reads word)
+is_senseless_in m word (ReadLocked aim depth) = of_read true (of_image (λ (x : Image). is_wrong m.setting m.registers.call aim x) (accepted m.setting (read_fed m.setting m.registers.reads word))) (progress_of m.setting m.registers.reads word)
+is_senseless_in m word (Seek need) = of_walk (splits_other_kind m need) (walk_wants m.setting (walk_fed m.setting m.registers.walk word))
 is_senseless_in m word phase = false
 
 abbrev pub is_senseless : Machine → (word : ℕ) → Bool
@@ -116,8 +125,12 @@ is_at_root (Root aim) = true
 is_at_root phase = false
 
 -- its lock is given back with nothing written, and its descent or its post starts again
+abbrev pub starts_unwritten : Write → Then → Bool
+starts_unwritten Nothing (Starts aim) = true
+starts_unwritten write after = false
+
 abbrev pub gives_back : Phase → Bool
-gives_back (Waiting node depth Nothing (Starts aim)) = true
+gives_back (Waiting depth giving) = starts_unwritten giving.write giving.after
 gives_back phase = false
 
 -- or its READ under the lock begins again
@@ -126,26 +139,26 @@ is_none [] = true
 is_none (x ∷ loaded) = false
 
 abbrev pub leaves_off : Phase → (loaded : List ℕ) → Bool
-leaves_off (Hold aim depth) loaded = is_none loaded
+leaves_off (ReadLocked aim depth) loaded = is_none loaded
 leaves_off phase loaded = gives_back phase
 
 -- Behind one of these turns a client is at the root word, or on its way there, or at the begin of its READ.
 abbrev pub starts_again : Phase → Machine → Bool
 starts_again (Root aim) m = is_at_root m.phase
 starts_again (Read aim top) m = is_at_root m.phase
-starts_again (Hold aim depth) m = leaves_off m.phase m.reads.loaded
-starts_again (Seek aim depth) m = gives_back m.phase
+starts_again (ReadLocked aim depth) m = leaves_off m.phase m.registers.reads.loaded
+starts_again (Seek need) m = gives_back m.phase
 starts_again phase m = false
 
 -- only an update and a post take a lock, and ranges have no turns of their own yet
 abbrev pub IsMade : Call → Phase → Type 0
 IsMade call (Read aim top) = (low high : ℕ) → call ≢ Range low high
-IsMade call (Hold aim depth) = takes_lock call aim ≡ true
+IsMade call (ReadLocked aim depth) = takes_lock call aim ≡ true
 IsMade call phase = Unit {0}
 
 -- a client starts again in the senseless cases, and in no other
 abbrev pub AreAllCases : Type 0
-AreAllCases = (m : Machine) (word : ℕ) → IsMade m.call m.phase → is_senseless m word ≡ starts_again m.phase (fed_by m word)
+AreAllCases = (m : Machine) (word : ℕ) → IsMade m.registers.call m.phase → is_senseless m word ≡ starts_again m.phase (fed_by m word)
 
 -- What a wanted event finds is never senseless, whatever the order of the clients' turns.
 abbrev pub NeverSenseless : ConfigParts → Type 1

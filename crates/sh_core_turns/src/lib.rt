@@ -10,7 +10,7 @@ ghost use Rattle.sh_base.specs.declared.event.Event.{Event};
 ghost use Rattle.sh_map.specs.declared.call.Call.{Call};
 ghost use Rattle.sh_map.specs.declared.log.Entry.{Entry};
 ghost use Rattle.sh_map.specs.Calls.{IsInRange};
-ghost use Rattle.sh_own.specs.Laid.{AreLaid};
+ghost use Rattle.sh_image.specs.Laid.{AreLaid};
 ghost use Rattle.sh_decide.specs.declared.state.Aim.{Aim};
 ghost use Rattle.sh_client.specs.declared.state.Then.{Then};
 ghost use Rattle.sh_client.specs.declared.state.Want.TheVariants as want;
@@ -18,7 +18,7 @@ ghost use Rattle.sh_client.specs.declared.state.Phase.TheVariants.{Look, Leave, 
 ghost use Rattle.sh_client.specs.Giving.{makes};
 ghost use Rattle.sh_client.specs.Rests.{is_resting};
 ghost use Rattle.sh_client.specs.Wants.{want_of};
-ghost use Rattle.sh_core.specs.Actors.{Actor, begun, rested, stepped, turned};
+ghost use Rattle.sh_core.specs.Actors.{Actor, actor_begun, rested, actor_stepped, actor_turned};
 ghost use Rattle.sh_core.specs.Core.{HasSeen, IsLocal};
 ghost use Rattle.sh_core.specs.Opening.{entered};
 ghost use Rattle.sh_core.specs.Listed.{HasAt, RightOut, OutAt, without, IsKept};
@@ -35,11 +35,11 @@ use sh_base::Config;
 pub fn clients_take_turns(cfg: &Config)
     ensures laid { (words : List ℕ) → AreLaid (parts_of cfg.now) words → IsKept (parts_of cfg.now) words [] [] [] }
     ensures entered { (words : List ℕ) (log : List Entry) (actors : List Actor) (rights : List RightOut) → IsKept (parts_of cfg.now) words log actors rights → length actors < all_seats (parts_of cfg.now) → IsKept (parts_of cfg.now) words log (actors ++ entered (parts_of cfg.now) (length actors) ∷ []) rights }
-    ensures begun { (words : List ℕ) (log : List Entry) (actors : List Actor) (rights : List RightOut) (seat number n : ℕ) (a : Actor) (call : Call) → IsKept (parts_of cfg.now) words log actors rights → HasAt actors seat a → is_resting a.client ≡ true → IsInRange (parts_of cfg.now) call → a.seen ≤ n → n ≤ length log → IsKept (parts_of cfg.now) words log (slice_set actors seat (begun a number call n)) rights }
-    ensures turn { (words : List ℕ) (log : List Entry) (actors : List Actor) (rights : List RightOut) (seat : ℕ) (a : Actor) (e : Event) → IsKept (parts_of cfg.now) words log actors rights → HasAt actors seat a → want_of a.client ≡ want.Event e → IsKept (parts_of cfg.now) (apply words e) (log ++ makes a.client) (slice_set actors seat (stepped seat a log (found_by words e))) rights }
-    ensures local { (words : List ℕ) (log seen : List Entry) (actors : List Actor) (rights : List RightOut) (seat word : ℕ) (a : Actor) → IsKept (parts_of cfg.now) words log actors rights → HasAt actors seat a → IsLocal (want_of a.client) → HasSeen log seen a → IsKept (parts_of cfg.now) words log (slice_set actors seat (stepped seat a seen word)) rights }
-    ensures look { (words : List ℕ) (log seen : List Entry) (actors : List Actor) (rights : List RightOut) (seat n : ℕ) (a : Actor) (aim : Aim) → IsKept (parts_of cfg.now) words log actors rights → HasAt actors seat a → a.client.phase ≡ Look aim n → HasSeen log seen a → IsKept (parts_of cfg.now) words log (slice_set actors seat (turned seat a seen None)) rights }
-    ensures take { (words : List ℕ) (log seen : List Entry) (actors : List Actor) (rights : List RightOut) (seat n depth : ℕ) (a : Actor) (aim : Aim) → IsKept (parts_of cfg.now) words log actors rights → HasAt actors seat a → a.client.phase ≡ Look aim n → HasSeen log seen a → OutAt rights (lock_of (parts_of cfg.now) n) (compute_of (parts_of cfg.now) seat) depth → IsKept (parts_of cfg.now) words log (slice_set actors seat (turned seat a seen (Some depth))) (without (lock_of (parts_of cfg.now) n) rights) }
-    ensures part { (words : List ℕ) (log seen : List Entry) (actors : List Actor) (rights : List RightOut) (seat word n depth : ℕ) (a : Actor) (after : Then) → IsKept (parts_of cfg.now) words log actors rights → HasAt actors seat a → a.client.phase ≡ Leave n (Some depth) after → HasSeen log seen a → IsKept (parts_of cfg.now) words log (slice_set actors seat (stepped seat a seen word)) (record { lock = lock_of (parts_of cfg.now) n; compute = compute_of (parts_of cfg.now) seat; depth = depth } ∷ rights) }
+    ensures begun { (words : List ℕ) (log : List Entry) (actors : List Actor) (rights : List RightOut) (seat number n : ℕ) (a : Actor) (call : Call) → IsKept (parts_of cfg.now) words log actors rights → HasAt actors seat a → is_resting a.client ≡ true → IsInRange (parts_of cfg.now) call → a.seen ≤ n → n ≤ length log → IsKept (parts_of cfg.now) words log (slice_set actors seat (actor_begun a number call n)) rights }
+    ensures turn { (words : List ℕ) (log : List Entry) (actors : List Actor) (rights : List RightOut) (seat : ℕ) (a : Actor) (e : Event) → IsKept (parts_of cfg.now) words log actors rights → HasAt actors seat a → want_of a.client ≡ want.Event e → IsKept (parts_of cfg.now) (apply words e) (log ++ makes a.client) (slice_set actors seat (actor_stepped seat a log (found_by words e))) rights }
+    ensures local { (words : List ℕ) (log seen : List Entry) (actors : List Actor) (rights : List RightOut) (seat word : ℕ) (a : Actor) → IsKept (parts_of cfg.now) words log actors rights → HasAt actors seat a → IsLocal (want_of a.client) → HasSeen log seen a → IsKept (parts_of cfg.now) words log (slice_set actors seat (actor_stepped seat a seen word)) rights }
+    ensures look { (words : List ℕ) (log seen : List Entry) (actors : List Actor) (rights : List RightOut) (seat n : ℕ) (a : Actor) (aim : Aim) → IsKept (parts_of cfg.now) words log actors rights → HasAt actors seat a → a.client.phase ≡ Look aim n → HasSeen log seen a → IsKept (parts_of cfg.now) words log (slice_set actors seat (actor_turned seat a seen None)) rights }
+    ensures take { (words : List ℕ) (log seen : List Entry) (actors : List Actor) (rights : List RightOut) (seat n depth : ℕ) (a : Actor) (aim : Aim) → IsKept (parts_of cfg.now) words log actors rights → HasAt actors seat a → a.client.phase ≡ Look aim n → HasSeen log seen a → OutAt rights (lock_of (parts_of cfg.now) n) (compute_of (parts_of cfg.now) seat) depth → IsKept (parts_of cfg.now) words log (slice_set actors seat (actor_turned seat a seen (Some depth))) (without (lock_of (parts_of cfg.now) n) rights) }
+    ensures part { (words : List ℕ) (log seen : List Entry) (actors : List Actor) (rights : List RightOut) (seat word n depth : ℕ) (a : Actor) (after : Then) → IsKept (parts_of cfg.now) words log actors rights → HasAt actors seat a → a.client.phase ≡ Leave n (Some depth) after → HasSeen log seen a → IsKept (parts_of cfg.now) words log (slice_set actors seat (actor_stepped seat a seen word)) (record { lock = lock_of (parts_of cfg.now) n; compute = compute_of (parts_of cfg.now) seat; depth = depth } ∷ rights) }
     ensures ended { (words : List ℕ) (log : List Entry) (actors : List Actor) (rights : List RightOut) (seat : ℕ) (a : Actor) → IsKept (parts_of cfg.now) words log actors rights → HasAt actors seat a → a.client.phase ≡ Ended → IsKept (parts_of cfg.now) words log (slice_set actors seat (rested a)) rights }
 {}

@@ -4,11 +4,11 @@ use Rattle.sh_base.specs.declared.config.ConfigParts.{ConfigParts}
 use Rattle.sh_base.specs.Setting.{nodes}
 use Rattle.sh_map.specs.declared.call.Call.{Call}
 use Rattle.sh_map.specs.declared.call.Call.TheVariants.{Get, Put, Del, Range}
-use Rattle.sh_decide.specs.declared.state.Post.{Post}
+use Rattle.sh_decide.specs.declared.state.Posting.{Posting}
 use Rattle.sh_decide.specs.declared.state.Aim.{Aim}
 use Rattle.sh_decide.specs.declared.state.Aim.TheVariants.{Own, Posts}
 
-abbrev pub post_of : (separator node level : ℕ) → Post
+abbrev pub post_of : (separator node level : ℕ) → Posting
 post_of separator node level = record { separator = separator; node = node; level = level }
 
 -- a call's key, and a range's low end
@@ -19,22 +19,22 @@ call_key (Del key) = key
 call_key (Range low high) = low
 
 -- the key and the value that an update leaves in its entry: a delete an empty entry
-abbrev pub left_key : Call → ℕ
-left_key (Get key) = 0
-left_key (Put key value) = key
-left_key (Del key) = 0
-left_key (Range low high) = 0
+abbrev pub written_key : Call → ℕ
+written_key (Get key) = 0
+written_key (Put key value) = key
+written_key (Del key) = 0
+written_key (Range low high) = 0
 
-abbrev pub left_value : ConfigParts → Call → List ℕ
-left_value p (Get key) = replicate p.value_words 0
-left_value p (Put key value) = value
-left_value p (Del key) = replicate p.value_words 0
-left_value p (Range low high) = replicate p.value_words 0
+abbrev pub written_value : ConfigParts → Call → List ℕ
+written_value p (Get key) = replicate p.value_words 0
+written_value p (Put key value) = value
+written_value p (Del key) = replicate p.value_words 0
+written_value p (Range low high) = replicate p.value_words 0
 
 -- the key that a descent looks for
-abbrev pub key_of : Call → Aim → ℕ
-key_of call Own = call_key call
-key_of call (Posts post) = post.separator
+abbrev pub aimed_key : Call → Aim → ℕ
+aimed_key call Own = call_key call
+aimed_key call (Posts post) = post.separator
 
 -- the level at which it ends
 abbrev pub target : Aim → ℕ

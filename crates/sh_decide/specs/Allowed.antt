@@ -12,20 +12,20 @@ use Rattle.sh_decide.specs.declared.state.Way.{Way}
 use Rattle.sh_decide.specs.declared.state.Way.TheVariants as way
 use Rattle.sh_decide.specs.declared.state.Decision.{Decision}
 use Rattle.sh_decide.specs.declared.state.Decision.TheVariants as decision
-use Rattle.sh_decide.specs.Aims.{left_key}
+use Rattle.sh_decide.specs.Aims.{written_key}
 use Rattle.sh_decide.specs.Leaves.{version_at}
 
 -- a leaf that a put splits, or an inner node that a post splits
 abbrev pub CanSplit : ConfigParts → Call → Aim → Image → Type 0
-CanSplit p call Own (LeafImage a) = IsSplit a (left_key call) × (a.version < 2 ^ 64 - 1)
+CanSplit p call Own (LeafImage a) = IsSplit a (written_key call) × (a.version < 2 ^ 64 - 1)
 CanSplit p call (Posts post) (InnerImage a) = (length a.pairs ≡ 2 * p.leaf) × (a.version < 2 ^ 64 - 1)
 CanSplit p call Own (InnerImage a) = ⊥
 CanSplit p call (Posts post) (LeafImage a) = ⊥
 
 -- an image that may be written so: it has the entry, and a version is left
-abbrev pub HasEntry : Image → (index : ℕ) → Type 0
-HasEntry (LeafImage a) index = index < length a.entries
-HasEntry (InnerImage a) index = ⊥
+abbrev pub HasEntryAt : Image → (index : ℕ) → Type 0
+HasEntryAt (LeafImage a) index = index < length a.entries
+HasEntryAt (InnerImage a) index = ⊥
 
 -- the entry's version isn't the last one
 abbrev pub CanChange : Image → (index : ℕ) → Type 0
@@ -47,7 +47,7 @@ Allows p call aim image decision.Restart = Unit {0}
 Allows p call aim image (decision.Right node) = IsNode p node
 Allows p call aim image decision.Absent = Unit {0}
 Allows p call aim image (decision.Entry index) = CanChange image index
-Allows p call aim image (decision.Rewrite index) = HasEntry image index × HasVersion image
+Allows p call aim image (decision.Rewrite index) = HasEntryAt image index × HasVersion image
 Allows p call aim image (decision.Worn version) = Unit {0}
 Allows p call aim image decision.Split = CanSplit p call aim image
 Allows p call aim image decision.Skip = Unit {0}

@@ -1,5 +1,5 @@
 -- What an image that was READ under its lock leads to.
-use Rattle.std.specs.Prelude.{ℕ, ◌+◌, ◌*◌, ◌==◌, ◌||◌, if◌then◌else◌, nat_lt, Bool, true, false, List, [], ◌∷◌, length, Option, Some, None}
+use Rattle.std.specs.Prelude.{ℕ, ◌*◌, ◌==◌, ◌||◌, if◌then◌else◌, nat_lt, Bool, false, List, [], ◌∷◌, length, Option, Some, None}
 use Rattle.sh_base.specs.declared.config.ConfigParts.{ConfigParts}
 use Rattle.sh_base.specs.Setting.{last_version, last_entry_version}
 use Rattle.sh_map.specs.declared.call.Call.{Call}
@@ -12,12 +12,11 @@ use Rattle.sh_image.specs.declared.inner.Image.TheVariants.{Leaf as LeafImage, I
 use Rattle.sh_descend.specs.Descent.{hop_of}
 use Rattle.sh_descend.specs.declared.Hop.{Hop}
 use Rattle.sh_descend.specs.declared.Hop.TheVariants.{Here, Right as HopRight, Down, Restart as HopRestart}
-use Rattle.sh_decide.specs.declared.state.Post.{Post}
 use Rattle.sh_decide.specs.declared.state.Aim.{Aim}
 use Rattle.sh_decide.specs.declared.state.Aim.TheVariants.{Own, Posts}
 use Rattle.sh_decide.specs.declared.state.Decision.{Decision}
 use Rattle.sh_decide.specs.declared.state.Decision.TheVariants.{Restart, Right, Absent, Entry, Rewrite, Worn, Split, Skip, Add}
-use Rattle.sh_decide.specs.Aims.{is_node, key_of, target}
+use Rattle.sh_decide.specs.Aims.{is_node, aimed_key, target}
 use Rattle.sh_decide.specs.Leaves.{are_keys_once, index_of, version_at}
 
 -- an update that needs more than one entry is refused where the node's version is the last one
@@ -75,4 +74,4 @@ decided_by p call aim image (Down child) = Restart
 decided_by p call aim image HopRestart = Restart
 
 abbrev pub decision_of : ConfigParts → Call → Aim → Image → Decision
-decision_of p call aim image = decided_by p call aim image (hop_of image (key_of call aim) (target aim))
+decision_of p call aim image = decided_by p call aim image (hop_of image (aimed_key call aim) (target aim))

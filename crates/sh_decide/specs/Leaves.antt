@@ -11,8 +11,8 @@ reply_with (Some value) = reply.Some value
 reply_with None = reply.None
 
 -- what the first entry with the key answers
-abbrev pub answer_of : List LeafEntry → (key : ℕ) → Reply
-answer_of entries key = reply_with (held entries key)
+abbrev pub leaf_answer : List LeafEntry → (key : ℕ) → Reply
+leaf_answer entries key = reply_with (held entries key)
 
 -- the index of the first entry with the key, counted from i on, or none
 abbrev pub index_from : ℕ → List LeafEntry → (key : ℕ) → Option ℕ
@@ -28,11 +28,11 @@ abbrev pub version_at : List LeafEntry → ℕ → ℕ
 version_at entries i = let e = slice_index_or entries i no_entry in e.version
 
 -- an entry has the key
-abbrev pub has_key : List LeafEntry → (key : ℕ) → Bool
-has_key [] key = false
-has_key (e ∷ es) key = (e.key == key) || has_key es key
+abbrev pub has_leaf_key : List LeafEntry → (key : ℕ) → Bool
+has_leaf_key [] key = false
+has_leaf_key (e ∷ es) key = (e.key == key) || has_leaf_key es key
 
 -- no key stands twice; empty entries may
 abbrev pub are_keys_once : List LeafEntry → Bool
 are_keys_once [] = true
-are_keys_once (e ∷ es) = ((e.key == 0) || not (has_key es e.key)) && are_keys_once es
+are_keys_once (e ∷ es) = ((e.key == 0) || not (has_leaf_key es e.key)) && are_keys_once es

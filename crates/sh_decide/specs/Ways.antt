@@ -12,7 +12,7 @@ use Rattle.sh_decide.specs.declared.state.Aim.{Aim}
 use Rattle.sh_decide.specs.declared.state.Aim.TheVariants.{Own, Posts}
 use Rattle.sh_decide.specs.declared.state.Way.{Way}
 use Rattle.sh_decide.specs.declared.state.Way.TheVariants.{Root, Read, Right, Lock, LockRight, Grow, Found}
-use Rattle.sh_decide.specs.Aims.{is_node, key_of, takes_lock, target}
+use Rattle.sh_decide.specs.Aims.{is_node, aimed_key, takes_lock, target}
 
 -- the root that was READ is a level too low for the post: a new root goes over it
 abbrev pub is_below : Aim → Image → Bool
@@ -45,4 +45,4 @@ way_by p call aim node image Restart = Root
 -- top: the root word named this node
 abbrev pub way_of : ConfigParts → Call → Aim → (top : Bool) → (node : ℕ) → Image → Way
 way_of p call aim top node image =
-    if top && is_below aim image then Grow else way_by p call aim node image (hop_of image (key_of call aim) (target aim))
+    if top && is_below aim image then Grow else way_by p call aim node image (hop_of image (aimed_key call aim) (target aim))

@@ -4,7 +4,7 @@ ghost use Rattle.sh_base.specs.Parts.{parts_of};
 ghost use Rattle.sh_base.specs.Setting.{IsNode};
 ghost use Rattle.sh_map.specs.Calls.{IsInRange};
 ghost use Rattle.sh_decide.specs.declared.state.Aim.TheVariants.{Own};
-ghost use Rattle.sh_decide.specs.Aims.{call_key, is_node, key_of, left_key, left_value, takes_lock, target};
+ghost use Rattle.sh_decide.specs.Aims.{call_key, is_node, aimed_key, written_key, written_value, takes_lock, target};
 
 use crate::Aim;
 use sh_base::{Config, Value};
@@ -24,8 +24,8 @@ pub fn call_key(call: &Call) -> u64
 
 /// The key that an update leaves in its entry: a put its own, and a delete 0, as an empty entry has. Of a get or a range
 /// it is 0, too.
-pub fn left_key(call: &Call) -> u64
-    ensures { result ≡ left_key call.now }
+pub fn written_key(call: &Call) -> u64
+    ensures { result ≡ written_key call.now }
 {
     match *call {
         Call::Get { .. } => 0,
@@ -45,9 +45,9 @@ fn zeros(cfg: &Config) -> Value
 
 /// The value that an update leaves in its entry, with as many words as the setting's values have: a put its own, and a
 /// delete words of 0. So of a get or a range. Condition: the call is in range.
-pub fn left_value(cfg: &Config, call: &Call) -> Value
+pub fn written_value(cfg: &Config, call: &Call) -> Value
     requires { IsInRange (parts_of cfg.now) call.now }
-    ensures value { result ≡ left_value (parts_of cfg.now) call.now }
+    ensures value { result ≡ written_value (parts_of cfg.now) call.now }
     ensures size { length result ≡ cfg.now.parts.value_words }
 {
     match *call {
@@ -59,8 +59,8 @@ pub fn left_value(cfg: &Config, call: &Call) -> Value
 }
 
 // The key that a descent looks for.
-pub(crate) fn key_of(call: &Call, aim: Aim) -> u64
-    ensures { result ≡ key_of call.now aim }
+pub(crate) fn aimed_key(call: &Call, aim: Aim) -> u64
+    ensures { result ≡ aimed_key call.now aim }
 {
     match aim {
         Aim::Own => call_key(call),

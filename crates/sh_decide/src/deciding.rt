@@ -10,9 +10,9 @@ ghost use Rattle.sh_map.specs.Calls.{IsInRange};
 ghost use Rattle.sh_map.specs.declared.call.Call.{Call};
 ghost use Rattle.sh_decide.specs.declared.state.Aim.{Aim};
 ghost use Rattle.sh_decide.specs.declared.state.Aim.TheVariants.{Own, Posts};
-ghost use Rattle.sh_decide.specs.Aims.{left_key};
+ghost use Rattle.sh_decide.specs.Aims.{written_key};
 ghost use Rattle.sh_decide.specs.Leaves.{index_of};
-ghost use Rattle.sh_decide.specs.declared.state.Post.{Post};
+ghost use Rattle.sh_decide.specs.declared.state.Posting.{Posting};
 ghost use Rattle.sh_descend.specs.declared.Hop.TheVariants.{Right as HopRight};
 ghost use Rattle.sh_decide.specs.Deciding.{change_at, decided_by, decided_here, decision_of, del_in, has_separator, post_in, put_in, update_in};
 ghost use Rattle.sh_decide.specs.Allowed.{Allows};
@@ -125,7 +125,7 @@ fn update(cfg: &Config, call: &Call, leaf: &LeafImage) -> Decision
 // A put.
 fn put(cfg: &Config, call: &Call, leaf: &LeafImage, key: u64) -> Decision
     requires is_key { 1 ≤ key }
-    requires key { left_key call.now ≡ key }
+    requires key { written_key call.now ≡ key }
     requires leaf { IsLeaf (parts_of cfg.now) leaf.now }
     requires once { HasKeysOnce leaf.now.entries }
     ensures exact { result ≡ put_in (parts_of cfg.now) leaf.now (index_of leaf.now.entries key) }
@@ -176,7 +176,7 @@ fn change(cfg: &Config, leaf: &LeafImage, index: u32) -> Decision
 fn post_decision(cfg: &Config, inner: &InnerImage) -> Decision
     requires { IsInner (parts_of cfg.now) inner.now }
     ensures exact { result ≡ post_in (parts_of cfg.now) inner.now }
-    ensures allows { (call : Call) (post : Post) → Allows (parts_of cfg.now) call (Posts post) (OfInner inner.now) result }
+    ensures allows { (call : Call) (post : Posting) → Allows (parts_of cfg.now) call (Posts post) (OfInner inner.now) result }
 {
     if inner.version() >= cfg.last_version() {
         Decision::Skip

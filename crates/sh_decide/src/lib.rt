@@ -7,8 +7,8 @@ mod leaves;
 mod state;
 mod ways;
 
-pub use aims::{call_key, left_key, left_value, node_in};
+pub use aims::{call_key, node_in, written_key, written_value};
 pub use deciding::decision;
 pub use leaves::answer;
-pub use state::{Aim, Decision, Post, Way};
+pub use state::{Aim, Decision, Posting, Way};
 pub use ways::way;

@@ -2,7 +2,7 @@
 
 /// The post of a node: its number goes, with its low fence, into the node above it, which has this level.
 #[derive(Clone, Copy, Debug, PartialEq, Eq)]
-pub struct Post {
+pub struct Posting {
     pub separator: u64,
     pub node: u32,
     pub level: u64,
@@ -12,7 +12,7 @@ pub struct Post {
 #[derive(Clone, Copy, Debug, PartialEq, Eq)]
 pub enum Aim {
     Own,
-    Posts { post: Post },
+    Posts { post: Posting },
 }
 
 /// Where a READ without a lock leads: to the root word again, to a READ of a node below or to the right, to the lock of

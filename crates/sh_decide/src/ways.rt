@@ -6,11 +6,11 @@ ghost use Rattle.sh_descend.specs.Descent.{hop_of, level_of};
 ghost use Rattle.sh_image.specs.Node.{IsImage};
 ghost use Rattle.sh_decide.specs.declared.state.Aim.TheVariants.{Own};
 ghost use Rattle.sh_descend.specs.declared.Hop.TheVariants.{Right as HopRight, Down as HopDown};
-ghost use Rattle.sh_decide.specs.Aims.{key_of, target};
+ghost use Rattle.sh_decide.specs.Aims.{aimed_key, target};
 ghost use Rattle.sh_decide.specs.Ways.{found_in, is_below, way_by, way_here, way_of};
 ghost use Rattle.sh_decide.specs.Allowed.{Leads};
 
-use crate::aims::{is_next, is_node, key_of, takes_lock, target};
+use crate::aims::{aimed_key, is_next, is_node, takes_lock, target};
 use crate::{Aim, Way};
 use sh_base::Config;
 use sh_descend::{Hop, next_hop};
@@ -40,10 +40,10 @@ pub fn way(cfg: &Config, call: &Call, aim: Aim, top: bool, node: u32, image: &Im
 // The hop to the node that the descent is for.
 pub(crate) fn hop(cfg: &Config, call: &Call, aim: Aim, image: &Image) -> Hop
     requires { IsImage (parts_of cfg.now) image.now }
-    ensures { result ≡ hop_of image.now (key_of call.now aim) (target aim) }
+    ensures { result ≡ hop_of image.now (aimed_key call.now aim) (target aim) }
 {
     let _leaf = cfg.leaf();
-    next_hop(image, key_of(call, aim), target(aim))
+    next_hop(image, aimed_key(call, aim), target(aim))
 }
 
 // The level of an image.

@@ -4,19 +4,14 @@ use Rattle.std.specs.Prelude.{slice_get, ◌==◌, ◌||◌, nat_lt, nat_le, if�
 use Rattle.std.proofs.lemmas.Bool.{cases_lt}
 use Rattle.std.proofs.lemmas.Bool.Decides.{nat_tests}
 use Rattle.std.proofs.lemmas.Option.{slice_get_within}
+use Rattle.sh_logic.proofs.Tests.{less_test, not_less_test}
 use Rattle.sh_image.specs.declared.inner.Image.{Image}
 use Rattle.sh_image.specs.declared.inner.Image.TheVariants.{Leaf as LeafImage, Inner as InnerImage}
 use Rattle.sh_image.specs.declared.inner.Pair.{Pair}
 use Rattle.sh_image.specs.Inner.{separator_at}
 use Rattle.sh_descend.specs.declared.Hop.{Hop}
 use Rattle.sh_descend.specs.declared.Hop.TheVariants.{Here, Right, Down, Restart}
-use Rattle.sh_descend.specs.Descent.{child_from, child_of, hop_of, pairs_of, Covers, HasSortedPairs, IsSorted}
-
-less_test : (a b : ℕ) → a < b → nat_lt a b ≡ true
-less_test a b h = grind (arith, nat_tests)
-
-not_less_test : (a b : ℕ) → b ≤ a → nat_lt a b ≡ false
-not_less_test a b h = grind (arith, nat_tests)
+use Rattle.sh_descend.specs.Descent.{child_from, child_of, hop_of, image_pairs, Covers, HasSortedPairs, IsSorted}
 
 child_skip : (ps : List Pair) (at : ℕ) (x : Pair) (child key : ℕ) → slice_get ps at ≡ Some x → x.separator ≤ key → child_from child (drop at ps) key ≡ child_from x.child (drop (suc at) ps) key
 child_skip [] at x child key is low = absurd (omega (arith, slice_get_within [] at x is))
@@ -84,7 +79,7 @@ down_is false true here next to child e = absurd (grind arith)
 down_is false false true next to child e = absurd (grind arith)
 down_is false false false next to child e = (refl, refl, ap child_in e)
 
-pub down_covers : (image : Image) (key level child : ℕ) → HasSortedPairs image → hop_of image key level ≡ Down child → Covers (pairs_of image) key child
+pub down_covers : (image : Image) (key level child : ℕ) → HasSortedPairs image → hop_of image key level ≡ Down child → Covers (image_pairs image) key child
 down_covers (LeafImage a) key level child sorted is =
     let d = down_is (nat_lt 0 level || nat_lt key a.low) (nat_le a.high key) (0 == level) a.next 0 child is in
     absurd (grind (arith, nat_tests, d.0, d.1))

@@ -25,9 +25,9 @@ next_of (LeafImage a) = a.next
 next_of (InnerImage a) = a.next
 
 -- a leaf has no pairs
-abbrev pub pairs_of : Image → List Pair
-pairs_of (LeafImage a) = []
-pairs_of (InnerImage a) = a.pairs
+abbrev pub image_pairs : Image → List Pair
+image_pairs (LeafImage a) = []
+image_pairs (InnerImage a) = a.pairs
 
 -- the child of the last pair before the first one whose separator is above the key, and this one where no pair is
 abbrev pub child_from : ℕ → List Pair → ℕ → ℕ
@@ -44,7 +44,7 @@ hop_of image key level =
     if nat_lt (level_of image) level || nat_lt key (low_of image) then Restart
     else if nat_le (high_of image) key then Right (next_of image)
     else if level_of image == level then Here
-    else Down (child_of (pairs_of image) key)
+    else Down (child_of (image_pairs image) key)
 
 -- there is a pair, the separators rise, and the first is the low fence
 pub record IsSorted (low : ℕ) (pairs : List Pair) : Type 0 where

@@ -4,7 +4,7 @@
 ghost use Rattle.std.specs.Prelude.{◌≡◌, ◌≤◌, ℕ, length};
 ghost use Rattle.sh_image.specs.Inner.{Inner};
 ghost use Rattle.sh_image.specs.declared.inner.Image.{Image};
-ghost use Rattle.sh_descend.specs.Descent.{child_of, high_of, hop_of, level_of, low_of, next_of, pairs_of, Covers, HasSortedPairs};
+ghost use Rattle.sh_descend.specs.Descent.{child_of, high_of, hop_of, level_of, low_of, next_of, image_pairs, Covers, HasSortedPairs};
 ghost use Rattle.sh_descend.specs.declared.Hop.TheVariants.{Down};
 
 use sh_image::{Image, InnerImage};
@@ -75,7 +75,7 @@ fn child(inner: &InnerImage, key: u64) -> u32
 /// A hop down leads to the child that covers the key: it stands in the pairs with a separator not above the key, and
 /// each later separator is above the key.
 pub fn down_covers_the_key()
-    ensures { (image : Image) (key level child : ℕ) → HasSortedPairs image → hop_of image key level ≡ Down child → Covers (pairs_of image) key child }
+    ensures { (image : Image) (key level child : ℕ) → HasSortedPairs image → hop_of image key level ≡ Down child → Covers (image_pairs image) key child }
 {}
 
 #[cfg(test)]

@@ -5,6 +5,7 @@ use Rattle.std.proofs.Math.Seq.{take-append-add, drop-append-add}
 use Rattle.std.proofs.lemmas.Bool.{cases_lt}
 use Rattle.std.proofs.lemmas.List.{drop_at, length-set}
 use Rattle.std.specs.List.{flat_map, AllByRecursion}
+use Rattle.sh_logic.proofs.Lists.{all_set}
 use Rattle.sh_base.specs.declared.config.ConfigParts.{ConfigParts}
 use Rattle.sh_base.specs.Setting.{entry_size}
 use Rattle.sh_base.specs.Layout.{entry_at}
@@ -16,13 +17,13 @@ use Rattle.sh_image.specs.Leaf.{Leaf, header, leaf_words, IsEntry, IsLeaf}
 use Rattle.sh_image.proofs.EntriesLemmas.{length-entry_words}
 use Rattle.sh_image.proofs.LeafLemmas.{values_of}
 use Rattle.sh_edit.specs.Held.{map_of_entries, key_at, HasKeysOnce}
-use Rattle.sh_edit.specs.Placing.{IsFirstWith, IsPlace}
+use Rattle.sh_edit.specs.Placing.{IsFirstWith, IsPlaceFor}
 use Rattle.sh_edit.specs.Rewriting.{rewritten, with_entry}
 use Rattle.sh_edit.proofs.HeldLemmas.{over_is_put, new_is_put, removed_is_del, once-set}
-use Rattle.sh_edit.proofs.RewriteLemmas.{all_set, rewritten_once}
+use Rattle.sh_edit.proofs.RewriteLemmas.{rewritten_once}
 
 -- no other entry has the key that is put at its place
-module _ (es : List LeafEntry) (key i : ℕ) (once : HasKeysOnce es) (at : IsPlace es key i) where
+module _ (es : List LeafEntry) (key i : ℕ) (once : HasKeysOnce es) (at : IsPlaceFor es key i) where
   place_within : i < length es
   place_within = elim at [ inl here ↦ here.in_range | inr new ↦ new.1.in_range ]
 
@@ -36,19 +37,19 @@ module _ (es : List LeafEntry) (key i : ℕ) (once : HasKeysOnce es) (at : IsPla
   ]
 
 module _ (a : Leaf) (i : ℕ) (once : HasKeysOnce a.entries) where
-  pub rewritten_placed_once : (key : ℕ) (value : List ℕ) → IsPlace a.entries key i → HasKeysOnce (rewritten a i key value).entries
+  pub rewritten_placed_once : (key : ℕ) (value : List ℕ) → IsPlaceFor a.entries key i → HasKeysOnce (rewritten a i key value).entries
   rewritten_placed_once key value at = rewritten_once a i key value (place_within a.entries key i once at) once (place_apart a.entries key i once at)
 
   pub rewritten_removed_once : (zeros : List ℕ) → i < length a.entries → HasKeysOnce (rewritten a i 0 zeros).entries
   rewritten_removed_once zeros below = rewritten_once a i 0 zeros below once (λ j in_range ne is. refl)
 
-  pub entry_placed_once : (e : LeafEntry) → IsPlace a.entries e.key i → HasKeysOnce (with_entry a i e).entries
+  pub entry_placed_once : (e : LeafEntry) → IsPlaceFor a.entries e.key i → HasKeysOnce (with_entry a i e).entries
   entry_placed_once e at = once-set a.entries i e (place_within a.entries e.key i once at) once (place_apart a.entries e.key i once at)
 
   pub entry_removed_once : (e : LeafEntry) → e.key ≡ 0 → i < length a.entries → HasKeysOnce (with_entry a i e).entries
   entry_removed_once e empty below = once-set a.entries i e below once (λ j in_range ne is. empty)
 
-pub entry_placed : (a : Leaf) (i : ℕ) (e : LeafEntry) → e.key ≢ 0 → IsPlace a.entries e.key i → map_of_entries (with_entry a i e).entries ≡ put (map_of_entries a.entries) e.key e.value
+pub entry_placed : (a : Leaf) (i : ℕ) (e : LeafEntry) → e.key ≢ 0 → IsPlaceFor a.entries e.key i → map_of_entries (with_entry a i e).entries ≡ put (map_of_entries a.entries) e.key e.value
 entry_placed a i e nz at = elim at [ inl here ↦ over_is_put a.entries i e nz here | inr new ↦ new_is_put a.entries i e nz new.0 new.1 ]
 
 pub entry_removed : (a : Leaf) (i key : ℕ) (e : LeafEntry) → key ≢ 0 → e.key ≡ 0 → HasKeysOnce a.entries → IsFirstWith a.entries key i → map_of_entries (with_entry a i e).entries ≡ del (map_of_entries a.entries) key

@@ -2,11 +2,11 @@
 use Rattle.std.proofs.Common.{◌≡◌, ℕ, zero, suc, List, [], ◌∷◌, length, refl, sym, ◌∙◌, arith}
 use Rattle.std.specs.Prelude.{slice_index}
 use Rattle.std.proofs.lemmas.List.{length-map}
-use Rattle.sh_lanes.specs.Scans.{IsFirst, HasNone as LacksWord}
+use Rattle.sh_lanes.specs.Scans.{IsFirst, LacksWord}
 use Rattle.sh_image.specs.declared.leaf.LeafEntry.{LeafEntry}
 use Rattle.sh_image.specs.Entries.{keys_of}
 use Rattle.sh_edit.specs.Held.{key_at}
-use Rattle.sh_edit.specs.Placing.{IsFirstWith, HasNone}
+use Rattle.sh_edit.specs.Placing.{IsFirstWith, LacksKey}
 
 pub key_of_keys : (es : List LeafEntry) (i : ℕ) → slice_index (keys_of es) i ≡ key_at es i
 key_of_keys [] i = refl
@@ -23,5 +23,5 @@ first_with es key i h = record {
   before = λ j below is. h.before j below (key_of_keys es j ∙ is);
 }
 
-pub none_with : (es : List LeafEntry) (key : ℕ) → LacksWord (keys_of es) key → HasNone es key
+pub none_with : (es : List LeafEntry) (key : ℕ) → LacksWord (keys_of es) key → LacksKey es key
 none_with es key h j below is = h j (omega (arith, length_of_keys es)) (key_of_keys es j ∙ is)

@@ -7,17 +7,18 @@ use Rattle.std.specs.FinMap.{is_sorted, entries_sorted}
 use Rattle.std.specs.FinMap.Entries.{below_all}
 use Rattle.std.proofs.lemmas.Bool.{cases_eq, eq-eqb}
 use Rattle.std.proofs.lemmas.List.{length-map, length-replicate, length-take-le, length-drop, length-append}
+use Rattle.sh_logic.proofs.Lists.{all_take, all_drop, all_weaker}
+use Rattle.sh_logic.proofs.Tests.{differ_test, first, second}
 use Rattle.sh_base.specs.declared.config.ConfigParts.{ConfigParts}
 use Rattle.sh_base.specs.Setting.{nodes, last_version}
 use Rattle.sh_map.specs.Map.{put}
-use Rattle.sh_map.proofs.RowsLemmas.{first, second, less}
+use Rattle.sh_map.proofs.RowsLemmas.{less}
 use Rattle.sh_image.specs.declared.leaf.LeafEntry.{LeafEntry}
 use Rattle.sh_image.specs.Leaf.{Leaf, IsEntry, IsLeaf}
 use Rattle.sh_edit.specs.Held.{pairs_of, map_of_entries, HasKeysOnce}
-use Rattle.sh_edit.specs.Placing.{HasNone}
+use Rattle.sh_edit.specs.Placing.{LacksKey}
 use Rattle.sh_edit.specs.Splitting.{empty_like, entry_with, entries_from, pairs_after, left_count, separator_of, left_half, right_half}
-use Rattle.sh_edit.proofs.HeldLemmas.{differ_test}
-use Rattle.sh_edit.proofs.SplitLemmas.{all_take, all_drop, all_weaker, all_after, all_at, pair_above, are_keys, length-pairs_after, left_below, right_from, some_right}
+use Rattle.sh_edit.proofs.SplitLemmas.{all_after, all_at, pair_above, are_keys, length-pairs_after, left_below, right_from, some_right}
 
 -- a pair that may stand in a leaf
 abbrev pub IsPair : ConfigParts → ℕ → ℕ → ℕ × List ℕ → Type 0
@@ -55,13 +56,13 @@ above_first (x ∷ ps) zero h some lt = absurd (omega arith)
 above_first (x ∷ ps) (suc n) h some lt = pair_above x.0 ps n (first _ _ h) (omega arith)
 
 -- ---- keys apart
-once_cons : (e : LeafEntry) (es : List LeafEntry) → (e.key ≡ 0) ⊎ HasNone es e.key → HasKeysOnce es → HasKeysOnce (e ∷ es)
+once_cons : (e : LeafEntry) (es : List LeafEntry) → (e.key ≡ 0) ⊎ LacksKey es e.key → HasKeysOnce es → HasKeysOnce (e ∷ es)
 once_cons e es head once zero zero less below same = absurd (omega arith)
 once_cons e es head once zero (suc j) less below same = elim head [ inl z ↦ z | inr none ↦ absurd (none j (omega arith) (sym same)) ]
 once_cons e es head once (suc i) zero less below same = absurd (omega arith)
 once_cons e es head once (suc i) (suc j) less below same = once i j (omega arith) (omega arith) same
 
-none_above : (empty : LeafEntry) (q : ℕ) (xs : List (ℕ × List ℕ)) (n : ℕ) → empty.key ≡ 0 → q ≢ 0 → AllByRecursion (λ y. q < y.0) xs → HasNone (map entry_with xs ++ replicate n empty) q
+none_above : (empty : LeafEntry) (q : ℕ) (xs : List (ℕ × List ℕ)) (n : ℕ) → empty.key ≡ 0 → q ≢ 0 → AllByRecursion (λ y. q < y.0) xs → LacksKey (map entry_with xs ++ replicate n empty) q
 none_above empty q [] zero z nz h j below is = absurd (omega arith)
 none_above empty q [] (suc n) z nz h zero below is = nz (sym is ∙ z)
 none_above empty q [] (suc n) z nz h (suc j) below is = none_above empty q [] n z nz h j (omega arith) is
@@ -109,7 +110,7 @@ module _ (a : Leaf) (key : ℕ) (value : List ℕ) (right : ℕ) (nz : key ≢ 0
   pub right_once : HasKeysOnce (right_half a key value).entries
   right_once = once_filled (empty_like value) (drop (left_count a.entries) (pairs_after a.entries key value)) _ refl (all_drop (λ x. x.0 ≢ 0) (left_count a.entries) _ keys) (rise_drop (left_count a.entries) _ rise)
 
-module _ (p : ConfigParts) (a : Leaf) (key : ℕ) (value : List ℕ) (right : ℕ) (lawful : IsLeaf p a) (some : 1 ≤ length a.entries) (none : HasNone a.entries key) (full : HasNone a.entries 0) (once : HasKeysOnce a.entries) (low : a.low ≤ key) (nz : 1 ≤ key) (high : key < a.high) (words : length value ≡ p.value_words) where
+module _ (p : ConfigParts) (a : Leaf) (key : ℕ) (value : List ℕ) (right : ℕ) (lawful : IsLeaf p a) (some : 1 ≤ length a.entries) (none : LacksKey a.entries key) (full : LacksKey a.entries 0) (once : HasKeysOnce a.entries) (low : a.low ≤ key) (nz : 1 ≤ key) (high : key < a.high) (words : length value ≡ p.value_words) where
   key_nz : key ≢ 0
   key_nz e = absurd (omega (arith, nz, e))
 

@@ -7,14 +7,12 @@ use Rattle.std.specs.List.{AllByRecursion}
 use Rattle.std.specs.Ordering.{nat_cmp, eq_by_cmp}
 use Rattle.std.specs.Cmp.{nat_cmp_total}
 use Rattle.std.specs.FinMap.{find, get-from_entries}
+use Rattle.sh_logic.proofs.Tests.{differ_test}
 use Rattle.sh_map.specs.Map.{get, put, del}
 use Rattle.sh_map.proofs.MapLemmas.{is_put, is_del, apart_test, same_test}
 use Rattle.sh_image.specs.declared.leaf.LeafEntry.{LeafEntry}
 use Rattle.sh_edit.specs.Held.{pairs_of, held, map_of_entries, no_entry, key_at, HasKeysOnce}
-use Rattle.sh_edit.specs.Placing.{IsFirstWith, HasNone}
-
-pub differ_test : (k q : ℕ) → k ≢ q → eqb k q ≡ false
-differ_test k q h = grind (arith, nat_tests)
+use Rattle.sh_edit.specs.Placing.{IsFirstWith, LacksKey}
 
 -- a test by the order is a test of equality, either way round
 test_is : (q k : ℕ) → eq_by_cmp nat_cmp q k ≡ eqb k q
@@ -49,7 +47,7 @@ get-zero es = get-from_entries nat_cmp_total (pairs_of es) 0 ∙ find_zero es
 pub get-map_of_entries : (es : List LeafEntry) (q : ℕ) → q ≢ 0 → get (map_of_entries es) q ≡ held es q
 get-map_of_entries es q h = get-from_entries nat_cmp_total (pairs_of es) q ∙ find-pairs_of es q h
 
-pub held_none : (es : List LeafEntry) (q : ℕ) → HasNone es q → held es q ≡ None
+pub held_none : (es : List LeafEntry) (q : ℕ) → LacksKey es q → held es q ≡ None
 held_none [] q h = refl
 held_none (e ∷ es) q h = grind (arith, nat_tests, h 0 (omega arith), held_none es q (λ j lt. h (suc j) (omega arith)))
 
@@ -74,9 +72,6 @@ held-set_here (e ∷ es) zero q x in_range before here = grind (arith, nat_tests
 held-set_here (e ∷ es) (suc i) q x in_range before here = grind (arith, nat_tests, before 0 (omega arith), held-set_here es i q x (omega arith) (λ j lt. before (suc j) (omega arith)) here)
 
 -- ---- place and remove are put and del
-entry_of : ℕ → ℕ → List ℕ → LeafEntry
-entry_of version key value = record { version = version; key = key; value = value }
-
 -- an entry set at a place where no earlier one has the key, and whose old key is the new one or none
 set_is_put : (es : List LeafEntry) (i : ℕ) (x : LeafEntry) → x.key ≢ 0 → i < length es → ((j : ℕ) → j < i → key_at es j ≢ x.key) → (key_at es i ≡ x.key) ⊎ (key_at es i ≡ 0) → map_of_entries (set es i x) ≡ put (map_of_entries es) x.key x.value
 set_is_put es i x key in_range before old = is_put _ _ x.key x.value
@@ -89,7 +84,7 @@ set_is_put es i x key in_range before old = is_put _ _ x.key x.value
 pub over_is_put : (es : List LeafEntry) (i : ℕ) (x : LeafEntry) → x.key ≢ 0 → IsFirstWith es x.key i → map_of_entries (set es i x) ≡ put (map_of_entries es) x.key x.value
 over_is_put es i x key at = set_is_put es i x key at.in_range at.before (inl at.here)
 
-pub new_is_put : (es : List LeafEntry) (i : ℕ) (x : LeafEntry) → x.key ≢ 0 → HasNone es x.key → IsFirstWith es 0 i → map_of_entries (set es i x) ≡ put (map_of_entries es) x.key x.value
+pub new_is_put : (es : List LeafEntry) (i : ℕ) (x : LeafEntry) → x.key ≢ 0 → LacksKey es x.key → IsFirstWith es 0 i → map_of_entries (set es i x) ≡ put (map_of_entries es) x.key x.value
 new_is_put es i x key none at = set_is_put es i x key at.in_range (λ j lt. none j (omega (arith, at.in_range))) (inr at.here)
 
 -- an entry that is emptied, of a leaf that has no key twice
@@ -101,7 +96,7 @@ removed_is_del es i key x empty nz once at = is_del _ _ key
       | inr qz ↦ get-map_of_entries (set es i x) q qz ∙ held-set_other es i q x (λ is. differ (sym is ∙ at.here)) (λ is. qz (sym is ∙ empty)) ∙ sym (get-map_of_entries es q qz)
     ])
   where
-    gone : HasNone (set es i x) key
+    gone : LacksKey (set es i x) key
     gone j below is = elim (cases_eq j i) [
       | inl e ↦ nz (sym is ∙ ap (key_at (set es i x)) e ∙ ap (λ (y : LeafEntry). y.key) (get_or-set_same es i x no_entry at.in_range) ∙ empty)
       | inr ne ↦

@@ -6,15 +6,10 @@ use Rattle.std.proofs.lemmas.Bool.Decides.{nat_tests}
 use Rattle.std.proofs.lemmas.Option.{slice_get-get_or, get_or_from_slice_get}
 use Rattle.std.proofs.lemmas.List.{take_more, take_all, get_or-drop, length-drop, length-take-le, append-nil}
 use Rattle.std.proofs.lemmas.List.Edits.{length-insert, get_or-insert_at, get_or-insert_below, get_or-insert_above}
+use Rattle.sh_logic.proofs.Tests.{less_test, not_less_test}
 use Rattle.sh_image.specs.declared.inner.Pair.{Pair}
 use Rattle.sh_image.specs.Inner.{Inner, separator_at, no_pair}
 use Rattle.sh_edit.specs.Pairing.{pairs_with, IsGapAt}
-
-pub less_test : (a b : ℕ) → a < b → nat_lt a b ≡ true
-less_test a b h = grind (arith, nat_tests)
-
-pub not_less_test : (a b : ℕ) → b ≤ a → nat_lt a b ≡ false
-not_less_test a b h = grind (arith, nat_tests)
 
 -- a pair put in at its gap
 pub inserted : (ps : List Pair) (new : Pair) (at : ℕ) → IsGapAt ps new.separator at → insert ps at new ≡ pairs_with ps new
@@ -24,21 +19,6 @@ inserted (x ∷ ps) new zero gap = rw (not_less_test x.separator new.separator (
 inserted (x ∷ ps) new (suc at) gap =
     let step : insert ps at new ≡ pairs_with ps new = inserted ps new at (record { within = omega (arith, gap.within); before = λ i h. gap.before (suc i) (omega arith); after = λ h. gap.after (omega arith) }) in
     rw (less_test x.separator new.separator (gap.before 0 (omega arith))) (ap (λ l. x ∷ l) step)
-
-module _ (ps : List Pair) (new : Pair) (gap : ℕ) (within : gap ≤ length ps) where
-  read_at : (i : ℕ) (r d : Pair) → i ≤ length ps → get_or (insert ps gap new) i r ≡ r → slice_get (insert ps gap new) i ≡ Some r
-  read_at i r d below is = slice_get-get_or (insert ps gap new) i r (omega (arith, length-insert ps gap new within)) ∙ ap Some is
-
-  pub read_before : (i : ℕ) (r : Pair) → i < gap → slice_get ps i ≡ Some r → slice_get (insert ps gap new) i ≡ Some r
-  read_before i r below is = read_at i r r (omega arith) (get_or-insert_below ps gap new r i below within ∙ get_or_from_slice_get ps i r r is)
-
-  pub read_gap : (i : ℕ) → i ≡ gap → slice_get (insert ps gap new) i ≡ Some new
-  read_gap i is = read_at i new new (omega arith) (ap (λ k. get_or (insert ps gap new) k new) is ∙ get_or-insert_at ps gap new new within)
-
-  pub read_behind : (i : ℕ) (r : Pair) → gap < i → i ≤ length ps → slice_get ps (i - 1) ≡ Some r → slice_get (insert ps gap new) i ≡ Some r
-  read_behind i r above below is =
-      let step : i ≡ i - 1 + 1 = omega arith in
-      read_at i r r below (ap (λ k. get_or (insert ps gap new) k r) step ∙ get_or-insert_above ps gap new r (i - 1) (omega arith) within ∙ get_or_from_slice_get ps (i - 1) r r is)
 
 -- the image after the pairs at some of the indexes
 pub record IsPushed (old : Inner) (all : List Pair) (from i : ℕ) (image : Inner) : Type 0 where

@@ -4,13 +4,14 @@ use Rattle.std.specs.Prelude.{◌==◌, if◌then◌else◌}
 use Rattle.std.proofs.lemmas.List.{length-map, length-set}
 use Rattle.std.specs.List.{AllByRecursion}
 use Rattle.std.specs.FinMap.{from_entries}
+use Rattle.sh_logic.proofs.Lists.{all_set}
 use Rattle.sh_base.specs.declared.config.ConfigParts.{ConfigParts}
 use Rattle.sh_base.specs.Setting.{last_version}
 use Rattle.sh_map.specs.Map.{put, del}
 use Rattle.sh_image.specs.declared.leaf.LeafEntry.{LeafEntry}
 use Rattle.sh_image.specs.Leaf.{Leaf, IsEntry, IsLeaf}
 use Rattle.sh_edit.specs.Held.{pairs_of, map_of_entries, key_at, HasKeysOnce}
-use Rattle.sh_edit.specs.Placing.{IsFirstWith, HasNone}
+use Rattle.sh_edit.specs.Placing.{IsFirstWith, LacksKey}
 use Rattle.sh_edit.specs.Rewriting.{cleared, rewritten}
 use Rattle.sh_edit.proofs.HeldLemmas.{over_is_put, new_is_put, removed_is_del, once-set}
 
@@ -33,7 +34,7 @@ first-cleared es key i h = record {
   before = λ j below is. h.before j below (sym (key_at-cleared es j) ∙ is);
 }
 
-none-cleared : (es : List LeafEntry) (key : ℕ) → HasNone es key → HasNone (map cleared es) key
+none-cleared : (es : List LeafEntry) (key : ℕ) → LacksKey es key → LacksKey (map cleared es) key
 none-cleared es key h j below is = h j (omega (arith, below, length-map es cleared)) (sym (key_at-cleared es j) ∙ is)
 
 once-cleared : (es : List LeafEntry) → HasKeysOnce es → HasKeysOnce (map cleared es)
@@ -44,7 +45,7 @@ module _ (a : Leaf) (i key : ℕ) where
   pub rewritten_over : (value : List ℕ) → key ≢ 0 → IsFirstWith a.entries key i → map_of_entries (rewritten a i key value).entries ≡ put (map_of_entries a.entries) key value
   rewritten_over value nz at = over_is_put (map cleared a.entries) i _ nz (first-cleared a.entries key i at) ∙ ap (λ m. put m key value) (map_of-cleared a.entries)
 
-  pub rewritten_new : (value : List ℕ) → key ≢ 0 → HasNone a.entries key → IsFirstWith a.entries 0 i → map_of_entries (rewritten a i key value).entries ≡ put (map_of_entries a.entries) key value
+  pub rewritten_new : (value : List ℕ) → key ≢ 0 → LacksKey a.entries key → IsFirstWith a.entries 0 i → map_of_entries (rewritten a i key value).entries ≡ put (map_of_entries a.entries) key value
   rewritten_new value nz none at = new_is_put (map cleared a.entries) i _ nz (none-cleared a.entries key none) (first-cleared a.entries 0 i at) ∙ ap (λ m. put m key value) (map_of-cleared a.entries)
 
   pub rewritten_removed : (zeros : List ℕ) → key ≢ 0 → HasKeysOnce a.entries → IsFirstWith a.entries key i → map_of_entries (rewritten a i 0 zeros).entries ≡ del (map_of_entries a.entries) key
@@ -54,12 +55,6 @@ module _ (a : Leaf) (i key : ℕ) where
 pub rewritten_once : (a : Leaf) (i key : ℕ) (value : List ℕ) → i < length a.entries → HasKeysOnce a.entries → ((j : ℕ) → j < length a.entries → j ≢ i → key_at a.entries j ≡ key → key ≡ 0) → HasKeysOnce (rewritten a i key value).entries
 rewritten_once a i key value below once apart = once-set (map cleared a.entries) i _ (omega (arith, length-map a.entries cleared)) (once-cleared a.entries once)
     (λ j in_range ne is. apart j (omega (arith, in_range, length-map a.entries cleared)) ne (sym (key_at-cleared a.entries j) ∙ is))
-
--- the rules
-pub all_set : {X : Type 0} (P : X → Type 0) (xs : List X) (i : ℕ) (y : X) → AllByRecursion P xs → P y → AllByRecursion P (set xs i y)
-all_set P [] i y h p = h
-all_set P (x ∷ xs) zero y h p = (p, h.1)
-all_set P (x ∷ xs) (suc i) y h p = (h.0, all_set P xs i y h.1 p)
 
 all_cleared : (p : ConfigParts) (low high : ℕ) (es : List LeafEntry) → AllByRecursion (IsEntry p low high) es → AllByRecursion (IsEntry p low high) (map cleared es)
 all_cleared p low high [] h = tt

@@ -5,12 +5,12 @@ use Rattle.std.specs.List.Sorted.{IsPermutation}
 use Rattle.std.proofs.lemmas.Bool.{cases_lt}
 use Rattle.std.proofs.lemmas.List.{length-take-le, length-drop}
 use Rattle.std.proofs.lemmas.List.Sorted.{IsPermutation-refl, IsPermutation-cons, IsPermutation-trans, IsPermutation-swap}
+use Rattle.sh_logic.proofs.Tests.{less_test, not_less_test}
 use Rattle.sh_base.specs.declared.config.ConfigParts.{ConfigParts}
 use Rattle.sh_base.specs.Setting.{nodes, last_version}
 use Rattle.sh_image.specs.declared.inner.Pair.{Pair}
 use Rattle.sh_image.specs.Inner.{Inner, IsInner, AreSeparators, HasChild, separator_at}
-use Rattle.sh_edit.specs.Pairing.{IsNew, pairs_with, with_pair, middle_of, left_inner, right_inner, root_over}
-use Rattle.sh_edit.proofs.PairLemmas.{less_test, not_less_test}
+use Rattle.sh_edit.specs.Pairing.{IsNewSeparator, pairs_with, with_pair, middle_of, left_inner, right_inner, root_over}
 
 -- pairs with rising separators, all above one
 abbrev RiseAbove : ℕ → List Pair → Type 0
@@ -26,9 +26,6 @@ abbrev AreBelow : ℕ → List Pair → Type 0
 AreBelow high xs = AllByRecursion (λ (x : Pair). x.separator < high) xs
 
 -- ---- between the two ways of saying it
-suc_is : (i : ℕ) → i + 1 ≡ suc i
-suc_is i = omega arith
-
 to_above : (x : Pair) (xs : List Pair) → ((i : ℕ) → i + 1 < length (x ∷ xs) → separator_at (x ∷ xs) i < separator_at (x ∷ xs) (i + 1)) → RiseAbove x.separator xs
 to_above x [] h = tt
 to_above x (y ∷ xs) h = (
@@ -63,14 +60,14 @@ from_rise low high [] h below = absurd h
 from_rise low high (x ∷ xs) h below = record { first = h.0; rise = from_above x xs h.1; below = from_below high (x ∷ xs) below }
 
 -- ---- a pair more
-above_with : (b : ℕ) (xs : List Pair) (new : Pair) → b < new.separator → IsNew xs new.separator → RiseAbove b xs → RiseAbove b (pairs_with xs new)
+above_with : (b : ℕ) (xs : List Pair) (new : Pair) → b < new.separator → IsNewSeparator xs new.separator → RiseAbove b xs → RiseAbove b (pairs_with xs new)
 above_with b [] new lt fresh h = (lt, tt)
 above_with b (x ∷ xs) new lt fresh h = elim (cases_lt x.separator new.separator) [
   | inl below ↦ rw (less_test x.separator new.separator below) (h.0, above_with x.separator xs new below fresh.1 h.1)
   | inr from ↦ rw (not_less_test x.separator new.separator from) (lt, (omega (arith, from, fresh.0), h.1))
 ]
 
-rise_with : (low : ℕ) (xs : List Pair) (new : Pair) → low ≤ new.separator → IsNew xs new.separator → RiseFrom low xs → RiseFrom low (pairs_with xs new)
+rise_with : (low : ℕ) (xs : List Pair) (new : Pair) → low ≤ new.separator → IsNewSeparator xs new.separator → RiseFrom low xs → RiseFrom low (pairs_with xs new)
 rise_with low [] new le fresh h = absurd h
 rise_with low (x ∷ xs) new le fresh h =
     let below : x.separator < new.separator = omega (arith, le, h.0, fresh.0) in
@@ -98,7 +95,7 @@ kept (x ∷ xs) new = elim (cases_lt x.separator new.separator) [
   | inr from ↦ rw (not_less_test x.separator new.separator from) (IsPermutation-refl (new ∷ x ∷ xs))
 ]
 
-pub with_lawful : (p : ConfigParts) (a : Inner) (new : Pair) → IsInner p a → length a.pairs < 2 * p.leaf → IsNew a.pairs new.separator → a.low ≤ new.separator → new.separator < a.high → HasChild p new → a.version < last_version p → IsInner p (with_pair a new)
+pub with_lawful : (p : ConfigParts) (a : Inner) (new : Pair) → IsInner p a → length a.pairs < 2 * p.leaf → IsNewSeparator a.pairs new.separator → a.low ≤ new.separator → new.separator < a.high → HasChild p new → a.version < last_version p → IsInner p (with_pair a new)
 with_lawful p a new h room fresh low high child version =
     let rise = to_rise a.low a.high a.pairs h.count.0 h.separators in
     record {
@@ -157,7 +154,7 @@ rise_drop low n [] h some lt = absurd h
 rise_drop low zero (x ∷ xs) h some lt = absurd (omega arith)
 rise_drop low (suc n) (x ∷ xs) h some lt = above_drop x.separator n xs h.1 (omega arith)
 
-module _ (p : ConfigParts) (a : Inner) (new : Pair) (h : IsInner p a) (full : length a.pairs ≡ 2 * p.leaf) (fresh : IsNew a.pairs new.separator) (low : a.low ≤ new.separator) (high : new.separator < a.high) where
+module _ (p : ConfigParts) (a : Inner) (new : Pair) (h : IsInner p a) (full : length a.pairs ≡ 2 * p.leaf) (fresh : IsNewSeparator a.pairs new.separator) (low : a.low ≤ new.separator) (high : new.separator < a.high) where
   some : 1 ≤ p.leaf
   some = omega (arith, h.count.0, full)
 

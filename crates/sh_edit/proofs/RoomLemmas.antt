@@ -6,16 +6,17 @@ use Rattle.std.proofs.lemmas.Bool.Decides.{nat_tests}
 use Rattle.std.specs.Ordering.{nat_cmp}
 use Rattle.std.specs.Cmp.{nat_cmp_total}
 use Rattle.std.specs.FinMap.{len-insert, len-empty}
+use Rattle.sh_logic.proofs.Tests.{differ_test}
 use Rattle.sh_map.specs.Map.{get, size}
 use Rattle.sh_image.specs.declared.leaf.LeafEntry.{LeafEntry}
 use Rattle.sh_edit.specs.Held.{pairs_of, has_room, map_of_entries, key_at, HasKeysOnce}
-use Rattle.sh_edit.specs.Placing.{HasNone}
-use Rattle.sh_edit.proofs.HeldLemmas.{differ_test, get-map_of_entries, held_none}
+use Rattle.sh_edit.specs.Placing.{LacksKey}
+use Rattle.sh_edit.proofs.HeldLemmas.{get-map_of_entries, held_none}
 
 pub once_tail : (e : LeafEntry) (es : List LeafEntry) → HasKeysOnce (e ∷ es) → HasKeysOnce es
 once_tail e es once i j less below same = once (suc i) (suc j) (omega arith) (omega arith) same
 
-pub once_head : (e : LeafEntry) (es : List LeafEntry) → e.key ≢ 0 → HasKeysOnce (e ∷ es) → HasNone es e.key
+pub once_head : (e : LeafEntry) (es : List LeafEntry) → e.key ≢ 0 → HasKeysOnce (e ∷ es) → LacksKey es e.key
 once_head e es nz once j below is = nz (once 0 (suc j) (omega arith) (omega arith) (sym is))
 
 -- the map has as many keys as there are pairs
@@ -47,16 +48,3 @@ room_test false n k less same = grind (arith, nat_tests, same refl)
 
 pub room_is_size : (es : List LeafEntry) → HasKeysOnce es → nat_lt (size (map_of_entries es)) (length es) ≡ has_room es
 room_is_size es once = ap (λ n. nat_lt n (length es)) (size_is_pairs es once) ∙ room_test (has_room es) _ _ (pairs_count es).1 (pairs_count es).2
-
--- an empty entry is room, and without one there is none
-pub room_at : (es : List LeafEntry) (i : ℕ) → i < length es → key_at es i ≡ 0 → has_room es ≡ true
-room_at [] i below here = absurd (omega arith)
-room_at (e ∷ es) zero below here = rw (eq-eqb e.key 0 here) refl
-room_at (e ∷ es) (suc i) below here = elim (cases_eq e.key 0) [
-  | inl z ↦ rw (eq-eqb e.key 0 z) refl
-  | inr nz ↦ rw (differ_test e.key 0 nz) (room_at es i (omega arith) here)
-]
-
-pub room_none : (es : List LeafEntry) → HasNone es 0 → has_room es ≡ false
-room_none [] none = refl
-room_none (e ∷ es) none = rw (differ_test e.key 0 (none 0 (omega arith))) (room_none es (λ j below. none (suc j) (omega arith)))

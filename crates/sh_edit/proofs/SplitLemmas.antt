@@ -9,34 +9,24 @@ use Rattle.std.specs.FinMap.Entries.{below_all, by_order, put as put_pair}
 use Rattle.std.proofs.lemmas.Cmp.{ranked}
 use Rattle.std.proofs.lemmas.Bool.{cases_eq, eq-eqb}
 use Rattle.std.proofs.lemmas.List.{take-append-drop}
+use Rattle.sh_logic.proofs.Lists.{all_take, all_drop, all_weaker}
+use Rattle.sh_logic.proofs.Options.{some_none}
+use Rattle.sh_logic.proofs.Lookups.{find_past, find_before}
+use Rattle.sh_logic.proofs.Tests.{differ_test, first, second}
 use Rattle.sh_map.specs.Map.{Map, get, put, size}
 use Rattle.sh_map.proofs.MapLemmas.{same_by_keys, same_test, apart_test, get-put_other}
-use Rattle.sh_map.proofs.RowsLemmas.{less, first, second}
+use Rattle.sh_map.proofs.RowsLemmas.{less}
 use Rattle.sh_image.specs.declared.leaf.LeafEntry.{LeafEntry}
 use Rattle.sh_image.specs.Leaf.{Leaf}
 use Rattle.sh_edit.specs.Held.{pairs_of, map_of_entries, HasKeysOnce}
-use Rattle.sh_edit.specs.Placing.{HasNone}
+use Rattle.sh_edit.specs.Placing.{LacksKey}
 use Rattle.sh_edit.specs.Splitting.{empty_like, entry_with, entries_from, pairs_after, left_count, separator_of, left_half, right_half}
-use Rattle.sh_edit.proofs.HeldLemmas.{differ_test, get-zero, get-map_of_entries, held_none}
+use Rattle.sh_edit.proofs.HeldLemmas.{get-zero, get-map_of_entries, held_none}
 use Rattle.sh_edit.proofs.RoomLemmas.{size_is_pairs}
-
-some_none : {x : List ℕ} → Some x ≡ None → ⊥
-some_none h = cc
 
 -- no pair has the key 0
 abbrev pub AreKeys : List (ℕ × List ℕ) → Type 0
 AreKeys pairs = AllByRecursion (λ x. x.0 ≢ 0) pairs
-
-module _ (P : ℕ × List ℕ → Type 0) where
-  pub all_take : (n : ℕ) (pairs : List (ℕ × List ℕ)) → AllByRecursion P pairs → AllByRecursion P (take n pairs)
-  all_take zero pairs h = tt
-  all_take (suc n) [] h = tt
-  all_take (suc n) (x ∷ pairs) h = (h.0, all_take n pairs h.1)
-
-  pub all_drop : (n : ℕ) (pairs : List (ℕ × List ℕ)) → AllByRecursion P pairs → AllByRecursion P (drop n pairs)
-  all_drop zero pairs h = h
-  all_drop (suc n) [] h = tt
-  all_drop (suc n) (x ∷ pairs) h = all_drop n pairs h.1
 
 -- a map that has nothing at 0 has no pair with the key 0
 keys_from_none : (pairs : List (ℕ × List ℕ)) → find nat_cmp 0 pairs ≡ None → AreKeys pairs
@@ -61,28 +51,9 @@ pairs_of-entries_from count value pairs h = pairs_of-entries (empty_like value) 
 from_entries-entries : (m : Map) → from_entries (entries m) ≡ m
 from_entries-entries m = same_by_keys _ _ (λ q. get-from_entries nat_cmp_total (entries m) q ∙ sym (get-entries m q))
 
--- what pairs have at a key, of two parts of them
-find-append : (xs ys : List (ℕ × List ℕ)) (q : ℕ) → find nat_cmp q xs ≡ None → find nat_cmp q (xs ++ ys) ≡ find nat_cmp q ys
-find-append [] ys q h = refl
-find-append (x ∷ xs) ys q h = elim (cases_eq q x.0) [
-  | inl e ↦ absurd (some_none (rw (ap (λ n. eq_by_cmp nat_cmp n x.0) e ∙ same_test x.0) at h))
-  | inr ne ↦ rw (apart_test q x.0 ne) (find-append xs ys q (rw (apart_test q x.0 ne) at h))
-]
-
-find-append_front : (xs ys : List (ℕ × List ℕ)) (q : ℕ) → find nat_cmp q ys ≡ None → find nat_cmp q (xs ++ ys) ≡ find nat_cmp q xs
-find-append_front [] ys q h = h
-find-append_front (x ∷ xs) ys q h = elim (cases_eq q x.0) [
-  | inl e ↦ rw (ap (λ n. eq_by_cmp nat_cmp n x.0) e ∙ same_test x.0) refl
-  | inr ne ↦ rw (apart_test q x.0 ne) (find-append_front xs ys q h)
-]
-
 find_apart : (xs : List (ℕ × List ℕ)) (q : ℕ) → AllByRecursion (λ x. x.0 ≢ q) xs → find nat_cmp q xs ≡ None
 find_apart [] q h = refl
 find_apart (x ∷ xs) q h = rw (apart_test q x.0 (λ e. h.0 (sym e))) (find_apart xs q h.1)
-
-pub all_weaker : (P Q : ℕ × List ℕ → Type 0) (xs : List (ℕ × List ℕ)) → ((x : ℕ × List ℕ) → P x → Q x) → AllByRecursion P xs → AllByRecursion Q xs
-all_weaker P Q [] f h = tt
-all_weaker P Q (x ∷ xs) f h = (f x h.0, all_weaker P Q xs f h.1)
 
 -- ---- the separator parts the rising pairs
 pub above_all : (x : ℕ) (ps : List (ℕ × List ℕ)) → T (below_all nat_cmp x ps) → AllByRecursion (λ y. x ≤ y.0) ps
@@ -120,11 +91,11 @@ module _ (a : Leaf) (key : ℕ) (value : List ℕ) (right : ℕ) (nz : key ≢ 0
   halves_are_put = ap from_entries ((λ t. left_pairs t ++ right_pairs t) ∙ take-append-drop (left_count a.entries) (pairs_after a.entries key value)) ∙ from_entries-entries (put (map_of_entries a.entries) key value)
 
 -- ---- how many pairs there are after a put that has no room
-full_pairs : (es : List LeafEntry) → HasNone es 0 → length (pairs_of es) ≡ length es
+full_pairs : (es : List LeafEntry) → LacksKey es 0 → length (pairs_of es) ≡ length es
 full_pairs [] h = refl
 full_pairs (e ∷ es) h = rw (differ_test e.key 0 (h 0 (omega arith))) (ap suc (full_pairs es (λ j lt. h (suc j) (omega arith))))
 
-module _ (es : List LeafEntry) (key : ℕ) (value : List ℕ) (nz : key ≢ 0) (none : HasNone es key) (full : HasNone es 0) (once : HasKeysOnce es) where
+module _ (es : List LeafEntry) (key : ℕ) (value : List ℕ) (nz : key ≢ 0) (none : LacksKey es key) (full : LacksKey es 0) (once : HasKeysOnce es) where
   pub length-pairs_after : length (pairs_after es key value) ≡ length es + 1
   length-pairs_after =
       let absent : get (map_of_entries es) key ≡ None = get-map_of_entries es key nz ∙ held_none es key none in
@@ -165,10 +136,7 @@ module _ (P : ℕ × List ℕ → Type 0) where
   all_at (x ∷ ps) (suc n) d lt h = all_at ps n d (omega arith) h.1
 
 -- ---- each key is in just one half
-module _ (a : Leaf) (key : ℕ) (value : List ℕ) (right : ℕ) (some : 1 ≤ length a.entries) (nz : key ≢ 0) (none : HasNone a.entries key) (full : HasNone a.entries 0) (once : HasKeysOnce a.entries) where
-  long : length (pairs_after a.entries key value) ≡ length a.entries + 1
-  long = length-pairs_after a.entries key value nz none full once
-
+module _ (a : Leaf) (key : ℕ) (value : List ℕ) (right : ℕ) (some : 1 ≤ length a.entries) (nz : key ≢ 0) (none : LacksKey a.entries key) (full : LacksKey a.entries 0) (once : HasKeysOnce a.entries) where
   pub some_right : left_count a.entries < length (pairs_after a.entries key value)
   some_right = right_is_some a.entries key value nz none full once some
 
@@ -195,6 +163,6 @@ module _ (a : Leaf) (key : ℕ) (value : List ℕ) (right : ℕ) (some : 1 ≤ l
 
   pub sides : (q : ℕ) → (q < separator_of a.entries key value → (get (map_of_entries (left_half a key value right).entries) q ≡ get (put (map_of_entries a.entries) key value) q) × (get (map_of_entries (right_half a key value).entries) q ≡ None)) × (separator_of a.entries key value ≤ q → (get (map_of_entries (left_half a key value right).entries) q ≡ None) × (get (map_of_entries (right_half a key value).entries) q ≡ get (put (map_of_entries a.entries) key value) q))
   sides q = (
-    λ below. (left_get q ∙ sym (find-append_front _ _ q (right_lacks q below)) ∙ parts q, right_get q ∙ right_lacks q below),
-    λ from. (left_get q ∙ left_lacks q from, right_get q ∙ sym (find-append _ _ q (left_lacks q from)) ∙ parts q),
+    λ below. (left_get q ∙ sym (find_before _ _ q (right_lacks q below)) ∙ parts q, right_get q ∙ right_lacks q below),
+    λ from. (left_get q ∙ left_lacks q from, right_get q ∙ sym (find_past _ _ q (left_lacks q from)) ∙ parts q),
   )

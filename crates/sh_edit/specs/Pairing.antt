@@ -37,12 +37,12 @@ pub record IsGapAt (pairs : List Pair) (separator at : ℕ) : Type 0 where
   pub after : at < length pairs → separator ≤ separator_at pairs at
 
 -- no pair has the separator
-abbrev pub IsNew : List Pair → ℕ → Type 0
-IsNew pairs separator = AllByRecursion (λ (x : Pair). x.separator ≢ separator) pairs
+abbrev pub IsNewSeparator : List Pair → ℕ → Type 0
+IsNewSeparator pairs separator = AllByRecursion (λ (x : Pair). x.separator ≢ separator) pairs
 
 -- a pair that may be added to an inner node: its separator is new and lies between the fences, and it has a child
 pub record IsAddable (p : ConfigParts) (a : Inner) (new : Pair) : Type 0 where
-  pub fresh : IsNew a.pairs new.separator
+  pub fresh : IsNewSeparator a.pairs new.separator
   pub low : a.low ≤ new.separator
   pub high : new.separator < a.high
   pub child : HasChild p new

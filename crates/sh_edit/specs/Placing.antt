@@ -12,19 +12,19 @@ pub record IsFirstWith (es : List LeafEntry) (key i : ℕ) : Type 0 where
   pub before : (j : ℕ) → j < i → key_at es j ≢ key
 
 -- no entry has the key
-abbrev pub HasNone : List LeafEntry → ℕ → Type 0
-HasNone es key = (j : ℕ) → j < length es → key_at es j ≢ key
+abbrev pub LacksKey : List LeafEntry → ℕ → Type 0
+LacksKey es key = (j : ℕ) → j < length es → key_at es j ≢ key
 
 -- where a put of the key goes; an empty entry has the key 0
 abbrev pub PlacedBy : List LeafEntry → ℕ → Placed → Type 0
 PlacedBy es key (Over index old) = IsFirstWith es key index × (old ≡ value_at es index)
-PlacedBy es key (New index) = HasNone es key × IsFirstWith es 0 index
-PlacedBy es key NoRoom = HasNone es key × HasNone es 0
+PlacedBy es key (New index) = LacksKey es key × IsFirstWith es 0 index
+PlacedBy es key NoRoom = LacksKey es key × LacksKey es 0
 
 -- the index at which a put of the key is written: that of the first entry with it, and where there is none that of the
 -- first empty one
-abbrev pub IsPlace : List LeafEntry → ℕ → ℕ → Type 0
-IsPlace es key i = IsFirstWith es key i ⊎ (HasNone es key × IsFirstWith es 0 i)
+abbrev pub IsPlaceFor : List LeafEntry → ℕ → ℕ → Type 0
+IsPlaceFor es key i = IsFirstWith es key i ⊎ (LacksKey es key × IsFirstWith es 0 i)
 
 -- an entry is empty, or the first one with its key
 abbrev pub StandsFirst : List LeafEntry → ℕ → Type 0

@@ -6,7 +6,7 @@ use Rattle.sh_map.specs.Map.{put}
 use Rattle.sh_image.specs.declared.leaf.LeafEntry.{LeafEntry}
 use Rattle.sh_image.specs.Leaf.{Leaf}
 use Rattle.sh_edit.specs.Held.{held, map_of_entries, HasKeysOnce}
-use Rattle.sh_edit.specs.Placing.{HasNone}
+use Rattle.sh_edit.specs.Placing.{LacksKey}
 
 -- an empty entry whose value is as long as this one
 abbrev pub empty_like : List ℕ → LeafEntry
@@ -51,6 +51,6 @@ pair_after es key value q = (q, value_after es key value q)
 pub record IsSplit (a : Leaf) (key : ℕ) : Type 0 where
   pub some : 1 ≤ length a.entries
   pub once : HasKeysOnce a.entries
-  pub lacks : HasNone a.entries key
-  pub full : HasNone a.entries 0
+  pub lacks : LacksKey a.entries key
+  pub full : LacksKey a.entries 0
   pub is_key : 1 ≤ key

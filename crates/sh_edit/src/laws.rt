@@ -12,7 +12,7 @@ ghost use Rattle.sh_image.specs.declared.inner.Pair.{Pair};
 ghost use Rattle.sh_image.specs.Entries.{entry_words};
 ghost use Rattle.sh_image.specs.Leaf.{leaf_words, Leaf, IsEntry, IsLeaf};
 ghost use Rattle.sh_edit.specs.Held.{map_of_entries, pairs_of, value_at, key_at, has_room, HasKeysOnce};
-ghost use Rattle.sh_edit.specs.Placing.{IsFirstWith, IsPlace, HasNone};
+ghost use Rattle.sh_edit.specs.Placing.{IsFirstWith, IsPlaceFor, LacksKey};
 ghost use Rattle.sh_edit.specs.Rewriting.{rewritten, with_entry};
 ghost use Rattle.sh_edit.specs.Pairing.{left_inner, middle_of, pairs_with, right_inner, root_over, with_pair, IsAddable};
 ghost use Rattle.sh_edit.specs.Splitting.{left_half, right_half, separator_of, IsSplit};
@@ -23,9 +23,9 @@ ghost use Rattle.sh_edit.specs.Splitting.{left_half, right_half, separator_of, I
 /// lies between its fences. It has room for a new key exactly where its map has fewer keys than it has entries.
 pub fn edits_are_the_maps()
     ensures found { (es : List LeafEntry) (key i : ℕ) → key ≢ 0 → IsFirstWith es key i → get (map_of_entries es) key ≡ Some (value_at es i) }
-    ensures absent { (es : List LeafEntry) (key : ℕ) → key ≢ 0 → HasNone es key → get (map_of_entries es) key ≡ None }
+    ensures absent { (es : List LeafEntry) (key : ℕ) → key ≢ 0 → LacksKey es key → get (map_of_entries es) key ≡ None }
     ensures over { (a : Leaf) (i key : ℕ) (value : List ℕ) → key ≢ 0 → IsFirstWith a.entries key i → map_of_entries (rewritten a i key value).entries ≡ put (map_of_entries a.entries) key value }
-    ensures new { (a : Leaf) (i key : ℕ) (value : List ℕ) → key ≢ 0 → HasNone a.entries key → IsFirstWith a.entries 0 i → map_of_entries (rewritten a i key value).entries ≡ put (map_of_entries a.entries) key value }
+    ensures new { (a : Leaf) (i key : ℕ) (value : List ℕ) → key ≢ 0 → LacksKey a.entries key → IsFirstWith a.entries 0 i → map_of_entries (rewritten a i key value).entries ≡ put (map_of_entries a.entries) key value }
     ensures removed { (a : Leaf) (i key : ℕ) (zeros : List ℕ) → key ≢ 0 → HasKeysOnce a.entries → IsFirstWith a.entries key i → map_of_entries (rewritten a i 0 zeros).entries ≡ del (map_of_entries a.entries) key }
     ensures once { (a : Leaf) (i key : ℕ) (value : List ℕ) → i < length a.entries → HasKeysOnce a.entries → ((j : ℕ) → j < length a.entries → j ≢ i → key_at a.entries j ≡ key → key ≡ 0) → HasKeysOnce (rewritten a i key value).entries }
     ensures lawful { (p : ConfigParts) (a : Leaf) (i key : ℕ) (value : List ℕ) → IsLeaf p a → a.version < last_version p → length value ≡ p.value_words → ((key ≡ 0) × (value ≡ replicate p.value_words 0)) ⊎ ((a.low ≤ key) × (1 ≤ key) × (key < a.high)) → IsLeaf p (rewritten a i key value) }
@@ -34,7 +34,7 @@ pub fn edits_are_the_maps()
 
 /// A leaf without a key twice has none twice after a rewrite at the place of a put, and after one that empties an entry.
 pub fn edits_keep_keys_apart()
-    ensures placed { (a : Leaf) (i key : ℕ) (value : List ℕ) → HasKeysOnce a.entries → IsPlace a.entries key i → HasKeysOnce (rewritten a i key value).entries }
+    ensures placed { (a : Leaf) (i key : ℕ) (value : List ℕ) → HasKeysOnce a.entries → IsPlaceFor a.entries key i → HasKeysOnce (rewritten a i key value).entries }
     ensures removed { (a : Leaf) (i : ℕ) (zeros : List ℕ) → HasKeysOnce a.entries → i < length a.entries → HasKeysOnce (rewritten a i 0 zeros).entries }
 {}
 
@@ -42,9 +42,9 @@ pub fn edits_keep_keys_apart()
 /// first entry with a key it is the delete, of a leaf without a key twice; it leaves none twice. The leaf meets the rules
 /// where it did and the entry may stand in it. Its words are those from before but for the words of that entry.
 pub fn entry_writes_are_the_maps()
-    ensures placed { (a : Leaf) (i : ℕ) (e : LeafEntry) → e.key ≢ 0 → IsPlace a.entries e.key i → map_of_entries (with_entry a i e).entries ≡ put (map_of_entries a.entries) e.key e.value }
+    ensures placed { (a : Leaf) (i : ℕ) (e : LeafEntry) → e.key ≢ 0 → IsPlaceFor a.entries e.key i → map_of_entries (with_entry a i e).entries ≡ put (map_of_entries a.entries) e.key e.value }
     ensures removed { (a : Leaf) (i key : ℕ) (e : LeafEntry) → key ≢ 0 → e.key ≡ 0 → HasKeysOnce a.entries → IsFirstWith a.entries key i → map_of_entries (with_entry a i e).entries ≡ del (map_of_entries a.entries) key }
-    ensures once_placed { (a : Leaf) (i : ℕ) (e : LeafEntry) → HasKeysOnce a.entries → IsPlace a.entries e.key i → HasKeysOnce (with_entry a i e).entries }
+    ensures once_placed { (a : Leaf) (i : ℕ) (e : LeafEntry) → HasKeysOnce a.entries → IsPlaceFor a.entries e.key i → HasKeysOnce (with_entry a i e).entries }
     ensures once_removed { (a : Leaf) (i : ℕ) (e : LeafEntry) → HasKeysOnce a.entries → e.key ≡ 0 → i < length a.entries → HasKeysOnce (with_entry a i e).entries }
     ensures lawful { (p : ConfigParts) (a : Leaf) (i : ℕ) (e : LeafEntry) → IsLeaf p a → IsEntry p a.low a.high e → IsLeaf p (with_entry a i e) }
     ensures words { (p : ConfigParts) (a : Leaf) (i : ℕ) (e : LeafEntry) → IsLeaf p a → i < p.leaf → leaf_words (with_entry a i e) ≡ take (entry_at p i) (leaf_words a) ++ (entry_words e ++ drop (entry_at p i + entry_size p) (leaf_words a)) }

@@ -7,7 +7,7 @@ mod split;
 
 ghost use Rattle.std.specs.Prelude.{◌≡◌, ◌↔◌, IsTrue, ◌-◌, ◌<◌, ◌≤◌, ◌^◌, MatchOption, length, map};
 ghost use Rattle.sh_edit.specs.Held.{value_at, HasKeysOnce};
-ghost use Rattle.sh_edit.specs.Placing.{HasNone, IsFirstWith, PlacedBy, StandsFirst};
+ghost use Rattle.sh_edit.specs.Placing.{LacksKey, IsFirstWith, PlacedBy, StandsFirst};
 ghost use Rattle.sh_edit.specs.Rewriting.{cleared, rewritten};
 
 pub use inner::{InnerHalves, add_child, new_root, split_inner};
@@ -33,7 +33,7 @@ pub enum Placed {
 
 /// The least index with this key; none exactly where no entry has it. The key 0 is an empty entry's.
 pub fn find(leaf: &LeafImage, key: u64) -> Option<u32>
-    ensures { MatchOption result (HasNone leaf.now.entries key) (λ index. IsFirstWith leaf.now.entries key index) }
+    ensures { MatchOption result (LacksKey leaf.now.entries key) (λ index. IsFirstWith leaf.now.entries key index) }
 {
     match first_equal(leaf.keys(), key) {
         Some(index) => Some(index as u32),
@@ -83,7 +83,7 @@ pub fn place(leaf: &LeafImage, key: u64) -> Placed
 
 /// The index and the value of the key; none exactly where no entry has it.
 pub fn remove(leaf: &LeafImage, key: u64) -> Option<(u32, Value)>
-    ensures { MatchOption result (HasNone leaf.now.entries key) (λ found. IsFirstWith leaf.now.entries key found.0 × (found.1 ≡ value_at leaf.now.entries found.0)) }
+    ensures { MatchOption result (LacksKey leaf.now.entries key) (λ found. IsFirstWith leaf.now.entries key found.0 × (found.1 ≡ value_at leaf.now.entries found.0)) }
 {
     let index = find(leaf, key)?;
     Some((index, leaf.entry(index).value))

@@ -9,3 +9,4 @@ mod EmptyLemmas
 mod WriteLemmas
 pub mod UntornLemmas
 mod NodeLemmas
+pub mod LaidLemmas

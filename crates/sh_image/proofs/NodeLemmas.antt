@@ -8,7 +8,7 @@ use Rattle.sh_image.specs.declared.inner.Image.TheVariants.{Leaf, Inner}
 use Rattle.sh_image.specs.declared.read.Seen.{Seen}
 use Rattle.sh_image.specs.declared.read.Seen.TheVariants.{Leaf as LeafSeen, Inner as InnerSeen, Torn, TornEntry, Odd}
 use Rattle.sh_image.specs.Seen.{entry_front, entry_rear, IsTornAt, SeenBy}
-use Rattle.sh_image.specs.Node.{words_of, IsImage, SpellsImage, seen_of}
+use Rattle.sh_image.specs.Node.{words_of, IsImage, SpellsImage, seen_as}
 use Rattle.sh_image.proofs.InnerLemmas.{inner_spelled_one, length-inner_words}
 use Rattle.sh_image.proofs.LeafLemmas.{length-leaf_words, spelled_one, values_of}
 use Rattle.sh_image.proofs.UntornLemmas.{seen_spelled, seen_inner}
@@ -43,7 +43,7 @@ module _ (p : ConfigParts) (ws : List ℕ) (some : 1 ≤ p.value_words) where
   one_answer Odd Odd h k = refl
 
   -- a reader's answer to words that spell a node is that node
-  pub seen_image : (a : Image) (seen : Seen) → SpellsImage p ws a → SeenBy p ws seen → seen ≡ seen_of a
+  pub seen_image : (a : Image) (seen : Seen) → SpellsImage p ws a → SeenBy p ws seen → seen ≡ seen_as a
   seen_image (Leaf a) seen s h = seen_spelled p ws a seen s h
   seen_image (Inner a) seen s h = seen_inner p ws a seen some s h
 
@@ -63,7 +63,7 @@ module _ (p : ConfigParts) (some : 1 ≤ p.value_words) where
   spells_own (Inner a) h = record { words = refl; lawful = h }
 
   -- so is the answer to the words that were written of a node
-  pub read_again : (a : Image) (seen : Seen) → IsImage p a → SeenBy p (words_of p a) seen → seen ≡ seen_of a
+  pub read_again : (a : Image) (seen : Seen) → IsImage p a → SeenBy p (words_of p a) seen → seen ≡ seen_as a
   read_again a seen h = seen_image p (words_of p a) some a seen (spells_own a h)
 
   pub length-words_of : (a : Image) → IsImage p a → length (words_of p a) ≡ node_size p

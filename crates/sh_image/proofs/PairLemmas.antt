@@ -4,19 +4,19 @@ use Rattle.std.proofs.lemmas.Bool.{cases_lt}
 use Rattle.std.proofs.lemmas.List.{same_lists, get_or-set_same, get_or-set_other, get_or_append_left}
 use Rattle.std.proofs.lemmas.List.FromFn.{get_or-map-range_with_len, length-map-range_with_len}
 use Rattle.sh_image.specs.declared.inner.Pair.{Pair}
-use Rattle.sh_image.specs.PairColumns.{pair_at, pairs_of}
+use Rattle.sh_image.specs.PairColumns.{pair_at, pairs_of_columns}
 
 module _ (separators children : List ℕ) where
-  pub length_pairs_of : (n : ℕ) → length (pairs_of n separators children) ≡ n
-  unfolding pairs_of
+  pub length_pairs_of : (n : ℕ) → length (pairs_of_columns n separators children) ≡ n
+  unfolding pairs_of_columns
   length_pairs_of n = length-map-range_with_len (pair_at separators children) 0 n
 
-  pub get_or_pairs_of : (n i : ℕ) (d : Pair) → i < n → get_or (pairs_of n separators children) i d ≡ pair_at separators children i
-  unfolding pairs_of
+  pub get_or_pairs_of : (n i : ℕ) (d : Pair) → i < n → get_or (pairs_of_columns n separators children) i d ≡ pair_at separators children i
+  unfolding pairs_of_columns
   get_or_pairs_of n i d below = get_or-map-range_with_len (pair_at separators children) 0 n i i d below (omega arith)
 
-pub no_pairs_of : (separators children : List ℕ) → pairs_of 0 separators children ≡ []
-unfolding pairs_of
+pub no_pairs_of : (separators children : List ℕ) → pairs_of_columns 0 separators children ≡ []
+unfolding pairs_of_columns
 no_pairs_of separators children = refl
 
 at_end : (xs : List Pair) (x d : Pair) (k n : ℕ) → length xs ≡ n → k ≡ n → get_or (xs ++ x ∷ []) k d ≡ x
@@ -26,9 +26,9 @@ at_end xs x d k n long is = ap (λ j. get_or (xs ++ x ∷ []) j d) (is ∙ sym l
     last [] = refl
     last (y ∷ xs) = last xs
 
-pub pairs_of_push : (separators children : List ℕ) (n : ℕ) (x : Pair) → n < length separators → n < length children → pairs_of (n + 1) (set separators n x.separator) (set children n x.child) ≡ pairs_of n separators children ++ x ∷ []
+pub pairs_of_push : (separators children : List ℕ) (n : ℕ) (x : Pair) → n < length separators → n < length children → pairs_of_columns (n + 1) (set separators n x.separator) (set children n x.child) ≡ pairs_of_columns n separators children ++ x ∷ []
 pairs_of_push separators children n x a b =
-    let old = pairs_of n separators children in
+    let old = pairs_of_columns n separators children in
     let news = set separators n x.separator in
     let newc = set children n x.child in
     let long = length_pairs_of news newc (n + 1) in

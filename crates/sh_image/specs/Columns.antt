@@ -4,9 +4,9 @@ use Rattle.std.specs.List.{range_with_len}
 use Rattle.sh_image.specs.declared.leaf.LeafEntry.{LeafEntry}
 
 -- the entry at an index of the columns
-abbrev pub entry_of : List ℕ → List ℕ → List (List ℕ) → ℕ → LeafEntry
-entry_of versions keys values i = record { version = slice_index versions i; key = slice_index keys i; value = slice_index_or values i [] }
+abbrev pub entry_of_columns : List ℕ → List ℕ → List (List ℕ) → ℕ → LeafEntry
+entry_of_columns versions keys values i = record { version = slice_index versions i; key = slice_index keys i; value = slice_index_or values i [] }
 
 -- the first entries of the columns, count of them
-unfoldable pub entries_of : ℕ → List ℕ → List ℕ → List (List ℕ) → List LeafEntry
-entries_of count versions keys values = map (entry_of versions keys values) (range_with_len 0 count)
+unfoldable pub entries_of_columns : ℕ → List ℕ → List ℕ → List (List ℕ) → List LeafEntry
+entries_of_columns count versions keys values = map (entry_of_columns versions keys values) (range_with_len 0 count)

@@ -5,3 +5,4 @@ pub mod Columns
 pub mod PairColumns
 pub mod Seen
 pub mod Node
+pub mod Laid

@@ -26,13 +26,13 @@ SpellsImage p ws (Leaf a) = Spells p ws a
 SpellsImage p ws (Inner a) = SpellsInner p ws a
 
 -- what a reader answers where it sees this node
-abbrev pub seen_of : Image → Seen
-seen_of (Leaf a) = LeafSeen a
-seen_of (Inner a) = InnerSeen a
+abbrev pub seen_as : Image → Seen
+seen_as (Leaf a) = LeafSeen a
+seen_as (Inner a) = InnerSeen a
 
 -- what a reader saw of words that it read into an image, by its answer
 abbrev pub seen_with : Found → Image → Seen
-seen_with Node image = seen_of image
+seen_with Node image = seen_as image
 seen_with (Torn rear front) image = TornSeen rear front
 seen_with (TornEntry index rear front) image = TornEntrySeen index rear front
 seen_with Odd image = OddSeen

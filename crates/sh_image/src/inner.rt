@@ -40,11 +40,11 @@ pub enum Image {
 impl Model for InnerImage {
     ghost use Rattle.std.specs.Prelude.{length, ◌≡◌, ◌≤◌};
     ghost use Rattle.sh_image.specs.Inner.{Inner};
-    ghost use Rattle.sh_image.specs.PairColumns.{pairs_of};
+    ghost use Rattle.sh_image.specs.PairColumns.{pairs_of_columns};
 
     ghost Value = { Inner };
 
-    ghost view = { λ a. record { version = a.version; level = a.level; low = a.low; high = a.high; next = a.next; pairs = pairs_of a.count a.separators a.children } };
+    ghost view = { λ a. record { version = a.version; level = a.level; low = a.low; high = a.high; next = a.next; pairs = pairs_of_columns a.count a.separators a.children } };
 
     ghost invariant = { λ a. (a.count ≤ 128) × (length a.separators ≡ 128) × (length a.children ≡ 128) };
 }

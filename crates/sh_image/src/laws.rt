@@ -4,7 +4,7 @@ ghost use Rattle.sh_base.specs.Parts.{parts_of};
 ghost use Rattle.sh_base.specs.Setting.{node_size};
 ghost use Rattle.sh_image.specs.Inner.{inner_in, inner_words, Inner, IsInner, SpellsInner};
 ghost use Rattle.sh_image.specs.Leaf.{Leaf, leaf_in, leaf_words, HaveWords, IsLeaf, Spells};
-ghost use Rattle.sh_image.specs.Node.{seen_of, words_of, IsImage, SpellsImage};
+ghost use Rattle.sh_image.specs.Node.{seen_as, words_of, IsImage, SpellsImage};
 ghost use Rattle.sh_image.specs.Seen.{IsUntorn, SeenBy};
 ghost use Rattle.sh_image.specs.declared.inner.Image.{Image};
 ghost use Rattle.sh_image.specs.declared.read.Seen.{Seen};
@@ -44,10 +44,10 @@ pub fn inner_nodes_spelled_once(cfg: &Config)
 /// has the setting's number of entries, each with a value of the setting's words.
 pub fn nodes_have_one_answer(cfg: &Config)
     ensures one { (words : List ℕ) (a b : Seen) → SeenBy (parts_of cfg.now) words a → SeenBy (parts_of cfg.now) words b → a ≡ b }
-    ensures seen { (words : List ℕ) (a : Image) (seen : Seen) → SpellsImage (parts_of cfg.now) words a → SeenBy (parts_of cfg.now) words seen → seen ≡ seen_of a }
+    ensures seen { (words : List ℕ) (a : Image) (seen : Seen) → SpellsImage (parts_of cfg.now) words a → SeenBy (parts_of cfg.now) words seen → seen ≡ seen_as a }
     ensures odd { (words : List ℕ) (a : Image) → SeenBy (parts_of cfg.now) words Odd → SpellsImage (parts_of cfg.now) words a → ⊥ }
     ensures spelled_once { (words : List ℕ) (a b : Image) → SpellsImage (parts_of cfg.now) words a → SpellsImage (parts_of cfg.now) words b → a ≡ b }
-    ensures read_again { (a : Image) (seen : Seen) → IsImage (parts_of cfg.now) a → SeenBy (parts_of cfg.now) (words_of (parts_of cfg.now) a) seen → seen ≡ seen_of a }
+    ensures read_again { (a : Image) (seen : Seen) → IsImage (parts_of cfg.now) a → SeenBy (parts_of cfg.now) (words_of (parts_of cfg.now) a) seen → seen ≡ seen_as a }
     ensures as_long { (a : Image) → IsImage (parts_of cfg.now) a → length (words_of (parts_of cfg.now) a) ≡ node_size (parts_of cfg.now) }
     ensures writable { (a : Leaf) → IsLeaf (parts_of cfg.now) a → (length a.entries ≡ cfg.now.parts.leaf) × HaveWords (parts_of cfg.now) a.entries }
 {}

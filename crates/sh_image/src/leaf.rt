@@ -33,11 +33,11 @@ pub struct LeafImage {
 impl Model for LeafImage {
     ghost use Rattle.std.specs.Prelude.{length, ◌≡◌, ◌≤◌};
     ghost use Rattle.sh_image.specs.Leaf.{Leaf};
-    ghost use Rattle.sh_image.specs.Columns.{entries_of};
+    ghost use Rattle.sh_image.specs.Columns.{entries_of_columns};
 
     ghost Value = { Leaf };
 
-    ghost view = { λ a. record { version = a.version; low = a.low; high = a.high; next = a.next; entries = entries_of a.count a.versions a.keys a.values } };
+    ghost view = { λ a. record { version = a.version; low = a.low; high = a.high; next = a.next; entries = entries_of_columns a.count a.versions a.keys a.values } };
 
     ghost invariant = { λ a. (a.count ≤ 64) × (length a.versions ≡ 64) × (length a.keys ≡ 64) × (length a.values ≡ 64) };
 }

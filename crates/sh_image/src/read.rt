@@ -2,7 +2,7 @@
 ghost use Rattle.std.specs.Prelude.{◌≡◌, length};
 ghost use Rattle.sh_base.specs.Parts.{parts_of};
 ghost use Rattle.sh_base.specs.Setting.{node_size};
-ghost use Rattle.sh_image.specs.Node.{seen_of, seen_with};
+ghost use Rattle.sh_image.specs.Node.{seen_as, seen_with};
 ghost use Rattle.sh_image.specs.Seen.{SeenBy};
 
 use crate::read_inner::inner_into;
@@ -89,7 +89,7 @@ pub fn read_image(cfg: &Config, words: &[u64]) -> Seen
 
 // What a reader sees where it sees this node.
 fn node_seen(image: Image) -> Seen
-    ensures { result ≡ seen_of image }
+    ensures { result ≡ seen_as image }
 {
     match image {
         Image::Leaf(leaf) => Seen::Leaf(leaf),

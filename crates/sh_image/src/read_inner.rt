@@ -5,7 +5,7 @@ ghost use Rattle.sh_base.specs.Parts.{parts_of};
 ghost use Rattle.sh_base.specs.Setting.{nodes, node_size};
 ghost use Rattle.sh_base.specs.Layout.{rear_at};
 ghost use Rattle.sh_image.specs.Inner.{inner_in, pairs_in, separator_at, words_behind, AreSeparators, HasChild, Inner, IsInner, SpellsInner};
-ghost use Rattle.sh_image.specs.Node.{seen_of};
+ghost use Rattle.sh_image.specs.Node.{seen_as};
 ghost use Rattle.sh_image.specs.Seen.{SeenBy};
 
 use crate::read_leaf::are_empty;
@@ -17,7 +17,7 @@ use sh_base::Config;
 pub(crate) fn inner_into(cfg: &Config, words: &[u64], image: &mut Image) -> bool
     requires size { length words.now ≡ node_size (parts_of cfg.now) }
     requires untorn { slice_index words.now (rear_at (parts_of cfg.now)) ≡ slice_index words.now 0 }
-    ensures spelled { IsTrue result → SeenBy (parts_of cfg.now) words.now (seen_of image.new) }
+    ensures spelled { IsTrue result → SeenBy (parts_of cfg.now) words.now (seen_as image.new) }
     ensures always { (a : Inner) → SpellsInner (parts_of cfg.now) words.now a → IsTrue result }
 {
     match image {
@@ -31,7 +31,7 @@ pub(crate) fn inner_into(cfg: &Config, words: &[u64], image: &mut Image) -> bool
 fn inner_in_place(cfg: &Config, words: &[u64], image: &mut Image) -> bool
     requires size { length words.now ≡ node_size (parts_of cfg.now) }
     requires untorn { slice_index words.now (rear_at (parts_of cfg.now)) ≡ slice_index words.now 0 }
-    ensures spelled { IsTrue result → SeenBy (parts_of cfg.now) words.now (seen_of image.new) }
+    ensures spelled { IsTrue result → SeenBy (parts_of cfg.now) words.now (seen_as image.new) }
     ensures always { (a : Inner) → SpellsInner (parts_of cfg.now) words.now a → IsTrue result }
 {
     let mut inner = InnerImage::new(0, 0, 0, 0, 0);

@@ -4,7 +4,7 @@ ghost use Rattle.sh_base.specs.Parts.{parts_of};
 ghost use Rattle.sh_base.specs.Setting.{nodes, node_size};
 ghost use Rattle.sh_image.specs.Entries.{entries_in};
 ghost use Rattle.sh_image.specs.Leaf.{leaf_in, IsEntry, IsLeaf, Leaf, Spells};
-ghost use Rattle.sh_image.specs.Node.{seen_of};
+ghost use Rattle.sh_image.specs.Node.{seen_as};
 ghost use Rattle.sh_image.specs.Seen.{HasWholeEntries, IsTornAt, IsUntorn, SeenBy};
 
 use crate::{Image, LeafEntry, LeafImage};
@@ -33,7 +33,7 @@ pub(crate) fn leaf_into(cfg: &Config, words: &[u64], image: &mut Image) -> bool
     requires size { length words.now ≡ node_size (parts_of cfg.now) }
     requires untorn { IsUntorn (parts_of cfg.now) words.now }
     requires level { slice_index words.now 1 ≡ 0 }
-    ensures spelled { IsTrue result → SeenBy (parts_of cfg.now) words.now (seen_of image.new) }
+    ensures spelled { IsTrue result → SeenBy (parts_of cfg.now) words.now (seen_as image.new) }
     ensures always { (a : Leaf) → Spells (parts_of cfg.now) words.now a → IsTrue result }
 {
     match image {
@@ -48,7 +48,7 @@ fn leaf_in_place(cfg: &Config, words: &[u64], image: &mut Image) -> bool
     requires size { length words.now ≡ node_size (parts_of cfg.now) }
     requires untorn { IsUntorn (parts_of cfg.now) words.now }
     requires level { slice_index words.now 1 ≡ 0 }
-    ensures spelled { IsTrue result → SeenBy (parts_of cfg.now) words.now (seen_of image.new) }
+    ensures spelled { IsTrue result → SeenBy (parts_of cfg.now) words.now (seen_as image.new) }
     ensures always { (a : Leaf) → Spells (parts_of cfg.now) words.now a → IsTrue result }
 {
     let mut leaf = LeafImage::new(0, 0, 0, 0, 0, Value::of(&[0]));

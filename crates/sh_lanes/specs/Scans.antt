@@ -2,8 +2,8 @@
 use Rattle.std.specs.Prelude.{◌≡◌, ◌≢◌, ℕ, ◌+◌, ◌*◌, ◌<◌, ◌==◌, if◌then◌else◌, List, [], ◌∷◌, length, slice_index}
 
 -- no word is this one
-abbrev pub HasNone : List ℕ → ℕ → Type 0
-HasNone words word = (i : ℕ) → i < length words → slice_index words i ≢ word
+abbrev pub LacksWord : List ℕ → ℕ → Type 0
+LacksWord words word = (i : ℕ) → i < length words → slice_index words i ≢ word
 
 -- the least index of a word
 pub record IsFirst (words : List ℕ) (word i : ℕ) : Type 0 where

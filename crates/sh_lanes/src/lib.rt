@@ -5,13 +5,13 @@
 ghost use Rattle.std.specs.Prelude.{◌≡◌, ◌==◌, ℕ, ◌+◌, ◌*◌, ◌<◌, ◌≤◌, length, not, MatchOption};
 ghost use Rattle.std.specs.List.{prefix_len};
 ghost use Rattle.std.specs.Simd.Lanes.{chunk, zip2};
-ghost use Rattle.sh_lanes.specs.Scans.{count_empty, HasNone, IsColumn, IsFirst, IsFirstDiffering};
+ghost use Rattle.sh_lanes.specs.Scans.{count_empty, LacksWord, IsColumn, IsFirst, IsFirstDiffering};
 
 use std::simd::prelude::*;
 
 /// The least index whose word is `key`, and `None` exactly where there is none.
 pub fn first_equal(keys: &[u64], key: u64) -> Option<usize>
-    ensures { MatchOption result (HasNone keys.now key) (λ i. IsFirst keys.now key i) }
+    ensures { MatchOption result (LacksWord keys.now key) (λ i. IsFirst keys.now key i) }
 {
     let mut at = 0;
     'fours: while keys.len() - at >= 4 {

@@ -18,8 +18,8 @@ use Rattle.sh_local.specs.declared.view.ChairCall.{ChairCall}
 use Rattle.sh_local.specs.declared.view.ChairCall.TheVariants.{Drew, Waited, Turned, Counted, Left}
 use Rattle.sh_local.specs.declared.view.View.{View}
 use Rattle.sh_local.specs.Calls.{ticket, weight, weight_at_home, gave, took, drew_at, turned_at, below, total, waits, out, held, drew, waited, turned, counted, gone, seen_ahead, or_none}
-use Rattle.sh_local.specs.Lines.{Line, before, Seated, Stands, AllStand, HasTicket, in_turn, Queue, Kept, LineAgrees}
-use Rattle.sh_local.specs.Steps.{Draws, Looks, LooksIf, Counts, Leaves, FitsIf, carried}
+use Rattle.sh_local.specs.Lines.{Line, before, Seated, StandsInLine, AllStand, HasTicket, in_turn, Queue, Kept, LineAgrees}
+use Rattle.sh_local.specs.Steps.{Draws, Looks, LooksIf, Counts, LeavesQueue, FitsIf, carried_right}
 use Rattle.sh_local.specs.Chairs.{MayLeave}
 use Rattle.sh_local.proofs.Sums.{total_set, total_le, put, put_here, put_else, same_at, at_lt, there}
 use Rattle.sh_local.proofs.Changes.{Grows, changes, stand_on, more_of, has_same, turn_same, length_set}
@@ -140,7 +140,7 @@ module _ {T K : Type 0} (fits : K → ℕ → T → Type 0) (key : K) (chairs : 
 
   -- a call that changes neither line nor value
   note_kept : (words : List ℕ) (homes : List (maybe.Option (Option T))) (views : List (View T K)) (r : Kept fits key chairs words homes views) (id : ℕ) (v : View T K) (a : ChairCall T) (d : Bool) → get_elem? views id ≡ some v → v.ticket ≡ Some (held v) → (held v).cell < length homes
-      → Stands r.lines a → gave a ≡ took a → ((x n : ℕ) → (drew_at x n a ≡ 0) × (turned_at x n a ≡ 0)) → (d ≡ true → (held v).number + 1 < (r.lines (held v).cell).next)
+      → StandsInLine r.lines a → gave a ≡ took a → ((x n : ℕ) → (drew_at x n a ≡ 0) × (turned_at x n a ≡ 0)) → (d ≡ true → (held v).number + 1 < (r.lines (held v).cell).next)
       → Kept fits key chairs words homes (set views id (record { key = v.key; parts = v.parts; ticket = Some (ticket (held v).cell (held v).number (held v).turn d); calls = v.calls ++ a ∷ [] }))
   note_kept words homes views r id v a d at has lt stands none no_draw ahead =
       let t : Ticket = held v in
@@ -307,7 +307,7 @@ module _ {T K : Type 0} (fits : K → ℕ → T → Type 0) (key : K) (chairs : 
       let l : Line T = r.lines (held v).cell in
       let is_served : found ≡ l.served % 2 ^ 64 = ap (λ (j : ℕ). get_or s.words j 0) is ∙ q.served_is in
       let apart : l.served ≢ (held v).number = λ z. ne (is_served ∙ ap (λ (j : ℕ). j % 2 ^ 64) z) in
-      let stands : Stands r.lines (Waited (held v).cell (held v).number found) = (l.served, is_served, omega (arith, s0.least, apart), omega arith) in
+      let stands : StandsInLine r.lines (Waited (held v).cell (held v).number found) = (l.served, is_served, omega (arith, s0.least, apart), omega arith) in
       let k = note_kept s.words s.homes s.views r id v (Waited (held v).cell (held v).number found) (held v).ahead at has lt stands refl (λ x n. (refl, refl)) s0.ahead in
       (waited v found, keeps, tt, k, subst (λ (b : Bool). LooksIf fits b me found (waited v found, me.1)) (sym (ne_eqb found ((held v).number % 2 ^ 64) ne)) (refl, refl)))
 
@@ -340,7 +340,7 @@ module _ {T K : Type 0} (fits : K → ℕ → T → Type 0) (key : K) (chairs : 
       )
 
   pub allows_leave : (slots id : ℕ) (me : Me (Option T) (View T K)) (i x : ℕ) (o : Option T) → me.0.ticket ≡ Some (held me.0) → (held me.0).turn ≡ true → me.1 ≡ ((held me.0).cell, o) ∷ [] → i ≡ slots + (held me.0).cell → (held me.0).cell < slots → MayLeave (fits key (held me.0).cell) (held me.0) o → x ≡ ((held me.0).number + 1) % 2 ^ 64
-      → Allows Holds slots id me i (λ _. x) (λ _ now. Leaves me now)
+      → Allows Holds slots id me i (λ _. x) (λ _ now. LeavesQueue me now)
   allows_leave slots id me i x o has turn_ list is lt may word s r homes at small =
       let v : View T K = me.0 in
       let k = leave_kept s.words s.homes s.views r id v o x at has turn_ (omega (arith, lt, homes)) may word in
@@ -349,13 +349,13 @@ module _ {T K : Type 0} (fits : K → ℕ → T → Type 0) (key : K) (chairs : 
         gives,
         tt,
         subst (λ (p : ℕ × List (ℕ × Option T)). Kept fits key chairs (set s.words p.0 x) (Rattle.atomic_table.specs.Table.put_back s.homes p.1) (set s.views id (gone v o))) (λ z. (sym same z, sym list z)) k,
-        (ap (λ (y : List (ℕ × Option T)). gone v (carried y)) (sym list), refl),
+        (ap (λ (y : List (ℕ × Option T)). gone v (carried_right y)) (sym list), refl),
       )
 
   -- what holds of a call that is among the calls
-  stands_in : (lines : ℕ → Line T) (xs : List (ChairCall T)) (a : ChairCall T) → Contains xs a → AllStand lines xs → Stands lines a
+  stands_in : (lines : ℕ → Line T) (xs : List (ChairCall T)) (a : ChairCall T) → Contains xs a → AllStand lines xs → StandsInLine lines a
   stands_in lines [] a (k, lt, e) s = absurd (omega (arith, lt))
-  stands_in lines (x ∷ xs) a (zero, lt, e) s = subst (Stands lines) e s.0
+  stands_in lines (x ∷ xs) a (zero, lt, e) s = subst (StandsInLine lines) e s.0
   stands_in lines (x ∷ xs) a (suc k, lt, e) s = stands_in lines xs a (k, omega (arith, lt), e) s.1
 
   pub line_agrees : (words : List ℕ) (homes : List (maybe.Option (Option T))) (views : List (View T K)) → Kept fits key chairs words homes views → (c : ℕ) (h : maybe.Option (Option T)) → get_elem? homes c ≡ some h → LineAgrees (fits key) c (get_or words c 0) (get_or words (length homes + c) 0) h views
@@ -379,7 +379,7 @@ module _ {T K : Type 0} (fits : K → ℕ → T → Type 0) (key : K) (chairs : 
         turns = q.turns;
         first = λ o e z. q.value o e ∙ ap (before l.left) z;
         last = λ id n o p e z t.
-            let k : Stands r.lines (Left c n p) = stands_in r.lines t.0.calls (Left c n p) t.2 (r.known id t.0 t.1).stand in
+            let k : StandsInLine r.lines (Left c n p) = stands_in r.lines t.0.calls (Left c n p) t.2 (r.known id t.0 t.1).stand in
             q.value o e ∙ ap (before l.left) (z ∙ add-one n) ∙ sym k.1;
         only = λ id n t. let s = seat id n t.2 t.3 t.0 t.1 t.4 in (s.least, s.drawn);
         turn = λ id n t. let s = (seat id n true t.2 t.0 t.1 t.3).turn refl in (s.0, some-injective h maybe.none (sym home ∙ s.1));

@@ -11,7 +11,7 @@ use Rattle.sh_local.specs.declared.view.ChairCall.{ChairCall}
 use Rattle.sh_local.specs.declared.view.ChairCall.TheVariants.{Drew, Waited, Turned, Counted, Left}
 use Rattle.sh_local.specs.declared.view.View.{View}
 use Rattle.sh_local.specs.Calls.{ticket, weight_at_home, gave, took, drew_at, draws_of, turned_at, turns_of, below, total, given, taken, waits, out, or_none}
-use Rattle.sh_local.specs.Lines.{Line, before, Seated, Stands, AllStand, Knows, HasTicket, HasTurn, Queue, Kept}
+use Rattle.sh_local.specs.Lines.{Line, before, Seated, StandsInLine, AllStand, KnowsLine, HasTicket, HasTicketTurn, Queue, Kept}
 use Rattle.sh_local.proofs.Sums.{total_set, total_snoc, put, put_here, put_else, at_put, same_at, at_lt}
 
 pub length_set : {A : Type 0} (xs : List A) (i : ℕ) (a : A) → length (set xs i a) ≡ length xs
@@ -32,7 +32,7 @@ module _ {T : Type 0} where
   before_same old new zero h = refl
   before_same old new (suc n) h = h n (omega arith)
 
-  pub stand_on : (lines : ℕ → Line T) (id c : ℕ) (l : Line T) (h h' : maybe.Option (Option T)) → Grows id (lines c) l h h' → (a : ChairCall T) → Stands lines a → Stands (put lines c l) a
+  pub stand_on : (lines : ℕ → Line T) (id c : ℕ) (l : Line T) (h h' : maybe.Option (Option T)) → Grows id (lines c) l h h' → (a : ChairCall T) → StandsInLine lines a → StandsInLine (put lines c l) a
   stand_on lines id c l h h' g (Drew d n) s = at_put (λ (z : Line T). n < z.next) lines c l d (λ e. let k : n < (lines c).next = subst (λ x. n < (lines x).next) e s in let m = g.next in omega arith) (λ _. s)
   stand_on lines id c l h h' g (Waited d n x) (m, is, lt, le) = (m, is, lt, at_put (λ (z : Line T). m ≤ z.served) lines c l d (λ e. let k : m ≤ (lines c).served = subst (λ y. m ≤ (lines y).served) e le in let grown = g.served in omega arith) (λ _. le))
   stand_on lines id c l h h' g (Turned d n o) s = at_put (λ (z : Line T). (n ≤ z.served) × (o ≡ before z.left n)) lines c l d
@@ -95,7 +95,7 @@ some_ticket s t e = ap or_none e
 
 module _ {T K : Type 0} where
   knows_on : (key : K) (lines : ℕ → Line T) (homes : List (maybe.Option (Option T))) (id c : ℕ) (l : Line T) (h h' : maybe.Option (Option T)) → Grows id (lines c) l h h' → get_elem? homes c ≡ some h → (i : ℕ) (u : View T K) → i ≢ id
-      → Knows key lines homes i u → Knows key (put lines c l) (set homes c h') i u
+      → KnowsLine key lines homes i u → KnowsLine key (put lines c l) (set homes c h') i u
   knows_on key lines homes id c l h h' g at i u ne k = record {
     key_is = k.key_is;
     seated = λ t e. seated_on lines homes id c l h h' g at i t ne (k.seated t e);
@@ -116,7 +116,7 @@ module _ {T K : Type 0} where
     is,
   )
 
-  turn_else : (views : List (View T K)) (id : ℕ) (v w : View T K) (c j n : ℕ) → get_elem? views id ≡ some v → out c v ≡ 0 → HasTurn views j c n → HasTurn (set views id w) j c n
+  turn_else : (views : List (View T K)) (id : ℕ) (v w : View T K) (c j n : ℕ) → get_elem? views id ≡ some v → out c v ≡ 0 → HasTicketTurn views j c n → HasTicketTurn (set views id w) j c n
   turn_else views id v w c j n at none (u, e, d, is) = (
     u,
     set_else views id j w (λ q.
@@ -135,7 +135,7 @@ module _ {T K : Type 0} where
       (w, ap (get_elem? (set views id w)) q ∙ set_here views id w (at_lt views id v at), b', d', now ∙ ap (λ (x : Ticket). Some (ticket x.cell x.number b' d')) tick))
       (λ (q : j ≢ id). (u, set_else views id j w q ∙ e, b, d, is))
 
-  pub turn_same : (views : List (View T K)) (id : ℕ) (v w : View T K) (t : Ticket) (d' : Bool) (c j n : ℕ) → get_elem? views id ≡ some v → v.ticket ≡ Some t → w.ticket ≡ Some (ticket t.cell t.number t.turn d') → HasTurn views j c n → HasTurn (set views id w) j c n
+  pub turn_same : (views : List (View T K)) (id : ℕ) (v w : View T K) (t : Ticket) (d' : Bool) (c j n : ℕ) → get_elem? views id ≡ some v → v.ticket ≡ Some t → w.ticket ≡ Some (ticket t.cell t.number t.turn d') → HasTicketTurn views j c n → HasTicketTurn (set views id w) j c n
   turn_same views id v w t d' c j n at has now (u, e, d, is) = dite (ℕ_discrete j id)
       (λ (q : j ≡ id).
       let same : u ≡ v = same_at views id u v (ap (get_elem? views) (sym q) ∙ e) at in
@@ -171,13 +171,13 @@ module _ {T K : Type 0} (fits : K → ℕ → T → Type 0) (key : K) (chairs : 
       → ((d : ℕ) → d ≢ c → (out d v ≡ 0) × (out d w ≡ 0))
       → Queue (fits key) c l (get_or words' c 0) (get_or words' (length homes + c) 0) h' (set views id w)
       → Grows id (r.lines c) l h h'
-      → w.key ≡ v.key → w.parts ≡ v.parts → 1 ≤ v.parts → w.calls ≡ v.calls ++ a ∷ [] → Stands (put r.lines c l) a
+      → w.key ≡ v.key → w.parts ≡ v.parts → 1 ≤ v.parts → w.calls ≡ v.calls ++ a ∷ [] → StandsInLine (put r.lines c l) a
       → ((t : Ticket) → w.ticket ≡ Some t → (t.cell ≡ c) × Seated l (some h') id t)
       → gave a + weight_at_home h ≡ took a + weight_at_home h' → ((n : ℕ) → below n l.next ≡ below n (r.lines c).next + drew_at c n a) → ((d n : ℕ) → d ≢ c → (drew_at d n a ≡ 0) × (turned_at d n a ≡ 0))
       → Kept fits key chairs words' (set homes c h') (set views id w)
   changes words words' homes views r id v w c l h h' a at home long same apart queue grows keys parts some_part calls stands tickets balance draws no_draws =
       let old = r.known id v at in
-      let knows : Knows key (put r.lines c l) (set homes c h') id w = record {
+      let knows : KnowsLine key (put r.lines c l) (set homes c h') id w = record {
         key_is = λ k e. old.key_is k (sym keys ∙ e);
         seated = λ t e. let y = tickets t e in seated_here r.lines homes c l h' id t (at_lt homes c h home) y.0 y.1;
         part = λ t e. omega (arith, parts, some_part);
@@ -207,7 +207,7 @@ module _ {T K : Type 0} (fits : K → ℕ → T → Type 0) (key : K) (chairs : 
             (sym (put_else r.lines c l d y.0)) (sym s.0) (sym (ap (λ (n : ℕ). get_or words' (n + d) 0) lens ∙ s.1)) (r.queues d x y.1))
             (at_set homes c d h' x e);
         known = λ i u e. ⊎_elim
-            (λ (y : (i ≡ id) × (w ≡ u)). subst (λ (p : ℕ × View T K). Knows key (put r.lines c l) (set homes c h') p.0 p.1) (λ z. (sym y.0 z, y.1 z)) knows)
+            (λ (y : (i ≡ id) × (w ≡ u)). subst (λ (p : ℕ × View T K). KnowsLine key (put r.lines c l) (set homes c h') p.0 p.1) (λ z. (sym y.0 z, y.1 z)) knows)
             (λ (y : (i ≢ id) × (get_elem? views i ≡ some u)). knows_on key r.lines homes id c l h h' grows home i u y.0 (r.known i u y.1))
             (at_set views id i w u e);
         parts = omega arith;

@@ -9,23 +9,16 @@ use Rattle.std.proofs.lemmas.Bool.Decides.{nat_tests}
 use Rattle.std.proofs.lemmas.Option.{none-some}
 use Rattle.atomic_table.specs.Table.{Splits, Joins}
 use Rattle.atomic_table.proofs.Lists.{at_set, set_else, at_longer, at_snoc}
+use Rattle.sh_logic.proofs.Options.{some_is}
 use Rattle.sh_local.specs.declared.view.Ticket.{Ticket}
 use Rattle.sh_local.specs.declared.view.ChairCall.{ChairCall}
 use Rattle.sh_local.specs.declared.view.View.{View}
 use Rattle.sh_local.specs.Calls.{weight, weight_at_home, gave, took, drew_at, draws_of, turned_at, turns_of, below, total, given, taken, waits, out, opener}
-use Rattle.sh_local.specs.Lines.{Line, AllStand, Knows, in_turn, before, Kept}
+use Rattle.sh_local.specs.Lines.{Line, AllStand, KnowsLine, in_turn, before, Kept}
 use Rattle.sh_local.specs.Calls.{less_one, new_chair, both, spent}
 use Rattle.sh_local.proofs.Sums.{total_set, total_snoc, total_append, total_none, total_alone, total_part, same_at, at_lt, there}
 use Rattle.sh_local.proofs.Changes.{all_stand_append}
 use Rattle.sh_local.proofs.Allowed.{Holds, out_le}
-
--- what is in a `Some`
-abbrev or_this : {A : Type 0} → A → Option A → A
-or_this a None = a
-or_this a (Some b) = b
-
-Some_is : {A : Type 0} (a b : A) → Some b ≡ Some a → b ≡ a
-Some_is a b e = ap (or_this a) e
 
 abbrev part : {T K : Type 0} → View T K → ℕ
 part v = v.parts
@@ -35,7 +28,7 @@ module _ {T K : Type 0} (fits : K → ℕ → T → Type 0) (key : K) (chairs : 
   regroup : (words : List ℕ) (homes : List (maybe.Option (Option T))) (views now : List (View T K)) (r : Kept fits key chairs words homes views)
       → ((c : ℕ) → total (out c) now ≡ total (out c) views) → total part now ≡ total part views → total given now ≡ total given views → total taken now ≡ total taken views → ((c n : ℕ) → total (draws_of c n) now ≡ total (draws_of c n) views) → ((c n : ℕ) → total (turns_of c n) now ≡ total (turns_of c n) views)
       → ((i : ℕ) (u : View T K) (t : Ticket) → get_elem? views i ≡ some u → u.ticket ≡ Some t → get_elem? now i ≡ some u)
-      → ((i : ℕ) (u : View T K) → get_elem? now i ≡ some u → Knows key r.lines homes i u)
+      → ((i : ℕ) (u : View T K) → get_elem? now i ≡ some u → KnowsLine key r.lines homes i u)
       → Kept fits key chairs words homes now
   regroup words homes views now r outs parts gives takes draws turns stay knows = record {
     lines = r.lines;
@@ -77,10 +70,10 @@ module _ {T K : Type 0} (fits : K → ℕ → T → Type 0) (key : K) (chairs : 
       (λ i u t e has. at_longer mid (right ∷ []) i u (set_else views id i left (λ z. let same : u ≡ v = same_at views id u v (ap (get_elem? views) (sym z) ∙ e) at in none-some t (sym none ∙ ap (λ (x : View T K). x.ticket) (sym same) ∙ has)) ∙ e))
       (λ i u e. ⊎_elim
       (λ (y : get_elem? mid i ≡ some u). ⊎_elim
-      (λ (z : (i ≡ id) × (left ≡ u)). subst (λ (p : ℕ × View T K). Knows key r.lines s.homes p.0 p.1) (λ j. (sym z.0 j, z.1 j)) record { key_is = k.key_is; seated = k.seated; part = λ t h. absurd (none-some t (sym none ∙ h)); stand = k.stand; nothing = λ h. fresh })
+      (λ (z : (i ≡ id) × (left ≡ u)). subst (λ (p : ℕ × View T K). KnowsLine key r.lines s.homes p.0 p.1) (λ j. (sym z.0 j, z.1 j)) record { key_is = k.key_is; seated = k.seated; part = λ t h. absurd (none-some t (sym none ∙ h)); stand = k.stand; nothing = λ h. fresh })
       (λ (z : (i ≢ id) × (get_elem? views i ≡ some u)). r.known i u z.1)
       (at_set views id i left u y))
-      (λ (y : right ≡ u). subst (Knows key r.lines s.homes i) y record { key_is = k.key_is; seated = λ t h. absurd (none-some t h); part = λ t h. absurd (none-some t h); stand = tt; nothing = λ h. refl })
+      (λ (y : right ≡ u). subst (KnowsLine key r.lines s.homes i) y record { key_is = k.key_is; seated = λ t h. absurd (none-some t h); part = λ t h. absurd (none-some t h); stand = tt; nothing = λ h. refl })
       (at_snoc mid right u i e))
 
   pub joins : (id : ℕ) (v : View T K) (other : ℕ) (w : View T K) → v.ticket ≡ None → w.ticket ≡ None → Joins (Holds fits key chairs) id v other w (both v w) spent
@@ -106,9 +99,9 @@ module _ {T K : Type 0} (fits : K → ℕ → T → Type 0) (key : K) (chairs : 
       (λ c n. sums (turns_of c n) (total_append (turned_at c n) v.calls w.calls) refl)
       (λ i u t e has. set_else mid other i spent (none_at i other u w t at' none' e has) ∙ set_else views id i b (none_at i id u v t at none e has) ∙ e)
       (λ i u e. ⊎_elim
-      (λ (z : (i ≡ other) × (spent ≡ u)). subst (λ (p : ℕ × View T K). Knows key r.lines s.homes p.0 p.1) (λ j. (sym z.0 j, z.1 j)) record { key_is = λ x h. absurd (none-some x h); seated = λ t h. absurd (none-some t h); part = λ t h. absurd (none-some t h); stand = tt; nothing = λ h. refl })
+      (λ (z : (i ≡ other) × (spent ≡ u)). subst (λ (p : ℕ × View T K). KnowsLine key r.lines s.homes p.0 p.1) (λ j. (sym z.0 j, z.1 j)) record { key_is = λ x h. absurd (none-some x h); seated = λ t h. absurd (none-some t h); part = λ t h. absurd (none-some t h); stand = tt; nothing = λ h. refl })
       (λ (y : (i ≢ other) × (get_elem? mid i ≡ some u)). ⊎_elim
-      (λ (z : (i ≡ id) × (b ≡ u)). subst (λ (p : ℕ × View T K). Knows key r.lines s.homes p.0 p.1) (λ j. (sym z.0 j, z.1 j)) record {
+      (λ (z : (i ≡ id) × (b ≡ u)). subst (λ (p : ℕ × View T K). KnowsLine key r.lines s.homes p.0 p.1) (λ j. (sym z.0 j, z.1 j)) record {
         key_is = k.key_is;
         seated = λ t h. absurd (none-some t (sym none ∙ h));
         part = λ t h. absurd (none-some t (sym none ∙ h));
@@ -141,8 +134,8 @@ length_zeros : (n : ℕ) → length {A = ℕ} (replicate n 0) ≡ n
 length_zeros zero = refl
 length_zeros (suc n) = ap suc (length_zeros n)
 
-first_known : {T K : Type 0} (key : K) (chairs : ℕ) (lines : ℕ → Line T) (homes : List (maybe.Option (Option T))) (id : ℕ) (v : View T K) → get_elem? (opener key chairs ∷ []) id ≡ some v → Knows key lines homes id v
-first_known key chairs lines homes zero v e = subst (Knows key lines homes 0) (some-injective (opener key chairs) v e) record { key_is = λ k h. sym (Some_is k key h); seated = λ t h. absurd (none-some t h); part = λ t h. absurd (none-some t h); stand = tt; nothing = λ h. refl }
+first_known : {T K : Type 0} (key : K) (chairs : ℕ) (lines : ℕ → Line T) (homes : List (maybe.Option (Option T))) (id : ℕ) (v : View T K) → get_elem? (opener key chairs ∷ []) id ≡ some v → KnowsLine key lines homes id v
+first_known key chairs lines homes zero v e = subst (KnowsLine key lines homes 0) (some-injective (opener key chairs) v e) record { key_is = λ k h. sym (some_is h); seated = λ t h. absurd (none-some t h); part = λ t h. absurd (none-some t h); stand = tt; nothing = λ h. refl }
 first_known key chairs lines homes (suc id) v e = absurd (some-ne-none v (sym e))
 
 below_zero : (n : ℕ) → below n 0 ≡ 0

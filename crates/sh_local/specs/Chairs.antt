@@ -33,9 +33,9 @@ cells_of None = 0
 cells_of (Some r) = r.cells
 
 -- a table that was just made, and its chairs: none has made a call
-abbrev pub IsNew : {T K : Type 0} → (chairs cells : ℕ) → K → Option (CellTable K) → List (Sitting T K) → Type 0
-IsNew chairs cells key None ss = ⊥
-IsNew chairs cells key (Some r) ss = (r.key ≡ key) × (r.cells ≡ cells) × (r.chairs ≡ chairs) × (ss ≡ replicate chairs (fresh_chair r.table key))
+abbrev pub IsNewTable : {T K : Type 0} → (chairs cells : ℕ) → K → Option (CellTable K) → List (Sitting T K) → Type 0
+IsNewTable chairs cells key None ss = ⊥
+IsNewTable chairs cells key (Some r) ss = (r.key ≡ key) × (r.cells ≡ cells) × (r.chairs ≡ chairs) × (ss ≡ replicate chairs (fresh_chair r.table key))
 
 abbrev pub slot_at : {T : Type 0} → Bool → ℕ → List (ℕ × Option T)
 slot_at true c = (c, None) ∷ []
@@ -52,9 +52,9 @@ word_if word None = Unit {0}
 word_if word (Some t) = word ≡ t.number % 2 ^ 64
 
 -- the chair is one of this table's, and the table has this cell; a table that was gathered has neither
-abbrev pub IsAt : {T K : Type 0} → Option (CellTable K) → Sitting T K → ℕ → Type 0
-IsAt None s c = ⊥
-IsAt (Some r) s c = (s.table ≡ r.table) × (s.view.key ≡ Some r.key) × (c < r.cells)
+abbrev pub SitsAt : {T K : Type 0} → Option (CellTable K) → Sitting T K → ℕ → Type 0
+SitsAt None s c = ⊥
+SitsAt (Some r) s c = (s.table ≡ r.table) × (s.view.key ≡ Some r.key) × (c < r.cells)
 
 -- the value fits the table's key and the cell
 abbrev pub FitsAt : {T K : Type 0} → (K → ℕ → T → Type 0) → Option (CellTable K) → ℕ → T → Type 0

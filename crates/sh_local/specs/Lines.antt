@@ -30,19 +30,19 @@ pub record Seated {T : Type 0} (l : Line T) (home : maybe.Option (maybe.Option (
   pub ahead : t.ahead ≡ true → t.number + 1 < l.next
 
 -- What holds from then on of a call that was made. A draw's ticket is drawn. A look that waits found an earlier ticket, which was served then. A turn comes no sooner than its ticket is served, and carries what the turn before left. As many later tickets as were counted are drawn
-abbrev pub Stands : {T : Type 0} → (ℕ → Line T) → ChairCall T → Type 0
-Stands lines (Drew c n) = n < (lines c).next
-Stands lines (Waited c n x) = (m : ℕ) × (x ≡ m % 2 ^ 64) × (m < n) × (m ≤ (lines c).served)
-Stands lines (Turned c n o) = (n ≤ (lines c).served) × (o ≡ before (lines c).left n)
-Stands lines (Counted c n x) = n + x < (lines c).next
-Stands lines (Left c n o) = (n < (lines c).served) × (o ≡ (lines c).left n)
+abbrev pub StandsInLine : {T : Type 0} → (ℕ → Line T) → ChairCall T → Type 0
+StandsInLine lines (Drew c n) = n < (lines c).next
+StandsInLine lines (Waited c n x) = (m : ℕ) × (x ≡ m % 2 ^ 64) × (m < n) × (m ≤ (lines c).served)
+StandsInLine lines (Turned c n o) = (n ≤ (lines c).served) × (o ≡ before (lines c).left n)
+StandsInLine lines (Counted c n x) = n + x < (lines c).next
+StandsInLine lines (Left c n o) = (n < (lines c).served) × (o ≡ (lines c).left n)
 
 abbrev pub AllStand : {T : Type 0} → (ℕ → Line T) → List (ChairCall T) → Type 0
 AllStand lines [] = Unit {0}
-AllStand lines (a ∷ as_) = Stands lines a × AllStand lines as_
+AllStand lines (a ∷ as_) = StandsInLine lines a × AllStand lines as_
 
 -- what holds of the view of the seat id
-pub record Knows {T K : Type 0} (key : K) (lines : ℕ → Line T) (homes : List (maybe.Option (Option T))) (id : ℕ) (v : View T K) : Type 0 where
+pub record KnowsLine {T K : Type 0} (key : K) (lines : ℕ → Line T) (homes : List (maybe.Option (Option T))) (id : ℕ) (v : View T K) : Type 0 where
   pub key_is : (k : K) → v.key ≡ Some k → k ≡ key
   pub seated : (t : Ticket) → v.ticket ≡ Some t → Seated (lines t.cell) (get_elem? homes t.cell) id t
   pub part : (t : Ticket) → v.ticket ≡ Some t → 1 ≤ v.parts
@@ -54,8 +54,8 @@ abbrev pub HasTicket : {T K : Type 0} → List (View T K) → ℕ → ℕ → �
 HasTicket {T} {K} views id c n = (v : View T K) × (get_elem? views id ≡ maybe.some v) × (b : Bool) × (d : Bool) × (v.ticket ≡ Some (ticket c n b d))
 
 -- the seat id has the turn with the ticket n of the cell c
-abbrev pub HasTurn : {T K : Type 0} → List (View T K) → ℕ → ℕ → ℕ → Type 0
-HasTurn {T} {K} views id c n = (v : View T K) × (get_elem? views id ≡ maybe.some v) × (d : Bool) × (v.ticket ≡ Some (ticket c n true d))
+abbrev pub HasTicketTurn : {T K : Type 0} → List (View T K) → ℕ → ℕ → ℕ → Type 0
+HasTicketTurn {T} {K} views id c n = (v : View T K) × (get_elem? views id ≡ maybe.some v) × (d : Bool) × (v.ticket ≡ Some (ticket c n true d))
 
 -- the seat id has left this at the end of the turn n of the cell c
 abbrev pub HasLeft : {T K : Type 0} → List (View T K) → ℕ → ℕ → ℕ → Option T → Type 0
@@ -72,7 +72,7 @@ pub record Queue {T K : Type 0} (fits : ℕ → T → Type 0) (c : ℕ) (l : Lin
   pub served_is : served ≡ l.served % 2 ^ 64
   pub line : total (out c) views + l.served ≡ l.next
   pub each : (n : ℕ) → l.served ≤ n → n < l.next → HasTicket views (l.holder n) c n
-  pub away : home ≡ maybe.none → (l.served < l.next) × HasTurn views (l.holder l.served) c l.served
+  pub away : home ≡ maybe.none → (l.served < l.next) × HasTicketTurn views (l.holder l.served) c l.served
   pub value : (o : Option T) → home ≡ maybe.some o → o ≡ before l.left l.served
   pub kept : (x : T) → home ≡ maybe.some (Some x) → (l.served < l.next) × fits c x
   pub turns : (n : ℕ) → total (turns_of c n) views ≡ below n l.served + in_turn n l.served home
@@ -83,7 +83,7 @@ pub record Kept {T K : Type 0} (fits : K → ℕ → T → Type 0) (key : K) (ch
   pub long : length words ≡ length homes + length homes
   pub few : chairs < 2 ^ 64
   pub queues : (c : ℕ) (h : maybe.Option (Option T)) → get_elem? homes c ≡ maybe.some h → Queue (fits key) c (lines c) (slice_index words c) (slice_index words (length homes + c)) h views
-  pub known : (id : ℕ) (v : View T K) → get_elem? views id ≡ maybe.some v → Knows key lines homes id v
+  pub known : (id : ℕ) (v : View T K) → get_elem? views id ≡ maybe.some v → KnowsLine key lines homes id v
   pub parts : total (λ (v : View T K). v.parts) views ≡ chairs
   pub once : (c n : ℕ) → total (draws_of c n) views ≡ below n (lines c).next
   pub balance : total given views ≡ total taken views + total weight_at_home homes
@@ -103,8 +103,8 @@ pub record LineAgrees {T K : Type 0} (fits : ℕ → T → Type 0) (c : ℕ) (dr
   pub out : (n : ℕ) → served ≤ n → n < next → (id : ℕ) × OneHas views id c n
   pub only : (id n : ℕ) → HasTicket views id c n → (served ≤ n) × (n < next)
   pub draws : (n : ℕ) → total (draws_of c n) views ≡ below n next
-  pub turn : (id n : ℕ) → HasTurn views id c n → (n ≡ served) × (home ≡ maybe.none)
-  pub one : (id other n m : ℕ) → HasTurn views id c n → HasTurn views other c m → id ≡ other
+  pub turn : (id n : ℕ) → HasTicketTurn views id c n → (n ≡ served) × (home ≡ maybe.none)
+  pub one : (id other n m : ℕ) → HasTicketTurn views id c n → HasTicketTurn views other c m → id ≡ other
   pub turns : (n : ℕ) → total (turns_of c n) views ≡ below n served + in_turn n served home
   pub first : (o : Option T) → home ≡ maybe.some o → served ≡ 0 → o ≡ None
   pub last : (id n : ℕ) (o p : Option T) → home ≡ maybe.some o → served ≡ n + 1 → HasLeft views id c n p → o ≡ p

@@ -26,10 +26,10 @@ abbrev pub Counts : {T K : Type 0} → View T K → ℕ → View T K → Type 0
 Counts v found w = (m : ℕ) × (m < 2 ^ 64) × (found ≡ ((held v).number + 1 + m) % 2 ^ 64) × (w ≡ counted v m)
 
 -- what the seat has out
-abbrev pub carried : {T : Type 0} → List (ℕ × Option T) → Option T
-carried [] = None
-carried (x ∷ xs) = x.1
+abbrev pub carried_right : {T : Type 0} → List (ℕ × Option T) → Option T
+carried_right [] = None
+carried_right (x ∷ xs) = x.1
 
 -- a leave: what the seat has out goes back into its cell
-abbrev pub Leaves : {T K : Type 0} → Me (Option T) (View T K) → Me (Option T) (View T K) → Type 0
-Leaves me now = (now.0 ≡ gone me.0 (carried me.1)) × (now.1 ≡ rest me.1)
+abbrev pub LeavesQueue : {T K : Type 0} → Me (Option T) (View T K) → Me (Option T) (View T K) → Type 0
+LeavesQueue me now = (now.0 ≡ gone me.0 (carried_right me.1)) × (now.1 ≡ rest me.1)

@@ -1,7 +1,7 @@
 // The table of ticket queues, as chairs see it.
 ghost use Rattle.std.specs.Prelude.{◌≡◌, ◌≢◌, ◌≤◌, None, Some, true, false, IfOk};
 ghost use Rattle.sh_local.specs.Calls.{counted, gone, held};
-ghost use Rattle.sh_local.specs.Chairs.{AreAll, FitsAt, Gathered, HasTicketFor, IsAt, IsNew, Looked, MayLeave, cells_of};
+ghost use Rattle.sh_local.specs.Chairs.{AreAll, FitsAt, Gathered, HasTicketFor, SitsAt, IsNewTable, Looked, MayLeave, cells_of};
 ghost use Rattle.sh_local.specs.Steps.{Draws};
 
 use crate::chair::Chair;
@@ -39,7 +39,7 @@ impl<T: Carried> Cells<T> {
         key: T::Key,
     ) -> Result<(Cells<T>, Vec<Chair<T>>), AllocError>
         requires { (1 ≤ chairs) × (1 ≤ cells) }
-        ensures { IfOk result (λ r. IsNew chairs cells key r.0 r.1.items) }
+        ensures { IfOk result (λ r. IsNewTable chairs cells key r.0 r.1.items) }
     {
         let words = Vec::from_elem(alloc, 0u64, cells as usize + cells as usize)?;
         let seats = Vec::with_capacity(alloc, chairs as usize)?;
@@ -65,7 +65,7 @@ impl<T: Carried> Cells<T> {
     /// and so on; their words wrap at 2^64, and no two tickets that are out have one word. Conditions: the chair is one
     /// of this table's, the table has this cell, and the chair has no ticket.
     pub fn draw(&self, chair: &mut Chair<T>, cell: u32) -> u64
-        requires at { IsAt self.now chair.old cell }
+        requires at { SitsAt self.now chair.old cell }
         requires none { chair.old.view.ticket ≡ None }
         ensures same { chair.new.table ≡ chair.old.table }
         ensures drew { Draws cell chair.old.view result chair.new.view }
@@ -81,7 +81,7 @@ impl<T: Carried> Cells<T> {
     /// that value fits the table's key and this cell. Conditions: the chair is one of this table's, and has a ticket for
     /// this cell and not yet the turn.
     pub fn look(&self, chair: &mut Chair<T>, cell: u32) -> Look<T>
-        requires at { IsAt self.now chair.old cell }
+        requires at { SitsAt self.now chair.old cell }
         requires waits { HasTicketFor cell false chair.old.view }
         ensures same { chair.new.table ≡ chair.old.table }
         ensures looked { Looked (FitsAt T.fits self.now cell) chair.old.view result chair.new.view }
@@ -99,7 +99,7 @@ impl<T: Carried> Cells<T> {
     /// How many later tickets of the cell are drawn, by one load of the next ticket to be drawn: that number less the
     /// chair's ticket less one. Conditions: the chair is one of this table's, and has the turn in this cell.
     pub fn waiting(&self, chair: &mut Chair<T>, cell: u32) -> u64
-        requires at { IsAt self.now chair.old cell }
+        requires at { SitsAt self.now chair.old cell }
         requires turn { HasTicketFor cell true chair.old.view }
         ensures same { chair.new.table ≡ chair.old.table }
         ensures counted { chair.new.view ≡ counted chair.old.view result }
@@ -117,7 +117,7 @@ impl<T: Carried> Cells<T> {
     /// one of this table's, and has the turn in this cell; where a value is left, it fits the table's key and this cell,
     /// and `waiting` has answered at least 1 in this turn.
     pub fn leave(&self, chair: &mut Chair<T>, cell: u32, value: Option<T>)
-        requires at { IsAt self.now chair.old cell }
+        requires at { SitsAt self.now chair.old cell }
         requires turn { HasTicketFor cell true chair.old.view }
         requires value { MayLeave (FitsAt T.fits self.now cell) (held chair.old.view) value }
         ensures same { chair.new.table ≡ chair.old.table }

@@ -4,7 +4,7 @@ ghost use mathlib.Core.Option as maybe;
 ghost use lib.ListN.{get_elem?};
 ghost use Rattle.sh_local.specs.Calls.{less_one, new_chair, both, spent, opener};
 ghost use Rattle.sh_local.specs.Lines.{Kept, LineAgrees};
-ghost use Rattle.sh_local.specs.Steps.{Draws, Looks, Counts, Leaves};
+ghost use Rattle.sh_local.specs.Steps.{Draws, Looks, Counts, LeavesQueue};
 
 use crate::view::View;
 use atomic_table::{Join, Play, Split, TableRule};
@@ -63,7 +63,7 @@ impl<T, K> Play<Option<T>, View<T, K>> for Count {
 pub struct Leave;
 
 impl<T, K> Play<Option<T>, View<T, K>> for Leave {
-    ghost then = { λ st me n now. Leaves me now };
+    ghost then = { λ st me n now. LeavesQueue me now };
 }
 
 // A chair is made.

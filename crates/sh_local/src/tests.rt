@@ -1,5 +1,5 @@
 ghost use Rattle.std.specs.Prelude.{◌≡◌, ◌≢◌, ◌+◌, ◌<◌, ◌≤◌, None, Some, true, false, []};
-ghost use Rattle.sh_local.specs.Chairs.{FitsAt, HasTicketFor, IsAt};
+ghost use Rattle.sh_local.specs.Chairs.{FitsAt, HasTicketFor, SitsAt};
 ghost use Rattle.sh_local.specs.Steps.{FitsIf};
 ghost use Rattle.atomic_table.specs.Seated.{TableId};
 
@@ -38,9 +38,9 @@ fn await_turn<T: Carried, R: Wait>(
     chair: &mut Chair<T>,
     cell: u32,
 ) -> Option<T>
-    requires at { IsAt cells.now chair.old cell }
+    requires at { SitsAt cells.now chair.old cell }
     requires waits { HasTicketFor cell false chair.old.view }
-    ensures at { IsAt cells.now chair.new cell }
+    ensures at { SitsAt cells.now chair.new cell }
     ensures turn { HasTicketFor cell true chair.new.view }
     ensures fits { FitsIf (FitsAt T.fits cells.now cell) result }
 {
@@ -80,8 +80,8 @@ fn take_turn<R: Wait>(
     chair: &mut Chair<Baton>,
     tally: &mut Tally,
 )
-    requires { IsAt cells.now chair.old 1 × (chair.old.view.ticket ≡ None) }
-    ensures { IsAt cells.now chair.new 1 × (chair.new.view.ticket ≡ None) }
+    requires { SitsAt cells.now chair.old 1 × (chair.old.view.ticket ≡ None) }
+    ensures { SitsAt cells.now chair.new 1 × (chair.new.view.ticket ≡ None) }
 {
     let ticket = cells.draw(chair, 1);
     let met = match await_turn(rt, cells, chair, 1) {
@@ -108,8 +108,8 @@ fn take_turns<R: Wait>(
     served: &AtomicU64,
     chair: Chair<Baton>,
 ) -> (Chair<Baton>, Tally)
-    requires { IsAt cells.now chair 1 × (chair.view.ticket ≡ None) }
-    ensures { IsAt cells.now result.0 1 × (result.0.view.ticket ≡ None) }
+    requires { SitsAt cells.now chair 1 × (chair.view.ticket ≡ None) }
+    ensures { SitsAt cells.now result.0 1 × (result.0.view.ticket ≡ None) }
 {
     let mut chair = chair;
     let mut tally = Tally {
@@ -131,20 +131,20 @@ fn take_turns_beside<R: Threads + Wait + Sync>(
     one: Chair<Baton>,
     two: Chair<Baton>,
 ) -> (Chair<Baton>, Chair<Baton>, Tally)
-    requires one { IsAt cells.now one 1 × (one.view.ticket ≡ None) }
-    requires two { IsAt cells.now two 1 × (two.view.ticket ≡ None) }
-    ensures one { IsAt cells.now result.0 1 × (result.0.view.ticket ≡ None) }
-    ensures two { IsAt cells.now result.1 1 × (result.1.view.ticket ≡ None) }
+    requires one { SitsAt cells.now one 1 × (one.view.ticket ≡ None) }
+    requires two { SitsAt cells.now two 1 × (two.view.ticket ≡ None) }
+    ensures one { SitsAt cells.now result.0 1 × (result.0.view.ticket ≡ None) }
+    ensures two { SitsAt cells.now result.1 1 × (result.1.view.ticket ≡ None) }
 {
     let ((one, first), (two, second)) = join(
         rt,
         || -> (Chair<Baton>, Tally)
-            requires { IsAt cells.now one 1 × (one.view.ticket ≡ None) }
-            ensures { IsAt cells.entry.now result.0 1 × (result.0.view.ticket ≡ None) }
+            requires { SitsAt cells.now one 1 × (one.view.ticket ≡ None) }
+            ensures { SitsAt cells.entry.now result.0 1 × (result.0.view.ticket ≡ None) }
         { take_turns(rt, cells, served, one) },
         || -> (Chair<Baton>, Tally)
-            requires { IsAt cells.now two 1 × (two.view.ticket ≡ None) }
-            ensures { IsAt cells.entry.now result.0 1 × (result.0.view.ticket ≡ None) }
+            requires { SitsAt cells.now two 1 × (two.view.ticket ≡ None) }
+            ensures { SitsAt cells.entry.now result.0 1 × (result.0.view.ticket ≡ None) }
         { take_turns(rt, cells, served, two) },
     );
     (one, two, first.plus(second))
@@ -181,20 +181,20 @@ fn take_turns_by_four<R: Threads + Wait + Sync>(
     (Chair<Baton>, Chair<Baton>, Tally),
     (Chair<Baton>, Chair<Baton>, Tally),
 )
-    requires first { IsAt cells.now first.0 1 × (first.0.view.ticket ≡ None) × IsAt cells.now first.1 1 × (first.1.view.ticket ≡ None) }
-    requires second { IsAt cells.now second.0 1 × (second.0.view.ticket ≡ None) × IsAt cells.now second.1 1 × (second.1.view.ticket ≡ None) }
-    ensures first { IsAt cells.now result.0.0 1 × (result.0.0.view.ticket ≡ None) × IsAt cells.now result.0.1 1 × (result.0.1.view.ticket ≡ None) }
-    ensures second { IsAt cells.now result.1.0 1 × (result.1.0.view.ticket ≡ None) × IsAt cells.now result.1.1 1 × (result.1.1.view.ticket ≡ None) }
+    requires first { SitsAt cells.now first.0 1 × (first.0.view.ticket ≡ None) × SitsAt cells.now first.1 1 × (first.1.view.ticket ≡ None) }
+    requires second { SitsAt cells.now second.0 1 × (second.0.view.ticket ≡ None) × SitsAt cells.now second.1 1 × (second.1.view.ticket ≡ None) }
+    ensures first { SitsAt cells.now result.0.0 1 × (result.0.0.view.ticket ≡ None) × SitsAt cells.now result.0.1 1 × (result.0.1.view.ticket ≡ None) }
+    ensures second { SitsAt cells.now result.1.0 1 × (result.1.0.view.ticket ≡ None) × SitsAt cells.now result.1.1 1 × (result.1.1.view.ticket ≡ None) }
 {
     join(
         rt,
         || -> (Chair<Baton>, Chair<Baton>, Tally)
-            requires { IsAt cells.now first.0 1 × (first.0.view.ticket ≡ None) × IsAt cells.now first.1 1 × (first.1.view.ticket ≡ None) }
-            ensures { IsAt cells.entry.now result.0 1 × (result.0.view.ticket ≡ None) × IsAt cells.entry.now result.1 1 × (result.1.view.ticket ≡ None) }
+            requires { SitsAt cells.now first.0 1 × (first.0.view.ticket ≡ None) × SitsAt cells.now first.1 1 × (first.1.view.ticket ≡ None) }
+            ensures { SitsAt cells.entry.now result.0 1 × (result.0.view.ticket ≡ None) × SitsAt cells.entry.now result.1 1 × (result.1.view.ticket ≡ None) }
         { take_turns_beside(rt, cells, served, first.0, first.1) },
         || -> (Chair<Baton>, Chair<Baton>, Tally)
-            requires { IsAt cells.now second.0 1 × (second.0.view.ticket ≡ None) × IsAt cells.now second.1 1 × (second.1.view.ticket ≡ None) }
-            ensures { IsAt cells.entry.now result.0 1 × (result.0.view.ticket ≡ None) × IsAt cells.entry.now result.1 1 × (result.1.view.ticket ≡ None) }
+            requires { SitsAt cells.now second.0 1 × (second.0.view.ticket ≡ None) × SitsAt cells.now second.1 1 × (second.1.view.ticket ≡ None) }
+            ensures { SitsAt cells.entry.now result.0 1 × (result.0.view.ticket ≡ None) × SitsAt cells.entry.now result.1 1 × (result.1.view.ticket ≡ None) }
         { take_turns_beside(rt, cells, served, second.0, second.1) },
     )
 }
@@ -236,8 +236,8 @@ fn four_threads_serve_each_ticket_once(rt: HostRuntime) -> Result<(), AllocError
 
 // A turn at cell 2 for which nobody else draws: its ticket, and how many wait.
 fn take_turn_alone<R: Abort>(rt: &R, cells: &Cells<u64>, chair: &mut Chair<u64>) -> (u64, u64)
-    requires { IsAt cells.now chair.old 2 × (chair.old.view.ticket ≡ None) }
-    ensures { IsAt cells.now chair.new 2 × (chair.new.view.ticket ≡ None) }
+    requires { SitsAt cells.now chair.old 2 × (chair.old.view.ticket ≡ None) }
+    ensures { SitsAt cells.now chair.new 2 × (chair.new.view.ticket ≡ None) }
 {
     let ticket = cells.draw(chair, 2);
     match cells.look(chair, 2) {
@@ -271,8 +271,8 @@ fn leave_for_the_next<R: Abort + Wait>(
     two: &mut Chair<u64>,
 ) -> (u64, u64)
     requires most { FitsAt (λ key cell x. x ≤ key) cells.now 0 7 }
-    requires one { IsAt cells.now one.old 0 × (one.old.view.ticket ≡ None) }
-    requires two { IsAt cells.now two.old 0 × (two.old.view.ticket ≡ None) }
+    requires one { SitsAt cells.now one.old 0 × (one.old.view.ticket ≡ None) }
+    requires two { SitsAt cells.now two.old 0 × (two.old.view.ticket ≡ None) }
     ensures one { (one.new.table ≡ one.old.table) × (one.new.view.ticket ≡ None) }
     ensures two { (two.new.table ≡ two.old.table) × (two.new.view.ticket ≡ None) }
 {
@@ -408,9 +408,9 @@ fn add_and_hand_on<R: Wait>(
     requires words { 0 < words.now.table_id.words }
     requires keyed { FitsAt (λ key cell x. x ≡ key.table_id) cells.now 0 words.now.table_id }
     requires mine { FitsIf (λ x. x ≡ words.now.table_id) mine }
-    requires at { IsAt cells.now chair.old 0 }
+    requires at { SitsAt cells.now chair.old 0 }
     requires waits { HasTicketFor 0 false chair.old.view }
-    ensures at { IsAt cells.now chair.new 0 × (chair.new.view.ticket ≡ None) }
+    ensures at { SitsAt cells.now chair.new 0 × (chair.new.view.ticket ≡ None) }
     ensures mine { FitsIf (λ x. x ≡ words.now.table_id) result }
 {
     let handed = await_turn(rt, cells, chair, 0);
@@ -445,10 +445,10 @@ fn hand_round<R: Abort + Wait>(
     requires words { 0 < words.now.table_id.words }
     requires keyed { FitsAt (λ key cell x. x ≡ key.table_id) cells.now 0 words.now.table_id }
     requires loan { loan ≡ words.now.table_id }
-    requires one { IsAt cells.now one.old 0 × (one.old.view.ticket ≡ None) }
-    requires two { IsAt cells.now two.old 0 × (two.old.view.ticket ≡ None) }
-    ensures one { IsAt cells.now one.new 0 × (one.new.view.ticket ≡ None) }
-    ensures two { IsAt cells.now two.new 0 × (two.new.view.ticket ≡ None) }
+    requires one { SitsAt cells.now one.old 0 × (one.old.view.ticket ≡ None) }
+    requires two { SitsAt cells.now two.old 0 × (two.old.view.ticket ≡ None) }
+    ensures one { SitsAt cells.now one.new 0 × (one.new.view.ticket ≡ None) }
+    ensures two { SitsAt cells.now two.new 0 × (two.new.view.ticket ≡ None) }
     ensures loan { FitsIf (λ x. x ≡ words.now.table_id) result }
 {
     cells.draw(one, 0);

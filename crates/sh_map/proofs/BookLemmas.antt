@@ -1,11 +1,13 @@
 -- A book that gains an entry or a Done.
-use Rattle.std.proofs.Common.{◌≡◌, ◌⊎◌, ℕ, zero, suc, ◌<◌, ◌≤◌, List, [], ◌∷◌, ◌++◌, length, length-append, get_or, Option, Some, refl, sym, ap, ◌∙◌, inl, inr, arith}
+use Rattle.std.proofs.Common.{◌≡◌, ◌⊎◌, ℕ, ◌<◌, ◌≤◌, List, [], ◌∷◌, ◌++◌, length, length-append, get_or, Option, Some, sym, ap, ◌∙◌, inl, inr, arith}
 use Rattle.std.specs.Prelude.{slice_get, All, Any}
 use Rattle.std.proofs.lemmas.Bool.{cases_lt, cases_eq}
 use Rattle.std.proofs.lemmas.List.{get_or_append_left}
 use Rattle.std.proofs.lemmas.List.Elements.{All-push, All-weaker}
 use Rattle.std.proofs.lemmas.List.Quantifiers.{all_pairs_push}
 use Rattle.std.proofs.lemmas.Option.{slice_get_within, slice_get-get_or}
+use Rattle.sh_logic.proofs.Options.{some_is}
+use Rattle.sh_logic.proofs.Lists.{slice_get-append_left, slice_get-push_back}
 use Rattle.sh_map.specs.declared.log.Entry.{Entry}
 use Rattle.sh_map.specs.Map.{get}
 use Rattle.sh_map.specs.Log.{map_of, map_at, IsNext}
@@ -18,20 +20,6 @@ use Rattle.sh_map.specs.declared.book.Done.{Done}
 use Rattle.sh_map.specs.Book.{AnswersRange, AnswersAt, Answers, IsOwn, IsLastOfSeat, IsLater, IsLawful}
 use Rattle.sh_map.specs.Points.{IsLeastPoint}
 use Rattle.sh_map.proofs.LogLemmas.{map_at-push, IsLegal-push}
-
-pub slice_get-append_left : {X : Type 0} (xs ys : List X) (i : ℕ) (x : X) → slice_get xs i ≡ Some x → slice_get (xs ++ ys) i ≡ Some x
-slice_get-append_left [] ys i x h = absurd (cc)
-slice_get-append_left (y ∷ xs) ys zero x h = h
-slice_get-append_left (y ∷ xs) ys (suc i) x h = slice_get-append_left xs ys i x h
-
-pub slice_get-push_back : {X : Type 0} (xs : List X) (y x : X) (i : ℕ) → slice_get (xs ++ y ∷ []) i ≡ Some x → (slice_get xs i ≡ Some x) ⊎ ((i ≡ length xs) × (y ≡ x))
-slice_get-push_back [] y x zero h = inr (refl, cc)
-slice_get-push_back [] y x (suc i) h = absurd (cc)
-slice_get-push_back (z ∷ xs) y x zero h = inl h
-slice_get-push_back (z ∷ xs) y x (suc i) h = elim (slice_get-push_back xs y x i h) [ inl l ↦ inl l | inr r ↦ inr (ap suc r.0, r.1) ]
-
-same_Some : {x y : Entry} → Some x ≡ Some y → x ≡ y
-same_Some h = cc
 
 module _ (log : List Entry) (e : Entry) where
   range_later : (a b low upto : ℕ) (rows : List Row) → b ≤ length log → AnswersRange log a b low upto rows → AnswersRange (log ++ e ∷ []) a b low upto rows
@@ -74,7 +62,7 @@ module _ (log : List Entry) (e : Entry) where
   last_stays dones i f here last others = elim (cases_eq f.seat e.seat) [
     | inl same ↦ inl (others i f here same)
     | inr differ ↦ inr (λ j x y less xi yj is.
-        let x_is : f ≡ x = same_Some (sym (slice_get-append_left log (e ∷ []) i f here) ∙ xi) in
+        let x_is : f ≡ x = some_is (sym (slice_get-append_left log (e ∷ []) i f here) ∙ xi) in
         elim (slice_get-push_back log e y j yj) [
           | inl old ↦ last j f y less here old (is ∙ ap (λ z. z.seat) (sym x_is))
           | inr new ↦ differ (ap (λ z. z.seat) x_is ∙ sym is ∙ ap (λ z. z.seat) (sym new.1))

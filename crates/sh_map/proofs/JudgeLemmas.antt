@@ -4,11 +4,11 @@ use Rattle.std.specs.Prelude.{slice_get, IsTrue}
 use Rattle.std.proofs.lemmas.List.{take-append-le, take_all, get_or_default}
 use Rattle.std.proofs.lemmas.Bool.{cases_lt}
 use Rattle.std.proofs.lemmas.Option.{slice_get_within, slice_get-get_or}
+use Rattle.sh_logic.proofs.Lists.{slice_get-append_left, slice_get-push_back, slice_get-push_end}
 use Rattle.sh_map.specs.declared.book.Done.{Done}
 use Rattle.sh_map.specs.Judge.{AllFit, IsLeastUnfit}
 use Rattle.sh_map.specs.Tables.{AreKept}
-use Rattle.sh_map.proofs.BookLemmas.{slice_get-append_left, slice_get-push_back}
-use Rattle.sh_map.proofs.WalkLemmas.{one_more, slice_get-push_end}
+use Rattle.sh_map.proofs.WalkLemmas.{one_more}
 
 -- the least so far of the calls that break the rule
 abbrev pub SoFar : (List Done → Done → Type 0) → List Done → Option ℕ → Type 0

@@ -12,7 +12,7 @@ use Rattle.sh_map.specs.declared.call.Call.TheVariants as call
 use Rattle.sh_map.specs.declared.call.Reply.{Reply}
 use Rattle.sh_map.specs.declared.book.Done.{Done}
 use Rattle.sh_map.specs.Map.{Map, get}
-use Rattle.sh_map.specs.Log.{key_of, left_by, changed, map_from, map_of}
+use Rattle.sh_map.specs.Log.{change_key, left_value, changed, map_from, map_of}
 use Rattle.sh_map.specs.Book.{AnswersAt, Answers}
 use Rattle.sh_map.specs.Laws.{IsLastOfKey, HasNoEntry}
 use Rattle.sh_map.proofs.LogLemmas.{changed_other}
@@ -22,15 +22,15 @@ none_from : (m : Map) (log : List Entry) (key : ℕ) → HasNoEntry log key → 
 none_from m [] key none = refl
 none_from m (x ∷ log) key none = none_from (changed m x.change) log key (λ j f is. none (suc j) f is) ∙ changed_other m x.change key (λ e. none 0 x refl (sym e))
 
-last_from : (m : Map) (log : List Entry) (key i : ℕ) (e : Entry) → IsLastOfKey log key i e → get (map_from m log) key ≡ left_by e.change
+last_from : (m : Map) (log : List Entry) (key i : ℕ) (e : Entry) → IsLastOfKey log key i e → get (map_from m log) key ≡ left_value e.change
 last_from m [] key i e h = absurd (let here = h.here in cc)
 last_from m (x ∷ log) key zero e h =
     let same : x ≡ e = let here = h.here in cc in
-    let of_key : key_of x.change ≡ key = ap (λ (y : Entry). key_of y.change) same ∙ h.of_key in
-    none_from (changed m x.change) log key (λ j f is. h.last (suc j) f (omega arith) is) ∙ ap (get (changed m x.change)) (sym of_key) ∙ changed_here m x.change ∙ ap (λ (y : Entry). left_by y.change) same
+    let of_key : change_key x.change ≡ key = ap (λ (y : Entry). change_key y.change) same ∙ h.of_key in
+    none_from (changed m x.change) log key (λ j f is. h.last (suc j) f (omega arith) is) ∙ ap (get (changed m x.change)) (sym of_key) ∙ changed_here m x.change ∙ ap (λ (y : Entry). left_value y.change) same
 last_from m (x ∷ log) key (suc i) e h = last_from (changed m x.change) log key i e (record { here = h.here; of_key = h.of_key; last = λ j f less is. h.last (suc j) f (omega arith) is })
 
-pub get_by_last : (log : List Entry) (key i : ℕ) (e : Entry) → IsLastOfKey log key i e → get (map_of log) key ≡ left_by e.change
+pub get_by_last : (log : List Entry) (key i : ℕ) (e : Entry) → IsLastOfKey log key i e → get (map_of log) key ≡ left_value e.change
 get_by_last log key i e h = last_from empty log key i e h
 
 pub get_by_none : (log : List Entry) (key : ℕ) → HasNoEntry log key → get (map_of log) key ≡ None
@@ -40,30 +40,30 @@ pub last_or_none : (log : List Entry) (key : ℕ) → HasNoEntry log key ⊎ ((i
 last_or_none [] key = inl (λ j f is. absurd (cc))
 last_or_none (x ∷ log) key = elim (last_or_none log key) [
   | inr later ↦ inr (suc later.0, later.1, record { here = later.2.here; of_key = later.2.of_key; last = λ j f less is. past log key later.0 later.1 later.2 x j f less is })
-  | inl none ↦ elim (cases_eq (key_of x.change) key) [
+  | inl none ↦ elim (cases_eq (change_key x.change) key) [
     | inl same ↦ inr (0, x, record { here = refl; of_key = same; last = λ j f less is. only log key none x j f less is })
     | inr differ ↦ inl (λ j f is. nowhere log key none x differ j f is)
   ]
 ]
   where
-    past : (log : List Entry) (key i : ℕ) (e : Entry) → IsLastOfKey log key i e → (x : Entry) (j : ℕ) (f : Entry) → suc i < j → slice_get (x ∷ log) j ≡ Some f → key_of f.change ≢ key
+    past : (log : List Entry) (key i : ℕ) (e : Entry) → IsLastOfKey log key i e → (x : Entry) (j : ℕ) (f : Entry) → suc i < j → slice_get (x ∷ log) j ≡ Some f → change_key f.change ≢ key
     past log key i e h x zero f less is = absurd (omega arith)
     past log key i e h x (suc j) f less is = h.last j f (omega arith) is
 
-    only : (log : List Entry) (key : ℕ) → HasNoEntry log key → (x : Entry) (j : ℕ) (f : Entry) → 0 < j → slice_get (x ∷ log) j ≡ Some f → key_of f.change ≢ key
+    only : (log : List Entry) (key : ℕ) → HasNoEntry log key → (x : Entry) (j : ℕ) (f : Entry) → 0 < j → slice_get (x ∷ log) j ≡ Some f → change_key f.change ≢ key
     only log key none x zero f less is = absurd (omega arith)
     only log key none x (suc j) f less is = none j f is
 
-    nowhere : (log : List Entry) (key : ℕ) → HasNoEntry log key → (x : Entry) → key_of x.change ≢ key → (j : ℕ) (f : Entry) → slice_get (x ∷ log) j ≡ Some f → key_of f.change ≢ key
-    nowhere log key none x differ zero f is = let same : x ≡ f = cc in subst (λ (y : Entry). key_of y.change ≢ key) same differ
+    nowhere : (log : List Entry) (key : ℕ) → HasNoEntry log key → (x : Entry) → change_key x.change ≢ key → (j : ℕ) (f : Entry) → slice_get (x ∷ log) j ≡ Some f → change_key f.change ≢ key
+    nowhere log key none x differ zero f is = let same : x ≡ f = cc in subst (λ (y : Entry). change_key y.change ≢ key) same differ
     nowhere log key none x differ (suc j) f is = none j f is
 
 -- a value is left by a put, and none by a delete
-pub put_left : (change : Change) (key : ℕ) (value : List ℕ) → key_of change ≡ key → left_by change ≡ Some value → change ≡ Put key value
+pub put_left : (change : Change) (key : ℕ) (value : List ℕ) → change_key change ≡ key → left_value change ≡ Some value → change ≡ Put key value
 put_left (Put k v) key value of_key left = cc
 put_left (Del k) key value of_key left = absurd (cc)
 
-pub del_left : (change : Change) (key : ℕ) → key_of change ≡ key → left_by change ≡ None → change ≡ Del key
+pub del_left : (change : Change) (key : ℕ) → change_key change ≡ key → left_value change ≡ None → change ≡ Del key
 del_left (Put k v) key of_key left = absurd (cc)
 del_left (Del k) key of_key left = ap Del of_key
 

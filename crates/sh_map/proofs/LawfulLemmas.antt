@@ -14,7 +14,7 @@ use Rattle.sh_map.specs.declared.misfit.Misfit.TheVariants as misfit
 use Rattle.sh_map.specs.Map.{Map}
 use Rattle.sh_map.specs.Log.{changed, map_from, IsNext, IsLegalFrom}
 use Rattle.sh_map.specs.Book.{AnswersAt, Answers, IsLawful}
-use Rattle.sh_map.specs.Judge.{AnswersAside, RowsAnswer, FitsReply, FitsRows, FitsOrder, Follows, AllFit, AllEntriesFit, IsFirstMisfit}
+use Rattle.sh_map.specs.Judge.{AnswersAside, RowsAnswer, FitsReply, FitsRows, FitsOrder, FollowsOnSeat, AllFit, AllEntriesFit, IsFirstMisfit}
 use Rattle.sh_map.proofs.LogLemmas.{IsLegal-at}
 
 legal_from : (m : Map) (log : List Entry) → ((i : ℕ) (e : Entry) → slice_get log i ≡ Some e → IsNext (map_from m (take i log)) e) → IsLegalFrom m log
@@ -35,10 +35,10 @@ answers_rows log d asked answer within h = tt
 
 module _ (log : List Entry) (dones : List Done) where
   module _ (entries : AllEntriesFit log dones) (replies : AllFit (FitsReply log) dones) (rows : AllFit (FitsRows log) dones) (ordered : AllFit FitsOrder dones) where
-    follows : AllPairs Follows dones
+    follows : AllPairs FollowsOnSeat dones
     follows i j d lt in_range =
         let in_take : i < length (take j dones) = omega (arith, length-take-le j dones (omega arith)) in
-        subst (λ (x : Done). Follows x (get_or dones j d)) (get_or-take j dones i d lt) ((ordered j (get_or dones j d) (slice_get-get_or dones j d in_range)).1 i d in_take)
+        subst (λ (x : Done). FollowsOnSeat x (get_or dones j d)) (get_or-take j dones i d lt) ((ordered j (get_or dones j d) (slice_get-get_or dones j d in_range)).1 i d in_take)
 
     pub lawful_from : IsLawful log dones
     lawful_from = record {
@@ -75,8 +75,8 @@ module _ (log : List Entry) (dones : List Done) where
           λ k x lt.
               let near : k < i = omega (arith, length-take-le i dones (omega arith)) in
               let at_x : get_or dones i x ≡ d = get_or_from_slice_get dones i d x is in
-              let both : Follows (get_or dones k x) (get_or dones i x) = record { number = lawful.numbers k i x near in_range; order = lawful.order k i x near in_range } in
-              subst (λ (y : Done). Follows y d) (sym (get_or-take i dones k x near)) (subst (Follows (get_or dones k x)) at_x both),
+              let both : FollowsOnSeat (get_or dones k x) (get_or dones i x) = record { number = lawful.numbers k i x near in_range; order = lawful.order k i x near in_range } in
+              subst (λ (y : Done). FollowsOnSeat y d) (sym (get_or-take i dones k x near)) (subst (FollowsOnSeat (get_or dones k x)) at_x both),
         )
 
     -- a lawful book has no misfit

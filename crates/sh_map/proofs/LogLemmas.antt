@@ -9,7 +9,7 @@ use Rattle.sh_map.specs.declared.log.Change.{Change}
 use Rattle.sh_map.specs.declared.log.Change.TheVariants.{Put, Del}
 use Rattle.sh_map.specs.declared.log.Entry.{Entry}
 use Rattle.sh_map.specs.Map.{Map, get}
-use Rattle.sh_map.specs.Log.{key_of, changed, map_from, map_of, map_at, IsNext, IsLegalFrom, IsLegal}
+use Rattle.sh_map.specs.Log.{change_key, changed, map_from, map_of, map_at, IsNext, IsLegalFrom, IsLegal}
 use Rattle.sh_map.proofs.MapLemmas.{get-put_other, get-del_other}
 
 pub map_from-append : (m : Map) (log more : List Entry) → map_from m (log ++ more) ≡ map_from (map_from m log) more
@@ -27,7 +27,7 @@ pub map_at-length : (log : List Entry) → map_at log (length log) ≡ map_of lo
 map_at-length log = ap map_of (take_all (length log) log (omega arith))
 
 -- a change of another key leaves a key
-pub changed_other : (m : Map) (change : Change) (q : ℕ) → q ≢ key_of change → get (changed m change) q ≡ get m q
+pub changed_other : (m : Map) (change : Change) (q : ℕ) → q ≢ change_key change → get (changed m change) q ≡ get m q
 changed_other m (Put key value) q differ = get-put_other m key q value differ
 changed_other m (Del key) q differ = get-del_other m key q differ
 
@@ -54,10 +54,6 @@ legal_from-take m (x ∷ log) (suc i) h = (h.0, legal_from-take (changed m x.cha
 
 pub IsLegal-take : (log : List Entry) (i : ℕ) → IsLegal log → IsLegal (take i log)
 IsLegal-take log i h = legal_from-take empty log i h
-
--- a walk over a log, one entry on
-pub legal_more : (log : List Entry) (at : ℕ) (d : Entry) → at < length log → IsLegal (take at log) → IsNext (map_at log at) (get_or log at d) → IsLegal (take (at + 1) log)
-legal_more log at d in_range h next = rw (take_more log at d in_range) (IsLegal-push (take at log) (get_or log at d) h next)
 
 pub map_more : (log : List Entry) (at : ℕ) (d : Entry) → at < length log → map_at log (at + 1) ≡ changed (map_at log at) (get_or log at d).change
 map_more log at d in_range = ap map_of (take_more log at d in_range) ∙ map_of-push (take at log) (get_or log at d)

@@ -9,12 +9,12 @@ use Rattle.std.proofs.lemmas.Bool.{cases_eq}
 use Rattle.std.proofs.lemmas.List.{take-append-le, take_all, get_or_append_left, get_or_push}
 use Rattle.std.proofs.lemmas.List.Elements.{All-nil}
 use Rattle.std.proofs.lemmas.Option.{slice_get_within}
+use Rattle.sh_logic.proofs.Lists.{slice_get-push_back}
 use Rattle.sh_map.specs.declared.book.Done.{Done}
 use Rattle.sh_map.specs.Book.{made}
 use Rattle.sh_map.specs.Judge.{FitsOrder}
 use Rattle.sh_map.specs.Tables.{AreKept, AreBounds}
 use Rattle.sh_map.proofs.MapLemmas.{apart_test}
-use Rattle.sh_map.proofs.BookLemmas.{slice_get-push_back}
 use Rattle.sh_map.proofs.WalkLemmas.{all_push, one_more}
 
 abbrev Ends : ℕ → ℕ → Done → Type 0

@@ -9,13 +9,14 @@ use Rattle.std.specs.BTreeMap.{BTreeMap, is_at, Updates}
 use Rattle.std.proofs.lemmas.Bool.{cases_lt, cases_eq, eqb-true}
 use Rattle.std.proofs.lemmas.List.{get_or-set_same, get_or-set_other, get_or-replicate, length-replicate, length-set}
 use Rattle.std.proofs.lemmas.Option.{slice_get_within, slice_get-get_or}
+use Rattle.sh_logic.proofs.Options.{some_is}
+use Rattle.sh_logic.proofs.Lists.{slice_get-append_left, slice_get-push_back, slice_get-push_end}
 use Rattle.sh_map.specs.declared.log.Entry.{Entry}
 use Rattle.sh_map.specs.declared.book.Done.{Done}
 use Rattle.sh_map.specs.Book.{made, IsOwn, IsLastOfSeat}
-use Rattle.sh_map.specs.Tables.{AreOwned, AreLast, IsLastPlace, HasNoPlace}
+use Rattle.sh_map.specs.Tables.{AreOwned, AreLastPlaces, IsLastPlace, HasNoPlace}
 use Rattle.sh_map.proofs.MapLemmas.{apart_test}
-use Rattle.sh_map.proofs.BookLemmas.{slice_get-append_left, slice_get-push_back}
-use Rattle.sh_map.proofs.WalkLemmas.{any_push, one_more, slice_get-push_end}
+use Rattle.sh_map.proofs.WalkLemmas.{any_push, one_more}
 
 pub owned_none : (n : ℕ) (owned : List Bool) → owned ≡ replicate n false → AreOwned n [] owned
 owned_none n owned is = record {
@@ -42,7 +43,7 @@ module _ (n : ℕ) (dones : List Done) (at : ℕ) (d : Done) (in_range : at < le
   pub owned_kept : (made d.call d.reply ≡ 1 → d.point < n → ⊥) → AreOwned n (take (at + 1) dones) owned
   owned_kept none = owned_push owned h.long (λ i lt. (λ yes. inl ((h.each i lt).0 yes), λ own. elim own [ inl old ↦ (h.each i lt).1 old | inr new ↦ absurd (none new.0 (omega (arith, new.1))) ]))
 
-pub last_none : (lasts : BTreeMap ℕ ℕ) → lasts.entries ≡ [] → AreLast [] lasts
+pub last_none : (lasts : BTreeMap ℕ ℕ) → lasts.entries ≡ [] → AreLastPlaces [] lasts
 last_none lasts empty = record { each = λ seat. subst (λ o. MatchOption o (HasNoPlace [] seat) (λ i. IsLastPlace [] seat i)) (sym (ap (lookup (is_at (nat_cmp seat))) empty)) (λ j f is. absurd (cc)) }
 
 module _ (log : List Entry) (e : Entry) (seat : ℕ) (differ : seat ≢ e.seat) where
@@ -65,7 +66,7 @@ module _ (log : List Entry) (e : Entry) (seat : ℕ) (differ : seat ≢ e.seat) 
   place_push None h = none_push h
   place_push (Some i) h = last_push i h
 
-lasts_push : (log : List Entry) (e : Entry) (old new : BTreeMap ℕ ℕ) → AreLast log old → Updates nat_cmp old new e.seat (Some (length log)) → AreLast (log ++ e ∷ []) new
+lasts_push : (log : List Entry) (e : Entry) (old new : BTreeMap ℕ ℕ) → AreLastPlaces log old → Updates nat_cmp old new e.seat (Some (length log)) → AreLastPlaces (log ++ e ∷ []) new
 lasts_push log e old new h updates = record {
   each = λ seat.
       let P : Option ℕ → Type 0 = λ o. MatchOption o (HasNoPlace (log ++ e ∷ []) seat) (λ i. IsLastPlace (log ++ e ∷ []) seat i) in
@@ -79,13 +80,10 @@ lasts_push log e old new h updates = record {
 }
 
 -- a walk over the log, one on, which was read
-pub lasts_more : (log : List Entry) (at : ℕ) (e : Entry) (old new : BTreeMap ℕ ℕ) → at < length log → e ≡ get_or log at e → AreLast (take at log) old → Updates nat_cmp old new e.seat (Some at) → AreLast (take (at + 1) log) new
+pub lasts_more : (log : List Entry) (at : ℕ) (e : Entry) (old new : BTreeMap ℕ ℕ) → at < length log → e ≡ get_or log at e → AreLastPlaces (take at log) old → Updates nat_cmp old new e.seat (Some at) → AreLastPlaces (take (at + 1) log) new
 lasts_more log at e old new in_range read h updates =
     let len : length (take at log) ≡ at = length-take-le at log (omega arith) in
-    subst (λ (l : List Entry). AreLast l new) (one_more log at e in_range read) (lasts_push (take at log) e old new h (subst (λ n. Updates nat_cmp old new e.seat (Some n)) (sym len) updates))
-
-same_Some : {x y : Entry} → Some x ≡ Some y → x ≡ y
-same_Some h = cc
+    subst (λ (l : List Entry). AreLastPlaces l new) (one_more log at e in_range read) (lasts_push (take at log) e old new h (subst (λ n. Updates nat_cmp old new e.seat (Some n)) (sym len) updates))
 
 -- a test of a seat's last place is one of whether an entry is its last
 last_decides : (log : List Entry) (at : ℕ) (e : Entry) (o : Option ℕ) → slice_get log at ≡ Some e → MatchOption o (HasNoPlace log e.seat) (λ i. IsLastPlace log e.seat i) → IsTrue (option_eq nat_eq o (Some at)) ↔ IsLastOfSeat log at
@@ -93,7 +91,7 @@ last_decides log at e None here none = (λ yes. absurd (cc), λ last. absurd (no
 last_decides log at e (Some i) here h = (
   λ yes j x f later xi fj same.
       let is : i ≡ at = eqb-true i at yes in
-      h.last j f (omega arith) fj (same ∙ ap (λ (y : Entry). y.seat) (same_Some (sym xi ∙ here))),
+      h.last j f (omega arith) fj (same ∙ ap (λ (y : Entry). y.seat) (some_is (sym xi ∙ here))),
   λ last. elim (cases_eq i at) [
     | inl is ↦ eq-eqb i at is
     | inr differ ↦ absurd (elim (cases_lt i at) [
@@ -103,7 +101,7 @@ last_decides log at e (Some i) here h = (
   ],
 )
 
-pub owner_decides : (log : List Entry) (dones : List Done) (owned : List Bool) (lasts : BTreeMap ℕ ℕ) (at : ℕ) (e : Entry) (o : Option ℕ) → at < length log → e ≡ get_or log at e → AreOwned (length log) dones owned → AreLast log lasts → (IsTrue (get_or owned at true) → ⊥) → o ≡ tree.get nat_cmp lasts e.seat → (b : Bool) → b ≡ option_eq nat_eq o (Some at) → IsTrue b ↔ (Any (IsOwn at) dones ⊎ IsLastOfSeat log at)
+pub owner_decides : (log : List Entry) (dones : List Done) (owned : List Bool) (lasts : BTreeMap ℕ ℕ) (at : ℕ) (e : Entry) (o : Option ℕ) → at < length log → e ≡ get_or log at e → AreOwned (length log) dones owned → AreLastPlaces log lasts → (IsTrue (get_or owned at true) → ⊥) → o ≡ tree.get nat_cmp lasts e.seat → (b : Bool) → b ≡ option_eq nat_eq o (Some at) → IsTrue b ↔ (Any (IsOwn at) dones ⊎ IsLastOfSeat log at)
 owner_decides log dones owned lasts at e o in_range read are_owned are_last free found b is =
     let here : slice_get log at ≡ Some e = slice_get-get_or log at e in_range ∙ ap Some (sym read) in
     let told = last_decides log at e o here (subst (λ r. MatchOption r (HasNoPlace log e.seat) (λ i. IsLastPlace log e.seat i)) (sym found) (are_last.each e.seat)) in

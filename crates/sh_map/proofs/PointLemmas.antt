@@ -9,11 +9,11 @@ use Rattle.std.proofs.lemmas.Bool.{cases_eq}
 use Rattle.std.proofs.Math.Seq.{take-add, take-take}
 use Rattle.sh_map.specs.declared.log.Entry.{Entry}
 use Rattle.sh_map.specs.declared.book.Row.{Row}
-use Rattle.sh_map.specs.Map.{Map, get, pair_of}
+use Rattle.sh_map.specs.Map.{Map, get, row_pair}
 use Rattle.sh_map.specs.Log.{map_from, map_of, map_at}
 use Rattle.sh_map.specs.Book.{AnswersRange}
-use Rattle.sh_map.specs.Rows.{HasPoint}
-use Rattle.sh_map.specs.Tables.{AreMet, IsGiven, given}
+use Rattle.sh_map.specs.Rows.{RowHasPoint}
+use Rattle.sh_map.specs.Tables.{AreMet, IsGivenValue, given_value}
 use Rattle.std.specs.BTreeSet.{BTreeSet}
 use Rattle.std.proofs.lemmas.List.Elements.{All-contains}
 use Rattle.sh_map.proofs.RangeLemmas.{given_becomes}
@@ -21,7 +21,7 @@ use Rattle.sh_map.proofs.MapLemmas.{apart_test}
 use Rattle.sh_map.proofs.LogLemmas.{map_from-append}
 
 -- a key stands nowhere in these rows, or at a place
-found_or_not : (rows : List Row) (key : ℕ) → (find nat_cmp key (map pair_of rows) ≡ None) ⊎ ((k : ℕ) × (k < length rows) × ((d : Row) → (get_or rows k d).key ≡ key))
+found_or_not : (rows : List Row) (key : ℕ) → (find nat_cmp key (map row_pair rows) ≡ None) ⊎ ((k : ℕ) × (k < length rows) × ((d : Row) → (get_or rows k d).key ≡ key))
 found_or_not [] key = inl refl
 found_or_not (r ∷ rows) key = elim (cases_eq key r.key) [
   | inl same ↦ inr (0, omega arith, λ d. sym same)
@@ -31,8 +31,8 @@ found_or_not (r ∷ rows) key = elim (cases_eq key r.key) [
   ]
 ]
 
-lacks : (m : Map) (rows : List Row) (key : ℕ) → find nat_cmp key (map pair_of rows) ≡ None → get m key ≡ None → get m key ≡ given rows key
-lacks m rows key no_row no_value = no_value ∙ sym (get-from_entries nat_cmp_total (map pair_of rows) key ∙ no_row)
+lacks : (m : Map) (rows : List Row) (key : ℕ) → find nat_cmp key (map row_pair rows) ≡ None → get m key ≡ None → get m key ≡ given_value rows key
+lacks m rows key no_row no_value = no_value ∙ sym (get-from_entries nat_cmp_total (map row_pair rows) key ∙ no_row)
 
 some_or_none : (o : Option (List ℕ)) → IsSome o ⊎ (o ≡ None)
 some_or_none None = inr refl
@@ -41,19 +41,19 @@ some_or_none (Some v) = inl refl
 -- where the rows' keys and those that stand in the map are given, all keys have a point, and the other way round
 module _ (m : Map) (log : List Entry) (rows : List Row) (keys : List ℕ) (low upto : ℕ) (met : BTreeSet ℕ) (are_met : AreMet log rows met) where
   module _ (stand : (key : ℕ) → low ≤ key → key < upto → IsSome (get m key) → Contains keys key) where
-    points_from : All (λ r. IsGiven m met rows r.key) rows → All (λ key. IsGiven m met rows key) keys → (key : ℕ) → HasPoint m log rows low upto key
+    points_from : All (λ r. IsGivenValue m met rows r.key) rows → All (λ key. IsGivenValue m met rows key) keys → (key : ℕ) → RowHasPoint m log rows low upto key
     points_from by_rows by_keys key = record {
       here = λ above below. (given_becomes m log rows met key are_met).0 (elim (found_or_not rows key) [
-        | inr at ↦ let d : Row = record { key = 0; value = [] } in subst (IsGiven m met rows) (at.2 d) (by_rows at.0 d at.1)
+        | inr at ↦ let d : Row = record { key = 0; value = [] } in subst (IsGivenValue m met rows) (at.2 d) (by_rows at.0 d at.1)
         | inl no_row ↦ elim (some_or_none (get m key)) [
-          | inl some ↦ All-contains (IsGiven m met rows) keys key by_keys (stand key above below some)
+          | inl some ↦ All-contains (IsGivenValue m met rows) keys key by_keys (stand key above below some)
           | inr none ↦ inl (lacks m rows key no_row none)
         ]
       ]);
     }
 
     module _ (within_rows : All (λ x. (low ≤ x.key) × (x.key < upto)) rows) (within_keys : All (λ key. (low ≤ key) × (key < upto)) keys) where
-      pub points_decide : (b : Bool) → (IsTrue b ↔ (All (λ r. IsGiven m met rows r.key) rows × All (λ key. IsGiven m met rows key) keys)) → IsTrue b ↔ ((key : ℕ) → HasPoint m log rows low upto key)
+      pub points_decide : (b : Bool) → (IsTrue b ↔ (All (λ r. IsGivenValue m met rows r.key) rows × All (λ key. IsGivenValue m met rows key) keys)) → IsTrue b ↔ ((key : ℕ) → RowHasPoint m log rows low upto key)
       points_decide b told = (
         λ yes. points_from (told.0 yes).0 (told.0 yes).1,
         λ all. told.1 (
@@ -67,7 +67,7 @@ map_at-later : (log : List Entry) (a n q : ℕ) → q ≤ n → map_from (map_at
 map_at-later log a n q le = ap (map_from (map_at log a)) (take-take q n (drop a log) le) ∙ sym (map_from-append empty (take a log) (take q (drop a log))) ∙ sym (ap map_of (take-add a q log))
 
 module _ (log : List Entry) (a b low upto : ℕ) (rows : List Row) (ordered : a ≤ b) (within : b ≤ length log) where
-  pub range_from_points : AllPairs (λ x y. x.key < y.key) rows → All (λ x. (low ≤ x.key) × (x.key < upto)) rows → ((key : ℕ) → HasPoint (map_of (take a log)) (take (b - a) (drop a log)) rows low upto key) → AnswersRange log a b low upto rows
+  pub range_from_points : AllPairs (λ x y. x.key < y.key) rows → All (λ x. (low ≤ x.key) × (x.key < upto)) rows → ((key : ℕ) → RowHasPoint (map_of (take a log)) (take (b - a) (drop a log)) rows low upto key) → AnswersRange log a b low upto rows
   range_from_points rising inside points = record {
     rising = rising;
     within = inside;
@@ -77,7 +77,7 @@ module _ (log : List Entry) (a b low upto : ℕ) (rows : List Row) (ordered : a 
         (a + p.0, omega arith, omega arith, ap (λ m. get m key) (sym (map_at-later log a (b - a) p.0 q_small)) ∙ p.2);
   }
 
-  pub points_from_range : AnswersRange log a b low upto rows → (key : ℕ) → HasPoint (map_of (take a log)) (take (b - a) (drop a log)) rows low upto key
+  pub points_from_range : AnswersRange log a b low upto rows → (key : ℕ) → RowHasPoint (map_of (take a log)) (take (b - a) (drop a log)) rows low upto key
   points_from_range answers key = record {
     here = λ above below.
         let p = answers.points key above below in
@@ -88,6 +88,6 @@ module _ (log : List Entry) (a b low upto : ℕ) (rows : List Row) (ordered : a 
   }
 
   -- a test of the keys' points is one of the range
-  pub range_decides : (r : Result Bool AllocError) → AllPairs (λ x y. x.key < y.key) rows → All (λ x. (low ≤ x.key) × (x.key < upto)) rows → IfOk r (λ yes. IsTrue yes ↔ ((key : ℕ) → HasPoint (map_of (take a log)) (take (b - a) (drop a log)) rows low upto key)) → IfOk r (λ yes. IsTrue yes ↔ ((b ≤ length log) × AnswersRange log a b low upto rows))
+  pub range_decides : (r : Result Bool AllocError) → AllPairs (λ x y. x.key < y.key) rows → All (λ x. (low ≤ x.key) × (x.key < upto)) rows → IfOk r (λ yes. IsTrue yes ↔ ((key : ℕ) → RowHasPoint (map_of (take a log)) (take (b - a) (drop a log)) rows low upto key)) → IfOk r (λ yes. IsTrue yes ↔ ((b ≤ length log) × AnswersRange log a b low upto rows))
   range_decides (Ok answered) rising inside told = (λ t. (within, range_from_points rising inside (told.0 t)), λ h. told.1 (points_from_range h.1))
   range_decides (Err e) rising inside told = tt

@@ -6,12 +6,13 @@ use Rattle.std.specs.Ordering.{nat_cmp}
 use Rattle.std.specs.FinMap.Entries.{below_all}
 use Rattle.std.proofs.lemmas.Bool.{cases_eq}
 use Rattle.std.proofs.lemmas.List.Quantifiers.{all_pairs_push}
+use Rattle.sh_logic.proofs.Tests.{both}
 use Rattle.sh_map.specs.declared.log.Entry.{Entry}
 use Rattle.sh_map.specs.declared.book.Row.{Row}
-use Rattle.sh_map.specs.Map.{Map, get, pair_of}
-use Rattle.sh_map.specs.Log.{key_of, left_by, changed, map_from}
+use Rattle.sh_map.specs.Map.{Map, get, row_pair}
+use Rattle.sh_map.specs.Log.{change_key, left_value, changed, map_from}
 use Rattle.sh_map.specs.Rows.{IsRising, Becomes}
-use Rattle.sh_map.specs.Tables.{AreMet, IsGiven, given}
+use Rattle.sh_map.specs.Tables.{AreMet, IsGivenValue, given_value}
 use Rattle.sh_map.proofs.MapLemmas.{apart_test}
 use Rattle.sh_map.proofs.WalkLemmas.{any_push, one_more}
 use Rattle.std.specs.List.{list_any}
@@ -19,7 +20,7 @@ use Rattle.std.specs.BTreeMap.{is_at}
 use Rattle.std.specs.BTreeSet.{BTreeSet, contains, Updates}
 use Rattle.sh_map.proofs.LogLemmas.{changed_other}
 use Rattle.sh_map.proofs.ReplyLemmas.{changed_here}
-use Rattle.sh_map.proofs.RowsLemmas.{less_is, both}
+use Rattle.sh_map.proofs.RowsLemmas.{less_is}
 
 -- a walk over rows, one row on, which was read and lies above the one before
 module _ (rows : List Row) (at : ℕ) (row : Row) (in_range : at < length rows) (read : row ≡ get_or rows at row) where
@@ -39,39 +40,39 @@ pub is_rising : (rows : List Row) → AllPairs (λ x y. x.key < y.key) rows → 
 is_rising [] h = tt
 is_rising (r ∷ rows) h = both _ _ (below r.key rows (λ j d lt. h 0 (suc j) d (omega arith) (omega arith))) (is_rising rows (λ i j d lt in_range. h (suc i) (suc j) d (omega arith) (omega arith)))
   where
-    below : (x : ℕ) (rs : List Row) → ((j : ℕ) (d : Row) → j < length rs → x < (get_or rs j d).key) → T (below_all nat_cmp x (map pair_of rs))
+    below : (x : ℕ) (rs : List Row) → ((j : ℕ) (d : Row) → j < length rs → x < (get_or rs j d).key) → T (below_all nat_cmp x (map row_pair rs))
     below x [] above = tt
     below x (s ∷ rs) above = both _ _ (rw (less_is x s.key (above 0 s (omega arith))) tt) (below x rs (λ j d lt. above (suc j) d (omega arith)))
 
 -- a key has something at a point of the entries where it had it before, or an entry leaves it so
-becomes_by_entry : (m : Map) (log : List Entry) (key : ℕ) (had : Option (List ℕ)) (k : ℕ) (e : Entry) → k < length log → get_or log k e ≡ e → key_of e.change ≡ key → left_by e.change ≡ had → Becomes m log key had
+becomes_by_entry : (m : Map) (log : List Entry) (key : ℕ) (had : Option (List ℕ)) (k : ℕ) (e : Entry) → k < length log → get_or log k e ≡ e → change_key e.change ≡ key → left_value e.change ≡ had → Becomes m log key had
 becomes_by_entry m [] key had k e lt is of_key left = absurd (omega arith)
 becomes_by_entry m (x ∷ log) key had zero e lt is of_key left =
-    let here : key_of x.change ≡ key = ap (λ (y : Entry). key_of y.change) is ∙ of_key in
-    (1, omega arith, ap (get (changed m x.change)) (sym here) ∙ changed_here m x.change ∙ ap (λ (y : Entry). left_by y.change) is ∙ left)
+    let here : change_key x.change ≡ key = ap (λ (y : Entry). change_key y.change) is ∙ of_key in
+    (1, omega arith, ap (get (changed m x.change)) (sym here) ∙ changed_here m x.change ∙ ap (λ (y : Entry). left_value y.change) is ∙ left)
 becomes_by_entry m (x ∷ log) key had (suc k) e lt is of_key left =
     let later = becomes_by_entry (changed m x.change) log key had k e (omega arith) is of_key left in
     (suc later.0, omega (arith, later.1), later.2)
 
-becomes_cases : (m : Map) (log : List Entry) (key : ℕ) (had : Option (List ℕ)) (q : ℕ) → q ≤ length log → get (map_from m (take q log)) key ≡ had → (get m key ≡ had) ⊎ Any (λ e. (key_of e.change ≡ key) × (left_by e.change ≡ had)) log
+becomes_cases : (m : Map) (log : List Entry) (key : ℕ) (had : Option (List ℕ)) (q : ℕ) → q ≤ length log → get (map_from m (take q log)) key ≡ had → (get m key ≡ had) ⊎ Any (λ e. (change_key e.change ≡ key) × (left_value e.change ≡ had)) log
 becomes_cases m log key had zero le is = inl is
 becomes_cases m [] key had (suc q) le is = absurd (omega arith)
 becomes_cases m (x ∷ log) key had (suc q) le is = elim (becomes_cases (changed m x.change) log key had q (omega arith) is) [
   | inr any ↦ inr (suc any.0, any.1, omega (arith, any.2), any.3, any.4)
-  | inl here ↦ elim (cases_eq (key_of x.change) key) [
+  | inl here ↦ elim (cases_eq (change_key x.change) key) [
     | inl same ↦ inr (0, x, omega arith, refl, (same, sym (changed_here m x.change) ∙ ap (get (changed m x.change)) same ∙ here))
     | inr differ ↦ inl (sym (changed_other m x.change key (λ e. differ (sym e))) ∙ here)
   ]
 ]
 
 -- a key is given by the map or the entries met where it is so at a point of the entries
-pub given_becomes : (m : Map) (log : List Entry) (rows : List Row) (met : BTreeSet ℕ) (key : ℕ) → AreMet log rows met → IsGiven m met rows key ↔ Becomes m log key (given rows key)
+pub given_becomes : (m : Map) (log : List Entry) (rows : List Row) (met : BTreeSet ℕ) (key : ℕ) → AreMet log rows met → IsGivenValue m met rows key ↔ Becomes m log key (given_value rows key)
 given_becomes m log rows met key are_met = (
   λ is. elim is [
     | inl before ↦ (0, omega arith, before)
-    | inr is_met ↦ let any = (are_met.each key).0 is_met in becomes_by_entry m log key (given rows key) any.0 any.1 any.2 any.3 any.4.0 any.4.1
+    | inr is_met ↦ let any = (are_met.each key).0 is_met in becomes_by_entry m log key (given_value rows key) any.0 any.1 any.2 any.3 any.4.0 any.4.1
   ],
-  λ b. elim (becomes_cases m log key (given rows key) b.0 b.1 b.2) [ inl before ↦ inl before | inr any ↦ inr ((are_met.each key).1 any) ],
+  λ b. elim (becomes_cases m log key (given_value rows key) b.0 b.1 b.2) [ inl before ↦ inl before | inr any ↦ inr ((are_met.each key).1 any) ],
 )
 
 pub met_none : (rows : List Row) (met : BTreeSet ℕ) → met.keys ≡ [] → AreMet [] rows met
@@ -84,19 +85,19 @@ met_none rows met empty = record {
 
 -- a walk over the entries, one on, which was read
 module _ (log : List Entry) (at : ℕ) (e : Entry) (in_range : at < length log) (read : e ≡ get_or log at e) (rows : List Row) (met : BTreeSet ℕ) (h : AreMet (take at log) rows met) where
-  met_push : (new : BTreeSet ℕ) → ((key : ℕ) → IsTrue (contains nat_cmp new key) ↔ (IsTrue (contains nat_cmp met key) ⊎ ((key_of e.change ≡ key) × (left_by e.change ≡ given rows key)))) → AreMet (take (at + 1) log) rows new
+  met_push : (new : BTreeSet ℕ) → ((key : ℕ) → IsTrue (contains nat_cmp new key) ↔ (IsTrue (contains nat_cmp met key) ⊎ ((change_key e.change ≡ key) × (left_value e.change ≡ given_value rows key)))) → AreMet (take (at + 1) log) rows new
   met_push new each = subst (λ (l : List Entry). AreMet l rows new) (one_more log at e in_range read) (record {
     each = λ key.
-        let push = any_push (λ (x : Entry). (key_of x.change ≡ key) × (left_by x.change ≡ given rows key)) (take at log) e in (
+        let push = any_push (λ (x : Entry). (change_key x.change ≡ key) × (left_value x.change ≡ given_value rows key)) (take at log) e in (
           λ yes. push.1 (elim ((each key).0 yes) [ inl old ↦ inl ((h.each key).0 old) | inr here ↦ inr here ]),
           λ some. (each key).1 (elim (push.0 some) [ inl old ↦ inl ((h.each key).1 old) | inr here ↦ inr here ]),
         );
   })
 
-  pub met_more : (key : ℕ) (new : BTreeSet ℕ) → key ≡ key_of e.change → left_by e.change ≡ given rows key → Updates nat_cmp met new key true → AreMet (take (at + 1) log) rows new
+  pub met_more : (key : ℕ) (new : BTreeSet ℕ) → key ≡ change_key e.change → left_value e.change ≡ given_value rows key → Updates nat_cmp met new key true → AreMet (take (at + 1) log) rows new
   met_more key new is left updates = met_push new (λ q. elim (cases_eq q key) [
     | inl same ↦ (
-      λ _. inr (sym is ∙ sym same, left ∙ ap (given rows) (sym same)),
+      λ _. inr (sym is ∙ sym same, left ∙ ap (given_value rows) (sym same)),
       λ _. ap (contains nat_cmp new) same ∙ updates.1,
     )
     | inr differ ↦
@@ -104,5 +105,5 @@ module _ (log : List Entry) (at : ℕ) (e : Entry) (in_range : at < length log) 
         (λ yes. inl (sym stays ∙ yes), λ some. elim some [ inl old ↦ stays ∙ old | inr here ↦ absurd (differ (sym here.0 ∙ sym is)) ])
   ])
 
-  pub met_same : (left_by e.change ≡ given rows (key_of e.change) → ⊥) → AreMet (take (at + 1) log) rows met
-  met_same other = met_push met (λ q. (λ yes. inl yes, λ some. elim some [ inl old ↦ old | inr here ↦ absurd (other (here.1 ∙ ap (given rows) (sym here.0))) ]))
+  pub met_same : (left_value e.change ≡ given_value rows (change_key e.change) → ⊥) → AreMet (take (at + 1) log) rows met
+  met_same other = met_push met (λ q. (λ yes. inl yes, λ some. elim some [ inl old ↦ old | inr here ↦ absurd (other (here.1 ∙ ap (given_value rows) (sym here.0))) ]))

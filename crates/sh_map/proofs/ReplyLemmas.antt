@@ -4,11 +4,11 @@ use Rattle.sh_map.specs.declared.log.Change.{Change}
 use Rattle.sh_map.specs.declared.log.Change.TheVariants.{Put, Del}
 use Rattle.sh_map.specs.declared.log.Entry.{Entry}
 use Rattle.sh_map.specs.Map.{Map, get}
-use Rattle.sh_map.specs.Log.{key_of, left_by, changed, map_at}
+use Rattle.sh_map.specs.Log.{change_key, left_value, changed, map_at}
 use Rattle.sh_map.proofs.MapLemmas.{get-put, get-del}
 use Rattle.sh_map.proofs.LogLemmas.{map_more}
 
-pub changed_here : (m : Map) (change : Change) → get (changed m change) (key_of change) ≡ left_by change
+pub changed_here : (m : Map) (change : Change) → get (changed m change) (change_key change) ≡ left_value change
 changed_here m (Put key value) = get-put m key value
 changed_here m (Del key) = get-del m key
 
@@ -18,7 +18,7 @@ module _ (log : List Entry) (at : ℕ) (e : Entry) (in_range : at < length log) 
   map_next = map_more log at e in_range ∙ ap (λ (x : Entry). changed (map_at log at) x.change) (sym read)
 
 -- a change is known by its key and what it leaves
-pub same_change : (a b : Change) → key_of a ≡ key_of b → left_by a ≡ left_by b → a ≡ b
+pub same_change : (a b : Change) → change_key a ≡ change_key b → left_value a ≡ left_value b → a ≡ b
 same_change (Put key value) (Put other given) k v = cc
 same_change (Put key value) (Del other) k v = absurd (cc)
 same_change (Del key) (Put other given) k v = absurd (cc)

@@ -7,6 +7,7 @@ use Rattle.std.proofs.lemmas.List.{get_or-set_same, get_or-set_other, get_or-rep
 use Rattle.std.proofs.lemmas.List.Elements.{All-nil, All-push}
 use Rattle.std.proofs.lemmas.List.Sorted.{All-permutation, Contains-permutation}
 use Rattle.std.proofs.lemmas.Option.{get_or_from_slice_get, slice_get_within}
+use Rattle.sh_logic.proofs.Lists.{slice_get-push_back}
 use Rattle.sh_map.specs.declared.log.Entry.{Entry}
 use Rattle.sh_map.specs.declared.book.Done.{Done}
 use Rattle.sh_map.specs.declared.sweep.Part.{Part}
@@ -17,7 +18,6 @@ use Rattle.sh_map.specs.declared.call.Call.TheVariants.{Get, Put, Del, Range}
 use Rattle.sh_map.specs.declared.call.Reply.{Reply}
 use Rattle.sh_map.specs.Judge.{AsksNothing, FitsPart, RowsAnswer}
 use Rattle.sh_map.specs.Tables.{AreKept}
-use Rattle.sh_map.proofs.BookLemmas.{slice_get-push_back}
 use Rattle.sh_map.proofs.WalkLemmas.{any_from, any_push, one_more}
 
 -- each of these calls is due, or nothing is asked of its part

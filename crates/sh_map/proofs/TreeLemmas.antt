@@ -18,8 +18,8 @@ use Rattle.std.proofs.lemmas.List.{append-nil, append_assoc, map-append}
 use Rattle.std.proofs.lemmas.Bool.{cases_lt}
 use Rattle.std.proofs.lemmas.Cmp.{ranked}
 use Rattle.sh_map.specs.declared.book.Row.{Row}
-use Rattle.sh_map.specs.Map.{get, put, del, pair_of, row_of}
-use Rattle.sh_map.specs.Tables.{given}
+use Rattle.sh_map.specs.Map.{get, put, del, row_pair, pair_row}
+use Rattle.sh_map.specs.Tables.{given_value}
 use Rattle.sh_map.proofs.MapLemmas.{apart_test, is_put, is_del}
 use Rattle.sh_map.proofs.RowsLemmas.{less_is}
 use Rattle.sh_map.proofs.WalkLemmas.{one_more}
@@ -71,15 +71,15 @@ module _ (t : BTreeMap ℕ (List ℕ)) (low upto : ℕ) (part : List (ℕ × Lis
   keys_each is key above below some = Contains-keys_from_lookup (tells_apart exact_unsigned) key part (subst IsSome (sym (part_has is key above below)) some)
 
   -- rows that are the part give its keys what they have
-  pub rows_give : (rows : List Row) → map pair_of rows ≡ part → part ≡ entries_between nat_cmp (Included low) (Excluded upto) t.entries → (key : ℕ) → low ≤ key → key < upto → get (from_entries t.entries) key ≡ given rows key
-  rows_give rows are is key above below = tree_get t key ∙ sym (part_has is key above below) ∙ ap (lookup (is_at (nat_cmp key))) (sym are) ∙ sym (get-from_entries nat_cmp_total (map pair_of rows) key ∙ find_is_lookup key (map pair_of rows))
+  pub rows_give : (rows : List Row) → map row_pair rows ≡ part → part ≡ entries_between nat_cmp (Included low) (Excluded upto) t.entries → (key : ℕ) → low ≤ key → key < upto → get (from_entries t.entries) key ≡ given_value rows key
+  rows_give rows are is key above below = tree_get t key ∙ sym (part_has is key above below) ∙ ap (lookup (is_at (nat_cmp key))) (sym are) ∙ sym (get-from_entries nat_cmp_total (map row_pair rows) key ∙ find_is_lookup key (map row_pair rows))
 
-pub this_row : (rows : List Row) (at key : ℕ) (value : List ℕ) (row : Row) → at < length rows → row ≡ get_or rows at row → row.key ≡ key → row.value ≡ value → slice_get rows at ≡ Some (row_of key value)
-this_row rows at key value row in_range read k v = slice_get-get_or rows at row in_range ∙ ap Some (sym read) ∙ ap (λ n. Some (row_of n row.value)) k ∙ ap (λ ws. Some (row_of key ws)) v
+pub this_row : (rows : List Row) (at key : ℕ) (value : List ℕ) (row : Row) → at < length rows → row ≡ get_or rows at row → row.key ≡ key → row.value ≡ value → slice_get rows at ≡ Some (pair_row key value)
+this_row rows at key value row in_range read k v = slice_get-get_or rows at row in_range ∙ ap Some (sym read) ∙ ap (λ n. Some (pair_row n row.value)) k ∙ ap (λ ws. Some (pair_row key ws)) v
 
 -- a walk over rows and the pairs of a part, one on
-pub rows_more : (rows : List Row) (at key : ℕ) (value : List ℕ) (rest new all : List (ℕ × List ℕ)) → map pair_of (take at rows) ++ rest ≡ all → slice_get rows at ≡ Some (row_of key value) → rest ≡ (key, value) ∷ new → map pair_of (take (at + 1) rows) ++ new ≡ all
+pub rows_more : (rows : List Row) (at key : ℕ) (value : List ℕ) (rest new all : List (ℕ × List ℕ)) → map row_pair (take at rows) ++ rest ≡ all → slice_get rows at ≡ Some (pair_row key value) → rest ≡ (key, value) ∷ new → map row_pair (take (at + 1) rows) ++ new ≡ all
 rows_more rows at key value rest new all h here is =
-    let row : Row = row_of key value in
+    let row : Row = pair_row key value in
     let more : take at rows ++ row ∷ [] ≡ take (at + 1) rows = one_more rows at row (slice_get_within rows at row here) (sym (get_or_from_slice_get rows at row row here)) in
-    ap (λ l. map pair_of l ++ new) (sym more) ∙ ap (λ l. l ++ new) (map-append pair_of (take at rows) (row ∷ [])) ∙ append_assoc (map pair_of (take at rows)) (pair_of row ∷ []) new ∙ ap (λ l. map pair_of (take at rows) ++ l) (sym is) ∙ h
+    ap (λ l. map row_pair l ++ new) (sym more) ∙ ap (λ l. l ++ new) (map-append row_pair (take at rows) (row ∷ [])) ∙ append_assoc (map row_pair (take at rows)) (row_pair row ∷ []) new ∙ ap (λ l. map row_pair (take at rows) ++ l) (sym is) ∙ h

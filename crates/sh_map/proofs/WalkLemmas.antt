@@ -1,6 +1,6 @@
 -- What holds of a list that gains an element, and of a walk over a list, one on.
-use Rattle.std.proofs.Common.{◌≡◌, ◌↔◌, ◌⊎◌, ℕ, ◌+◌, ◌<◌, List, [], ◌∷◌, ◌++◌, length, get_or, take, Some, inl, inr, refl, sym, ap, subst, ◌∙◌}
-use Rattle.std.specs.Prelude.{slice_get, All, Any, Contains}
+use Rattle.std.proofs.Common.{◌≡◌, ◌↔◌, ◌⊎◌, ℕ, ◌+◌, ◌<◌, List, [], ◌∷◌, ◌++◌, length, get_or, take, inl, inr, sym, ap, subst, ◌∙◌}
+use Rattle.std.specs.Prelude.{All, Any, Contains}
 use Rattle.std.proofs.lemmas.List.{take_more}
 use Rattle.std.proofs.lemmas.List.Elements.{All-push, All-contains, Contains-push, Contains-push_cases, Contains-append_left, Contains-get_or}
 use Rattle.std.proofs.lemmas.List.Quantifiers.{Any-push}
@@ -8,10 +8,6 @@ use Rattle.std.proofs.lemmas.List.Quantifiers.{Any-push}
 module _ {X : Type 0} where
   pub any_from : (P : X → Type 0) (xs : List X) (x : X) → Contains xs x → P x → Any P xs
   any_from P xs x c p = (c.0, x, c.1, c.2, p)
-
-  pub slice_get-push_end : (xs : List X) (x : X) → slice_get (xs ++ x ∷ []) (length xs) ≡ Some x
-  slice_get-push_end [] x = refl
-  slice_get-push_end (y ∷ xs) x = slice_get-push_end xs x
 
 module _ {X : Type 0} (P : X → Type 0) (xs : List X) (y : X) where
   pub any_push : Any P (xs ++ y ∷ []) ↔ (Any P xs ⊎ P y)

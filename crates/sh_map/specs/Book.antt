@@ -10,7 +10,7 @@ use Rattle.sh_map.specs.declared.log.Change.TheVariants as change
 use Rattle.sh_map.specs.declared.log.Entry.{Entry}
 use Rattle.sh_map.specs.declared.book.Row.{Row}
 use Rattle.sh_map.specs.declared.book.Done.{Done}
-use Rattle.sh_map.specs.Map.{get, pair_of}
+use Rattle.sh_map.specs.Map.{get, row_pair}
 use Rattle.sh_map.specs.Log.{map_at, IsLegal}
 
 -- A range answered key by key: the rows rise and lie in low..upto, and each key of low..upto has its row's value, or
@@ -18,18 +18,18 @@ use Rattle.sh_map.specs.Log.{map_at, IsLegal}
 pub record AnswersRange (log : List Entry) (a b low upto : ℕ) (rows : List Row) : Type 0 where
   pub rising : AllPairs (λ x y. x.key < y.key) rows
   pub within : All (λ x. (low ≤ x.key) × (x.key < upto)) rows
-  pub points : (key : ℕ) → low ≤ key → key < upto → (p : ℕ) × (a ≤ p) × (p ≤ b) × (get (map_at log p) key ≡ get (from_entries (map pair_of rows)) key)
+  pub points : (key : ℕ) → low ≤ key → key < upto → (p : ℕ) × (a ≤ p) × (p ≤ b) × (get (map_at log p) key ≡ get (from_entries (map row_pair rows)) key)
 
-abbrev pub entry_of : ℕ → Change → Option (List ℕ) → Entry
-entry_of seat change old = record { seat = seat; change = change; old = old }
+abbrev pub made_entry : ℕ → Change → Option (List ℕ) → Entry
+made_entry seat change old = record { seat = seat; change = change; old = old }
 
 -- What must hold of a call and its reply. Full and Worn are no replies of the map, and nothing more is asked of them.
 abbrev pub AnswersAt : List Entry → Done → Call → Reply → Type 0
 AnswersAt log d (Get key) (reply.Some value) = get (map_at log d.point) key ≡ Some value
 AnswersAt log d (Get key) reply.None = get (map_at log d.point) key ≡ None
-AnswersAt log d (Put key value) (reply.Some old) = slice_get log d.point ≡ Some (entry_of d.seat (change.Put key value) (Some old))
-AnswersAt log d (Put key value) reply.None = slice_get log d.point ≡ Some (entry_of d.seat (change.Put key value) None)
-AnswersAt log d (Del key) (reply.Some old) = slice_get log d.point ≡ Some (entry_of d.seat (change.Del key) (Some old))
+AnswersAt log d (Put key value) (reply.Some old) = slice_get log d.point ≡ Some (made_entry d.seat (change.Put key value) (Some old))
+AnswersAt log d (Put key value) reply.None = slice_get log d.point ≡ Some (made_entry d.seat (change.Put key value) None)
+AnswersAt log d (Del key) (reply.Some old) = slice_get log d.point ≡ Some (made_entry d.seat (change.Del key) (Some old))
 AnswersAt log d (Del key) reply.None = get (map_at log d.point) key ≡ None
 AnswersAt log d (Range low high) (reply.Rows upto) = (low ≤ upto) × (upto ≤ high) × AnswersRange log d.first d.point low upto d.rows
 AnswersAt log d (Put key value) reply.Full = Unit {0}

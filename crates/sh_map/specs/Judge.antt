@@ -30,7 +30,7 @@ RowsAnswer log d (Range low high) (reply.Rows upto) = (d.point ≤ length log) �
 RowsAnswer log d asked answer = Unit {0}
 
 -- a finished call follows one before it, in number and in its seat's order
-pub record Follows (x d : Done) : Type 0 where
+pub record FollowsOnSeat (x d : Done) : Type 0 where
   pub number : x.n < d.n
   pub order : IsLater x d
 
@@ -43,7 +43,7 @@ abbrev pub FitsRows : List Entry → List Done → Done → Type 0
 FitsRows log before d = RowsAnswer log d d.call d.reply
 
 abbrev pub FitsOrder : List Done → Done → Type 0
-FitsOrder before d = (d.first ≤ d.point) × All (λ x. Follows x d) before
+FitsOrder before d = (d.first ≤ d.point) × All (λ x. FollowsOnSeat x d) before
 
 -- a part of an answer, and the point by whose map it is judged
 abbrev pub FitsPart : Part → List Entry → Done → Type 0

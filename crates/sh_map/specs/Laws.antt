@@ -2,17 +2,17 @@
 use Rattle.std.specs.Prelude.{◌≡◌, ◌≢◌, ℕ, ◌+◌, ◌<◌, ◌==◌, ◌&&◌, if◌then◌else◌, List, [], ◌∷◌, slice_get, Some}
 use Rattle.sh_map.specs.declared.log.Entry.{Entry}
 use Rattle.sh_map.specs.declared.book.Done.{Done}
-use Rattle.sh_map.specs.Log.{key_of}
+use Rattle.sh_map.specs.Log.{change_key}
 use Rattle.sh_map.specs.Book.{made}
 
 -- the entry at place i is the last of its key
 pub record IsLastOfKey (log : List Entry) (key i : ℕ) (e : Entry) : Type 0 where
   pub here : slice_get log i ≡ Some e
-  pub of_key : key_of e.change ≡ key
-  pub last : (j : ℕ) (f : Entry) → i < j → slice_get log j ≡ Some f → key_of f.change ≢ key
+  pub of_key : change_key e.change ≡ key
+  pub last : (j : ℕ) (f : Entry) → i < j → slice_get log j ≡ Some f → change_key f.change ≢ key
 
 abbrev pub HasNoEntry : List Entry → ℕ → Type 0
-HasNoEntry log key = (j : ℕ) (f : Entry) → slice_get log j ≡ Some f → key_of f.change ≢ key
+HasNoEntry log key = (j : ℕ) (f : Entry) → slice_get log j ≡ Some f → change_key f.change ≢ key
 
 -- the places of a seat's entries, counted from n
 abbrev pub places_of : ℕ → ℕ → List Entry → List ℕ

@@ -6,14 +6,14 @@ use Rattle.sh_map.specs.declared.log.Change.TheVariants.{Put, Del}
 use Rattle.sh_map.specs.declared.log.Entry.{Entry}
 use Rattle.sh_map.specs.Map.{Map, get, put, del}
 
-abbrev pub key_of : Change → ℕ
-key_of (Put key value) = key
-key_of (Del key) = key
+abbrev pub change_key : Change → ℕ
+change_key (Put key value) = key
+change_key (Del key) = key
 
 -- what a change leaves at its key
-abbrev pub left_by : Change → Option (List ℕ)
-left_by (Put key value) = Some value
-left_by (Del key) = None
+abbrev pub left_value : Change → Option (List ℕ)
+left_value (Put key value) = Some value
+left_value (Del key) = None
 
 -- the map after a change
 abbrev pub changed : Map → Change → Map
@@ -40,7 +40,7 @@ HasOld (Del key) old = IsSome old
 
 -- an entry that may come next: its old value is what the map has at its key
 abbrev pub IsNext : Map → Entry → Type 0
-IsNext m e = (e.old ≡ get m (key_of e.change)) × HasOld e.change e.old
+IsNext m e = (e.old ≡ get m (change_key e.change)) × HasOld e.change e.old
 
 abbrev pub IsLegalFrom : Map → List Entry → Type 0
 IsLegalFrom m [] = Unit {0}

@@ -6,11 +6,11 @@ use Rattle.sh_map.specs.declared.call.Reply.{Reply}
 use Rattle.sh_map.specs.declared.call.Reply.TheVariants as reply
 use Rattle.sh_map.specs.declared.log.Change.TheVariants as change
 use Rattle.sh_map.specs.declared.log.Entry.{Entry}
-use Rattle.sh_map.specs.Book.{entry_of}
+use Rattle.sh_map.specs.Book.{made_entry}
 
 -- a put that wasn't refused and a delete that removed something make one, and every other call none
 abbrev pub entries_by : ℕ → Call → Reply → List Entry
-entries_by seat (Put key value) (reply.Some old) = entry_of seat (change.Put key value) (Some old) ∷ []
-entries_by seat (Put key value) reply.None = entry_of seat (change.Put key value) None ∷ []
-entries_by seat (Del key) (reply.Some old) = entry_of seat (change.Del key) (Some old) ∷ []
+entries_by seat (Put key value) (reply.Some old) = made_entry seat (change.Put key value) (Some old) ∷ []
+entries_by seat (Put key value) reply.None = made_entry seat (change.Put key value) None ∷ []
+entries_by seat (Del key) (reply.Some old) = made_entry seat (change.Del key) (Some old) ∷ []
 entries_by seat call reply = []

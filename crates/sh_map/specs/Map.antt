@@ -24,8 +24,8 @@ del m key = remove m key
 abbrev pub size : Map → ℕ
 size m = map.len m
 
-abbrev pub pair_of : Row → ℕ × List ℕ
-pair_of r = (r.key, r.value)
+abbrev pub row_pair : Row → ℕ × List ℕ
+row_pair r = (r.key, r.value)
 
-abbrev pub row_of : ℕ → List ℕ → Row
-row_of key value = record { key = key; value = value }
+abbrev pub pair_row : ℕ → List ℕ → Row
+pair_row key value = record { key = key; value = value }

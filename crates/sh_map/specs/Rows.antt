@@ -4,38 +4,38 @@ use Rattle.std.specs.Ordering.{nat_cmp}
 use Rattle.std.specs.FinMap.{from_entries, from_sorted, is_sorted}
 use Rattle.sh_map.specs.declared.book.Row.{Row}
 use Rattle.sh_map.specs.declared.log.Entry.{Entry}
-use Rattle.sh_map.specs.Map.{Map, get, pair_of}
+use Rattle.sh_map.specs.Map.{Map, get, row_pair}
 use Rattle.sh_map.specs.Log.{map_from}
 
 -- each row's key is below the next one's
 abbrev pub IsRising : List Row → Type 0
-IsRising rows = T (is_sorted nat_cmp (map pair_of rows))
+IsRising rows = T (is_sorted nat_cmp (map row_pair rows))
 
 abbrev pub map_of_rows : List Row → Map
-map_of_rows rows = from_sorted (map pair_of rows)
+map_of_rows rows = from_sorted (map row_pair rows)
 
 -- stands for a row behind the last
 abbrev pub nothing : Row
 nothing = record { key = 0; value = [] }
 
-abbrev pub key_at : List Row → ℕ → ℕ
-key_at rows i = let row = slice_index_or rows i nothing in row.key
+abbrev pub row_key : List Row → ℕ → ℕ
+row_key rows i = let row = slice_index_or rows i nothing in row.key
 
 -- the row at place i has the key
-pub record IsAt (rows : List Row) (key i : ℕ) : Type 0 where
+pub record IsRowAt (rows : List Row) (key i : ℕ) : Type 0 where
   pub in_range : i < length rows
-  pub has_key : key_at rows i ≡ key
+  pub has_key : row_key rows i ≡ key
 
 -- the key would go at place i
 pub record IsGapFor (rows : List Row) (key i : ℕ) : Type 0 where
   pub in_range : i ≤ length rows
-  pub smaller_before : (j : ℕ) → j < i → key_at rows j < key
-  pub greater_after : (j : ℕ) → i ≤ j → j < length rows → key < key_at rows j
+  pub smaller_before : (j : ℕ) → j < i → row_key rows j < key
+  pub greater_after : (j : ℕ) → i ≤ j → j < length rows → key < row_key rows j
 
 -- from this map on, a key has this at some point of the entries
 abbrev pub Becomes : Map → List Entry → ℕ → Option (List ℕ) → Type 0
 Becomes m log key had = (q : ℕ) × (q ≤ length log) × (get (map_from m (take q log)) key ≡ had)
 
 -- a key of low..upto has at some point of the entries what the rows give it
-pub record HasPoint (m : Map) (log : List Entry) (rows : List Row) (low upto key : ℕ) : Type 0 where
-  pub here : low ≤ key → key < upto → Becomes m log key (get (from_entries (map pair_of rows)) key)
+pub record RowHasPoint (m : Map) (log : List Entry) (rows : List Row) (low upto key : ℕ) : Type 0 where
+  pub here : low ≤ key → key < upto → Becomes m log key (get (from_entries (map row_pair rows)) key)

@@ -8,8 +8,8 @@ use Rattle.std.specs.BTreeSet.{BTreeSet, contains}
 use Rattle.sh_map.specs.declared.log.Entry.{Entry}
 use Rattle.sh_map.specs.declared.book.Row.{Row}
 use Rattle.sh_map.specs.declared.book.Done.{Done}
-use Rattle.sh_map.specs.Map.{Map, get, pair_of}
-use Rattle.sh_map.specs.Log.{key_of, left_by}
+use Rattle.sh_map.specs.Map.{Map, get, row_pair}
+use Rattle.sh_map.specs.Log.{change_key, left_value}
 use Rattle.sh_map.specs.Book.{IsOwn, made}
 
 -- whether each finished call keeps a rule
@@ -31,7 +31,7 @@ abbrev pub HasNoPlace : List Entry → ℕ → Type 0
 HasNoPlace log seat = (j : ℕ) (f : Entry) → slice_get log j ≡ Some f → f.seat ≢ seat
 
 -- the last place of each seat that has an entry
-pub record AreLast (log : List Entry) (lasts : BTreeMap ℕ ℕ) : Type 0 where
+pub record AreLastPlaces (log : List Entry) (lasts : BTreeMap ℕ ℕ) : Type 0 where
   pub each : (seat : ℕ) → MatchOption (tree.get nat_cmp lasts seat) (HasNoPlace log seat) (λ i. IsLastPlace log seat i)
 
 -- Bounds for a call behind these: its number has to be at least `above`, and it may begin no earlier than its seat's end.
@@ -40,13 +40,13 @@ pub record AreBounds (before : List Done) (above : ℕ) (ends : BTreeMap ℕ ℕ
   pub end : (seat first : ℕ) → (unwrap_or (tree.get nat_cmp ends seat) 0 ≤ first) ↔ All (λ x. x.seat ≡ seat → x.point + made x.call x.reply ≤ first) before
 
 -- what rows give a key
-abbrev pub given : List Row → ℕ → Option (List ℕ)
-given rows key = get (from_entries (map pair_of rows)) key
+abbrev pub given_value : List Row → ℕ → Option (List ℕ)
+given_value rows key = get (from_entries (map row_pair rows)) key
 
 -- the keys that some of these entries leaves as the rows give them
 pub record AreMet (log : List Entry) (rows : List Row) (met : BTreeSet ℕ) : Type 0 where
-  pub each : (key : ℕ) → IsTrue (contains nat_cmp met key) ↔ Any (λ e. (key_of e.change ≡ key) × (left_by e.change ≡ given rows key)) log
+  pub each : (key : ℕ) → IsTrue (contains nat_cmp met key) ↔ Any (λ e. (change_key e.change ≡ key) × (left_value e.change ≡ given_value rows key)) log
 
 -- a key has in the map what the rows give it, or it is among those that were met
-abbrev pub IsGiven : Map → BTreeSet ℕ → List Row → ℕ → Type 0
-IsGiven m met rows key = (get m key ≡ given rows key) ⊎ IsTrue (contains nat_cmp met key)
+abbrev pub IsGivenValue : Map → BTreeSet ℕ → List Row → ℕ → Type 0
+IsGivenValue m met rows key = (get m key ≡ given_value rows key) ⊎ IsTrue (contains nat_cmp met key)

@@ -7,7 +7,7 @@ ghost use Rattle.sh_map.specs.declared.log.Entry.{Entry};
 ghost use Rattle.sh_map.specs.declared.book.Done.{Done};
 ghost use Rattle.sh_map.specs.declared.misfit.Misfit.{Misfit};
 ghost use Rattle.sh_map.specs.Map.{get};
-ghost use Rattle.sh_map.specs.Log.{IsLegal, IsNext, left_by, map_of};
+ghost use Rattle.sh_map.specs.Log.{IsLegal, IsNext, left_value, map_of};
 ghost use Rattle.sh_map.specs.Book.{Answers, IsClosed, IsLater, IsLawful, IsOwn};
 ghost use Rattle.sh_map.specs.Judge.{IsFirstMisfit};
 ghost use Rattle.sh_map.specs.Laws.{HasNoEntry, IsLastOfKey, places_of, updates_of};
@@ -16,7 +16,7 @@ ghost use Rattle.sh_map.specs.Laws.{HasNoEntry, IsLastOfKey, places_of, updates_
 pub fn log_laws()
     ensures legal_before { (log : List Entry) (i : ℕ) → IsLegal log → IsLegal (take i log) }
     ensures by_last { (log : List Entry) (key i : ℕ) (e : Entry) → IsLastOfKey log key i e
-        → get (map_of log) key ≡ left_by e.change }
+        → get (map_of log) key ≡ left_value e.change }
     ensures by_none { (log : List Entry) (key : ℕ) → HasNoEntry log key
         → get (map_of log) key ≡ None }
 {}

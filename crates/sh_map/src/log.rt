@@ -1,6 +1,6 @@
 // The log of puts and deletes.
 ghost use Rattle.std.specs.Prelude.{◌≡◌};
-ghost use Rattle.sh_map.specs.Log.{key_of, left_by};
+ghost use Rattle.sh_map.specs.Log.{change_key, left_value};
 
 use sh_base::Value;
 
@@ -25,7 +25,7 @@ pub type Log = Vec<Entry>;
 impl Change {
     /// The key that is changed.
     pub fn key(&self) -> u64
-        ensures { result ≡ key_of self.now }
+        ensures { result ≡ change_key self.now }
     {
         match *self {
             Change::Put { key, .. } => key,
@@ -35,7 +35,7 @@ impl Change {
 
     /// What the key has after it.
     pub fn left(&self) -> Option<Value>
-        ensures { result ≡ left_by self.now }
+        ensures { result ≡ left_value self.now }
     {
         match *self {
             Change::Put { value, .. } => Some(value),

@@ -2,7 +2,7 @@
 ghost use Rattle.std.specs.Prelude.{◌≡◌, ◌∷◌, ◌++◌, ◌<◌, [], vec_len};
 ghost use Rattle.std.specs.Vec.{vec_capacity};
 ghost use Rattle.sh_map.specs.declared.call.Call.TheVariants as call;
-ghost use Rattle.sh_map.specs.Book.{entry_of};
+ghost use Rattle.sh_map.specs.Book.{made_entry};
 ghost use Rattle.sh_map.specs.Made.{entries_by};
 
 use crate::{Call, Change, Entry, Log, Reply};
@@ -11,7 +11,7 @@ use sh_base::Value;
 // Adds one entry.
 fn push(log: &mut Log, seat: u32, change: Change, old: Option<Value>)
     requires { vec_len log.old < vec_capacity log.old }
-    ensures items { log.new.items ≡ log.old.items ++ entry_of seat change old ∷ [] }
+    ensures items { log.new.items ≡ log.old.items ++ made_entry seat change old ∷ [] }
     ensures room { vec_capacity log.new ≡ vec_capacity log.old }
 {
     log.push_reserved(Entry { seat, change, old });

@@ -1,7 +1,7 @@
 // Whose an entry of a log is.
 ghost use Rattle.std.specs.Prelude.{IsTrue, ◌↔◌, ◌⊎◌, ◌≡◌, ◌<◌, IfOk, length, Any};
 ghost use Rattle.sh_map.specs.Book.{IsOwn, IsLastOfSeat, made};
-ghost use Rattle.sh_map.specs.Tables.{AreLast, AreOwned};
+ghost use Rattle.sh_map.specs.Tables.{AreLastPlaces, AreOwned};
 
 use crate::entries::made;
 use crate::{Done, Entry};
@@ -34,7 +34,7 @@ pub(crate) fn owned_places(
 
 /// The last place of each seat in a log.
 pub(crate) fn last_places(alloc: Global, log: &[Entry]) -> Result<BTreeMap<u32, usize>, AllocError>
-    ensures { IfOk result (λ lasts. AreLast log.now lasts) }
+    ensures { IfOk result (λ lasts. AreLastPlaces log.now lasts) }
 {
     let mut lasts = BTreeMap::new(alloc);
     for (at, entry) in log.iter().enumerate() {
@@ -53,7 +53,7 @@ pub(crate) fn has_owner(
 ) -> bool
     requires within { at < length log.now }
     requires owned { AreOwned (length log.now) dones.now owned.now }
-    requires lasts { AreLast log.now lasts.now }
+    requires lasts { AreLastPlaces log.now lasts.now }
     ensures { IsTrue result ↔ (Any (IsOwn at) dones.now ⊎ IsLastOfSeat log.now at) }
 {
     owned[at] || lasts.get(&log[at].seat).copied() == Some(at)

@@ -1,8 +1,8 @@
 // A map from keys to values, kept plainly.
 ghost use Rattle.std.specs.Prelude.{◌≡◌, IfOk, IfErr, OnOk, OnErr, map};
 ghost use Rattle.std.specs.FinMap.{empty, entries, from_entries};
-ghost use Rattle.sh_map.specs.Map.{get, put, del, pair_of};
-ghost use Rattle.sh_map.specs.Rows.{IsAt, IsGapFor, IsRising};
+ghost use Rattle.sh_map.specs.Map.{get, put, del, row_pair};
+ghost use Rattle.sh_map.specs.Rows.{IsRowAt, IsGapFor, IsRising};
 
 use crate::{Row, Rows};
 use sh_base::Value;
@@ -84,14 +84,14 @@ impl PlainMap {
 
     /// The keys and their values, by rising keys.
     pub fn pairs(&self) -> &[Row]
-        ensures { map pair_of result.now ≡ entries self.now }
+        ensures { map row_pair result.now ≡ entries self.now }
     {
         &self.rows
     }
 
     /// The keys and their values, by rising keys.
     pub fn into_rows(self) -> Rows
-        ensures { map pair_of result ≡ entries self }
+        ensures { map row_pair result ≡ entries self }
     {
         let PlainMap { rows } = self;
         Rows::of(rows)
@@ -101,7 +101,7 @@ impl PlainMap {
 /// The value that rising rows give a key, if there is a row of it.
 pub(crate) fn value_in(rows: &[Row], key: u64) -> Option<Value>
     requires { IsRising rows.now }
-    ensures { result ≡ get (from_entries (map pair_of rows.now)) key }
+    ensures { result ≡ get (from_entries (map row_pair rows.now)) key }
 {
     match search(rows, key) {
         Ok(at) => Some(rows[at].value),
@@ -112,7 +112,7 @@ pub(crate) fn value_in(rows: &[Row], key: u64) -> Option<Value>
 // Where the key is among rising rows, or where it would go.
 fn search(rows: &[Row], key: u64) -> Result<usize, usize>
     requires { IsRising rows.now }
-    ensures found { IfOk result (IsAt rows.now key) }
+    ensures found { IfOk result (IsRowAt rows.now key) }
     ensures absent { IfErr result (IsGapFor rows.now key) }
 {
     rows.binary_search_by_key(&key, |row| row.key)

@@ -3,8 +3,8 @@ ghost use Rattle.std.specs.Prelude.{ℕ, IsTrue, ◌↔◌, ◌≡◌, ◌<◌, 
 ghost use Rattle.sh_map.specs.Log.{map_at};
 ghost use Rattle.sh_map.specs.Book.{AnswersRange};
 ghost use Rattle.sh_map.specs.Judge.{RowsAnswer};
-ghost use Rattle.sh_map.specs.Rows.{HasPoint, IsRising};
-ghost use Rattle.sh_map.specs.Tables.{AreMet, IsGiven};
+ghost use Rattle.sh_map.specs.Rows.{RowHasPoint, IsRising};
+ghost use Rattle.sh_map.specs.Tables.{AreMet, IsGivenValue};
 
 use crate::entries::same;
 use crate::plain_map::value_in;
@@ -50,7 +50,7 @@ fn keys_met(alloc: Global, entries: &[Entry], rows: &[Row]) -> Result<BTreeSet<u
 // Whether a key has what the rows give it, in the map or among those met.
 fn is_given(before: &TreeMap, met: &BTreeSet<u64>, rows: &[Row], key: u64) -> bool
     requires { IsRising rows.now }
-    ensures { IsTrue result ↔ IsGiven before.now met.now rows.now key }
+    ensures { IsTrue result ↔ IsGivenValue before.now met.now rows.now key }
 {
     same(&before.get(key), &value_in(rows, key)) || met.contains(&key)
 }
@@ -58,7 +58,7 @@ fn is_given(before: &TreeMap, met: &BTreeSet<u64>, rows: &[Row], key: u64) -> bo
 // Whether each of these keys is given so.
 fn are_given(before: &TreeMap, met: &BTreeSet<u64>, rows: &[Row], keys: &[u64]) -> bool
     requires { IsRising rows.now }
-    ensures { IsTrue result ↔ All (λ key. IsGiven before.now met.now rows.now key) keys.now }
+    ensures { IsTrue result ↔ All (λ key. IsGivenValue before.now met.now rows.now key) keys.now }
 {
     keys.iter().all(|key| is_given(before, met, rows, *key))
 }
@@ -66,7 +66,7 @@ fn are_given(before: &TreeMap, met: &BTreeSet<u64>, rows: &[Row], keys: &[u64]) 
 // Whether each row's key is given so.
 fn are_rows_given(before: &TreeMap, met: &BTreeSet<u64>, rows: &[Row]) -> bool
     requires { IsRising rows.now }
-    ensures { IsTrue result ↔ All (λ r. IsGiven before.now met.now rows.now r.key) rows.now }
+    ensures { IsTrue result ↔ All (λ r. IsGivenValue before.now met.now rows.now r.key) rows.now }
 {
     rows.iter().all(|row| is_given(before, met, rows, row.key))
 }
@@ -74,8 +74,8 @@ fn are_rows_given(before: &TreeMap, met: &BTreeSet<u64>, rows: &[Row]) -> bool
 // Whether each row's key and each of these keys is given so.
 fn are_all_given(before: &TreeMap, met: &BTreeSet<u64>, rows: &[Row], keys: &[u64]) -> bool
     requires { IsRising rows.now }
-    ensures { IsTrue result ↔ (All (λ r. IsGiven before.now met.now rows.now r.key) rows.now
-        × All (λ key. IsGiven before.now met.now rows.now key) keys.now) }
+    ensures { IsTrue result ↔ (All (λ r. IsGivenValue before.now met.now rows.now r.key) rows.now
+        × All (λ key. IsGivenValue before.now met.now rows.now key) keys.now) }
 {
     are_rows_given(before, met, rows) && are_given(before, met, rows, keys)
 }
@@ -94,7 +94,7 @@ fn have_points(
     requires within { All (λ x. (low ≤ x.key) × (x.key < upto)) rows.now }
     requires bounds { low ≤ upto }
     ensures { IfOk result (λ yes. IsTrue yes
-        ↔ ((key : ℕ) → HasPoint before.now during.now rows.now low upto key)) }
+        ↔ ((key : ℕ) → RowHasPoint before.now during.now rows.now low upto key)) }
 {
     if before.has_rows(rows, low, upto) {
         return Ok(true);

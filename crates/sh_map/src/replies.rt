@@ -2,7 +2,7 @@
 ghost use Rattle.std.specs.Prelude.{IsTrue, ◌↔◌, ◌≡◌, ◌≤◌, length, slice_get};
 ghost use Rattle.sh_map.specs.Map.{get};
 ghost use Rattle.sh_map.specs.Log.{map_at};
-ghost use Rattle.sh_map.specs.Book.{entry_of};
+ghost use Rattle.sh_map.specs.Book.{made_entry};
 ghost use Rattle.sh_map.specs.Judge.{AnswersAside};
 
 use crate::entries::same;
@@ -20,7 +20,7 @@ fn is_change(a: Change, b: Change) -> bool
 
 // Whether this is the entry at a place.
 fn has_entry(log: &[Entry], at: u64, seat: u32, change: Change, old: Option<Value>) -> bool
-    ensures { IsTrue result ↔ (slice_get log.now at ≡ Some (entry_of seat change old)) }
+    ensures { IsTrue result ↔ (slice_get log.now at ≡ Some (made_entry seat change old)) }
 {
     match log.get(at as usize) {
         Some(entry) => {

@@ -1,9 +1,9 @@
 // A map from keys to values, kept as a tree.
 ghost use Rattle.std.specs.Prelude.{◌≡◌, ◌<◌, ◌≤◌, ℕ, IsTrue, IfOk, OnOk, OnErr, IsSome, length, slice_get, All, Contains};
 ghost use Rattle.std.specs.FinMap.{empty};
-ghost use Rattle.sh_map.specs.Map.{get, row_of};
-ghost use Rattle.sh_map.specs.Log.{changed, key_of, map_at, map_from};
-ghost use Rattle.sh_map.specs.Tables.{given};
+ghost use Rattle.sh_map.specs.Map.{get, pair_row};
+ghost use Rattle.sh_map.specs.Log.{changed, change_key, map_at, map_from};
+ghost use Rattle.sh_map.specs.Tables.{given_value};
 
 use crate::{Change, Entry, Row};
 use sh_base::Value;
@@ -49,7 +49,7 @@ impl TreeMap {
 
     /// Makes a change, and answers what its key had before. After want of memory the map is as it was.
     pub(crate) fn apply(&mut self, change: Change) -> Result<Option<Value>, AllocError>
-        ensures before { IfOk result (λ before. before ≡ get self.old (key_of change)) }
+        ensures before { IfOk result (λ before. before ≡ get self.old (change_key change)) }
         ensures ok { OnOk result (self.new ≡ changed self.old change) }
         ensures err { OnErr result (self.new ≡ self.old) }
     {
@@ -64,7 +64,7 @@ impl TreeMap {
     /// Whether the keys of low..upto that have a value are those of the rows, with the same values.
     pub(crate) fn has_rows(&self, rows: &[Row], low: u64, upto: u64) -> bool
         requires { low ≤ upto }
-        ensures { IsTrue result → (key : ℕ) → low ≤ key → key < upto → get self.now key ≡ given rows.now key }
+        ensures { IsTrue result → (key : ℕ) → low ≤ key → key < upto → get self.now key ≡ given_value rows.now key }
     {
         let mut at = 0;
         for (key, value) in self.tree.range(low..upto) {
@@ -93,7 +93,7 @@ impl TreeMap {
 
 // Whether this is the row at a place.
 fn is_row(rows: &[Row], at: usize, key: u64, value: &Value) -> bool
-    ensures { IsTrue result → slice_get rows.now at ≡ Some (row_of key value.now) }
+    ensures { IsTrue result → slice_get rows.now at ≡ Some (pair_row key value.now) }
 {
     match rows.get(at) {
         Some(row) => row.key == key && row.value.words() == value.words(),

@@ -9,18 +9,6 @@ pub drop_front : (bytes into : List ℕ) (at n : ℕ) → take n into ≡ take n
 drop_front bytes into at n copied =
     rw (copied, take_rest, ← drop-drop n at bytes) (sym (take-append-drop n (drop at bytes)))
 
--- nothing is consumed yet
-pub consumes_none : (a : Option (List ℕ)) → Consumes a a []
-consumes_none None = tt
-consumes_none (Some xs) = refl
-
--- one read after another
-pub consumes_more : (a b c : Option (List ℕ)) (xs ys : List ℕ) → Consumes a b xs → Consumes b c ys → Consumes a c (xs ++ ys)
-consumes_more None b c xs ys p q = tt
-consumes_more (Some os) None c xs ys p q = absurd p
-consumes_more (Some os) (Some bs) None xs ys p q = absurd q
-consumes_more (Some os) (Some bs) (Some cs) xs ys p q = p ∙ ap (λ t. xs ++ t) q ∙ sym (append_assoc xs ys cs)
-
 -- nothing is appended yet
 pub appends_none : (a : Option (List ℕ)) → Appends a a []
 appends_none None = tt

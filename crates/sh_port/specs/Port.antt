@@ -7,7 +7,7 @@ abbrev pub HasRisen : ℕ → ℕ → Type 0
 HasRisen before now = (before < now) ⊎ (now ≡ 2 ^ 64 - 1)
 
 -- the count of faults never falls; it stays where the call answered Ok, and has risen where it failed
-pub record HasCause {T E : Type 0} (before now : ℕ) (result : Result T E) : Type 0 where
+pub record HasFaultCause {T E : Type 0} (before now : ℕ) (result : Result T E) : Type 0 where
   pub kept : before ≤ now
   pub ok : OnOk result (now ≡ before)
   pub failed : OnErr result (HasRisen before now)

@@ -3,8 +3,8 @@ ghost use Rattle.std.specs.Prelude.{◌≡◌, ◌≤◌, ◌<◌, ◌+◌, ◌�
 ghost use Rattle.std.specs.Vec.{vec_capacity};
 ghost use Rattle.std.specs.List.{Contains};
 ghost use Rattle.std.specs.Io.KnownBytes.{ReadConsumes, WriteAppends};
-ghost use Rattle.sh_port.specs.Port.{HasCause};
-ghost use Rattle.sh_port.specs.Lists.{FailsRead, FailsWrite, raised, read_count, read_failed, read_on, write_count, write_failed, written_on};
+ghost use Rattle.sh_port.specs.Port.{HasFaultCause};
+ghost use Rattle.sh_port.specs.Lists.{FailsRead, FailsWrite, counted_up, read_count, read_failed, read_on, write_count, write_failed, written_on};
 
 use crate::{Failed, Sink, Source};
 use std::alloc::{AllocError, Global};
@@ -24,9 +24,9 @@ pub struct ListSource {
 
 impl Model for ListSource {
     ghost use Rattle.std.specs.Prelude.{◌≤◌, ◌<◌, drop, vec_len};
-    ghost use Rattle.sh_port.specs.Lists.{Reads};
+    ghost use Rattle.sh_port.specs.Lists.{SourceReads};
 
-    ghost Value = { Reads };
+    ghost Value = { SourceReads };
 
     ghost view = { λ s. record { left = drop s.at s.bytes.items; piece = s.piece; fails = s.fails.items; calls = s.calls; faults = s.faults } };
 
@@ -81,7 +81,7 @@ impl Source for ListSource {
     fn read(&mut self, into: &mut [u8]) -> Result<usize, Failed>
         ensures bound { IfOk result (λ n. n ≤ length into.new) }
         ensures bytes { ReadConsumes (Some self.old.left) (Some self.new.left) result into.new }
-        ensures cause { HasCause self.old.faults self.new.faults result }
+        ensures cause { HasFaultCause self.old.faults self.new.faults result }
         ensures fails { IsErr result ↔ FailsRead self.old }
         ensures moves { IfOk result (λ n. n ≡ read_count self.old (length into.old)) }
         ensures moved { IfOk result (λ n. self.new ≡ read_on self.old n) }
@@ -178,7 +178,7 @@ impl Sink for ListSink {
         ensures bound { IfOk result (λ n. n ≤ length piece.now) }
         ensures progress { 0 < length piece.now → IfOk result (λ n. 0 < n) }
         ensures bytes { WriteAppends (Some self.old.held) (Some self.new.held) result piece.now }
-        ensures cause { HasCause self.old.faults self.new.faults result }
+        ensures cause { HasFaultCause self.old.faults self.new.faults result }
         ensures fails { IsErr result ↔ FailsWrite self.old piece.now }
         ensures moves { IfOk result (λ n. n ≡ write_count self.old piece.now) }
         ensures moved { IfOk result (λ n. self.new ≡ written_on self.old piece.now n) }

@@ -1,7 +1,7 @@
 // A whole input read, and a whole text written.
 ghost use Rattle.std.specs.Prelude.{◌≡◌, OnOk, OnErr, MatchResult};
 ghost use Rattle.std.specs.Io.KnownBytes.{Appends};
-ghost use Rattle.sh_port.specs.Port.{HasCause, AppendsFront};
+ghost use Rattle.sh_port.specs.Port.{HasFaultCause, AppendsFront};
 ghost use Rattle.sh_port.specs.Intake.{TookAll, StoppedBy};
 
 use crate::{Failed, Sink, Source};
@@ -51,7 +51,7 @@ pub fn read_all<S: Source>(alloc: Global, source: &mut S) -> Result<Bytes, Intak
 pub fn write_all<K: Sink>(sink: &mut K, piece: &[u8]) -> Result<(), Failed>
     ensures ok { OnOk result (Appends (K.held sink.old) (K.held sink.new) piece.now) }
     ensures err { OnErr result (AppendsFront (K.held sink.old) (K.held sink.new) piece.now) }
-    ensures cause { HasCause (K.faults sink.old) (K.faults sink.new) result }
+    ensures cause { HasFaultCause (K.faults sink.old) (K.faults sink.new) result }
 {
     let mut at = 0;
     'writes: while at < piece.len() {

@@ -1,7 +1,7 @@
 // A source and a sink that never fail.
 ghost use Rattle.std.specs.Prelude.{◌≡◌, ◌≤◌, ◌<◌, ◌+◌, ◌-◌, ◌^◌, [], drop, length, min, None, Some, IfOk};
 ghost use Rattle.std.specs.Io.KnownBytes.{ReadConsumes, WriteAppends};
-ghost use Rattle.sh_port.specs.Port.{HasCause};
+ghost use Rattle.sh_port.specs.Port.{HasFaultCause};
 
 use crate::list::copy_piece;
 use crate::{Failed, Sink, Source};
@@ -44,7 +44,7 @@ impl Source for SureSource {
     fn read(&mut self, into: &mut [u8]) -> Result<usize, Failed>
         ensures bound { IfOk result (λ n. n ≤ length into.new) }
         ensures bytes { ReadConsumes (Some self.old) (Some self.new) result into.new }
-        ensures cause { HasCause 0 0 result }
+        ensures cause { HasFaultCause 0 0 result }
         ensures moves { IfOk result (λ n. n ≡ min (length into.old) (length self.old)) }
         ensures moved { IfOk result (λ n. self.new ≡ drop n self.old) }
     {
@@ -97,7 +97,7 @@ impl Sink for SureSink {
         ensures bound { IfOk result (λ n. n ≤ length piece.now) }
         ensures progress { 0 < length piece.now → IfOk result (λ n. 0 < n) }
         ensures bytes { WriteAppends None None result piece.now }
-        ensures cause { HasCause 0 0 result }
+        ensures cause { HasFaultCause 0 0 result }
         ensures whole { IfOk result (λ n. n ≡ length piece.now) }
         ensures taken { self.new ≡ min (self.old + length piece.now) (2 ^ 64 - 1) }
     {

@@ -3,6 +3,7 @@ use Rattle.std.proofs.Common.{◌≡◌, ℕ, ◌≤◌, Bool, true, false, List
 use Rattle.std.specs.Prelude.{nat_lt, if◌then◌else◌, Option, Some, None}
 use mathlib.Core.Bool.{false≢true}
 use Rattle.std.proofs.lemmas.Bool.Decides.{nat_tests}
+use Rattle.sh_logic.proofs.Tests.{not_less_test}
 use Rattle.sh_base.specs.declared.config.ConfigParts.{ConfigParts}
 use Rattle.sh_base.specs.Setting.{node_size}
 use Rattle.sh_image.specs.declared.inner.Image.{Image}
@@ -13,11 +14,9 @@ use Rattle.sh_image.specs.Seen.{SeenBy}
 use Rattle.sh_read.specs.declared.state.Progress.TheVariants.{More}
 use Rattle.sh_read.specs.Judging.{seen_of}
 use Rattle.sh_read.specs.Reads.{Reads, accepted, answer_to, image_in, progress_with}
-use Rattle.sh_read.specs.Causes.{seen_as, AnsweredBy}
+use Rattle.sh_image.specs.Node.{seen_as}
+use Rattle.sh_read.specs.Causes.{AnsweredBy}
 use Rattle.sh_read.proofs.JudgingLemmas.{judged_by}
-
-not_less_test : (a b : ℕ) → b ≤ a → nat_lt a b ≡ false
-not_less_test a b h = grind (arith, nat_tests)
 
 module _ (p : ConfigParts) (words : List ℕ) where
   answered : (seen : Seen) → SeenBy p words seen → AnsweredBy p words (answer_to seen)

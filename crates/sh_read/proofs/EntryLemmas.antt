@@ -3,6 +3,7 @@ use Rattle.std.proofs.Common.{◌≡◌, ℕ, zero, suc, ◌+◌, ◌-◌, ◌<�
 use Rattle.std.specs.Prelude.{slice_index}
 use Rattle.std.specs.List.{AllByRecursion}
 use Rattle.std.proofs.lemmas.List.{ext_get_or, get_or-drop, get_or-take, length-take}
+use Rattle.sh_logic.proofs.Lists.{all_at}
 use Rattle.sh_base.specs.declared.config.ConfigParts.{ConfigParts}
 use Rattle.sh_base.specs.Setting.{entry_size, node_size}
 use Rattle.sh_base.specs.Layout.{entry_at, entry_rear_at}
@@ -13,12 +14,7 @@ use Rattle.sh_image.proofs.EntriesLemmas.{length-entries_in}
 use Rattle.sh_image.proofs.LeafLemmas.{length-leaf_words, spelled_one, values_of}
 use Rattle.sh_image.proofs.ReadLemmas.{entry_read}
 use Rattle.sh_read.specs.Moments.{Writing}
-use Rattle.sh_read.specs.Reading.{IsIn, IsCalm, IsLeafNode, StoodIn, StoodWith, entry_of, FitsRead, IsGoodEntry}
-
-all_at : {X : Type 0} (P : X → Type 0) (xs : List X) (i : ℕ) (d : X) → AllByRecursion P xs → i < length xs → P (get_or xs i d)
-all_at P [] i d h below = absurd (omega arith)
-all_at P (x ∷ xs) zero d h below = h.0
-all_at P (x ∷ xs) (suc i) d h below = all_at P xs i d h.1 (omega arith)
+use Rattle.sh_read.specs.Reading.{IsEntryWord, IsCalm, IsLeafNode, StoodIn, StoodWith, read_entry, FitsRead, IsGoodEntry}
 
 module _ (p : ConfigParts) where
   -- the words of a value
@@ -29,7 +25,7 @@ module _ (p : ConfigParts) where
       let few : k < p.value_words = omega (arith, below, length-take p.value_words (drop at xs)) in
       get_or-take p.value_words (drop at xs) k 0 few ∙ get_or-drop at xs k 0 ∙ each k few ∙ sym (get_or-take p.value_words (drop at ys) k 0 few ∙ get_or-drop at ys k 0))
 
-  same_entry : (xs ys : List ℕ) (i : ℕ) → i < p.leaf → length xs ≡ length ys → ((o : ℕ) → IsIn p i o → get_or xs o 0 ≡ get_or ys o 0) → entry_of p xs i ≡ entry_of p ys i
+  same_entry : (xs ys : List ℕ) (i : ℕ) → i < p.leaf → length xs ≡ length ys → ((o : ℕ) → IsEntryWord p i o → get_or xs o 0 ≡ get_or ys o 0) → read_entry p xs i ≡ read_entry p ys i
   same_entry xs ys i below long each =
       let word = λ (k : ℕ) (h : k < entry_size p). each (entry_at p i + k) (record { low = omega arith; high = omega (arith, h) }) in
       let front : get_or xs (entry_at p i) 0 ≡ get_or ys (entry_at p i) 0 = each (entry_at p i) (record { low = omega arith; high = omega (arith, entry_size_is p) }) in
@@ -41,7 +37,7 @@ module _ (p : ConfigParts) where
   length_leaf ws leaf = ap length leaf.1.words ∙ length-leaf_words p leaf.0 leaf.1.lawful.count (values_of p leaf.0.low leaf.0.high leaf.0.entries leaf.1.lawful.entries)
 
   -- an entry of a leaf that stands
-  leaf_rules : (ws : List ℕ) (i : ℕ) → i < p.leaf → IsLeafNode p ws → IsEntry p (slice_index ws 2) (slice_index ws 3) (entry_of p ws i)
+  leaf_rules : (ws : List ℕ) (i : ℕ) → i < p.leaf → IsLeafNode p ws → IsEntry p (slice_index ws 2) (slice_index ws 3) (read_entry p ws i)
   leaf_rules ws i below leaf =
       let is : leaf.0 ≡ leaf_in p ws = sym (spelled_one p ws leaf.0 leaf.1) in
       let rules = subst (λ (a : Leaf). AllByRecursion (IsEntry p a.low a.high) a.entries) is leaf.1.lawful.entries in
@@ -52,10 +48,10 @@ module _ (p : ConfigParts) where
       let seen = r.whole refl calm i below low agree in
       let leaf = leaves seen.0 seen.1.0 in
       let same = same_entry got seen.0 i below (r.long ∙ sym (length_leaf seen.0 leaf)) seen.2 in
-      let rules : IsEntry p (slice_index seen.0 2) (slice_index seen.0 3) (entry_of p got i) = subst (IsEntry p (slice_index seen.0 2) (slice_index seen.0 3)) (sym same) (leaf_rules seen.0 i below leaf) in
+      let rules : IsEntry p (slice_index seen.0 2) (slice_index seen.0 3) (read_entry p got i) = subst (IsEntry p (slice_index seen.0 2) (slice_index seen.0 3)) (sym same) (leaf_rules seen.0 i below leaf) in
       record {
         node = seen.0;
         before = seen.1;
         same = same;
-        rules = subst (λ (h : ℕ). IsEntry p (slice_index s 2) h (entry_of p got i)) (seen.1.1 3 (omega arith)) (subst (λ (l : ℕ). IsEntry p l (slice_index seen.0 3) (entry_of p got i)) (seen.1.1 2 (omega arith)) rules);
+        rules = subst (λ (h : ℕ). IsEntry p (slice_index s 2) h (read_entry p got i)) (seen.1.1 3 (omega arith)) (subst (λ (l : ℕ). IsEntry p l (slice_index seen.0 3) (read_entry p got i)) (seen.1.1 2 (omega arith)) rules);
       }

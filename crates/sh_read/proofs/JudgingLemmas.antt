@@ -6,6 +6,8 @@ use mathlib.Core.Bool.{false≢true}
 use Rattle.std.proofs.lemmas.Bool.{cases_eq, cases_lt}
 use Rattle.std.proofs.lemmas.Bool.Decides.{nat_tests}
 use Rattle.std.proofs.lemmas.List.{length-drop, length-take-le}
+use Rattle.sh_logic.proofs.Options.{some_none}
+use Rattle.sh_logic.proofs.Tests.{less_test, at_most_test, same_test, differ_test, and_true, true_and}
 use Rattle.sh_base.proofs.LayoutLemmas.{node_size_is}
 use Rattle.sh_base.specs.declared.config.ConfigParts.{ConfigParts}
 use Rattle.sh_base.specs.Setting.{nodes, node_size, last_version, last_entry_version}
@@ -23,32 +25,13 @@ use Rattle.sh_image.proofs.ReadLemmas.{words_from_untorn, entries_in_have_words,
 use Rattle.sh_image.proofs.UntornLemmas.{seen_spelled, seen_inner}
 use Rattle.sh_read.specs.Judging.{are_zeros, fits_end, fits_entry, fit_entries, fits_leaf, fit_pairs, begins_at, fits_inner, first_torn, leaf_seen, has_zeros_behind, inner_seen, untorn_seen, seen_of}
 
-less_test : (a b : ℕ) → a < b → nat_lt a b ≡ true
-less_test a b h = grind (arith, nat_tests)
-
-at_most_test : (a b : ℕ) → a ≤ b → nat_le a b ≡ true
-at_most_test a b h = grind (arith, nat_tests)
-
-same_test : (a b : ℕ) → a ≡ b → (a == b) ≡ true
-same_test a b h = grind (arith, nat_tests)
-
-differs_test : (a b : ℕ) → a ≢ b → (a == b) ≡ false
-differs_test a b h = grind (arith, nat_tests)
-
-both : (a b : Bool) → (a && b) ≡ true → (a ≡ true) × (b ≡ true)
-both true b h = (refl, h)
-both false b h = absurd (false≢true h)
-
-both_test : (a b : Bool) → a ≡ true → b ≡ true → (a && b) ≡ true
-both_test a b h k = rw (h, k) refl
-
 -- words that are all 0
 zeros_tested : (ws : List ℕ) (n : ℕ) → length ws ≡ n → are_zeros ws ≡ true → ws ≡ replicate n 0
 zeros_tested [] zero long h = refl
 zeros_tested [] (suc n) long h = absurd (omega arith)
 zeros_tested (w ∷ ws) zero long h = absurd (omega arith)
 zeros_tested (w ∷ ws) (suc n) long h =
-    let parts = both (w == 0) (are_zeros ws) h in
+    let parts = and_true (w == 0) (are_zeros ws) h in
     let first : w ≡ 0 = grind (arith, nat_tests, parts) in
     λ i. first i ∷ zeros_tested ws n (omega arith) parts.1 i
 
@@ -58,25 +41,25 @@ zeros_test (suc n) = zeros_test n
 
 module _ (p : ConfigParts) where
   entry_tested : (low high : ℕ) (e : LeafEntry) → length e.value ≡ p.value_words → fits_entry p low high e ≡ true → IsEntry p low high e
-  entry_tested low high e long h = by (e.key == 0) refl (both (nat_le e.version last_entry_version) _ h)
+  entry_tested low high e long h = by (e.key == 0) refl (and_true (nat_le e.version last_entry_version) _ h)
     where
       by : (b : Bool) → (e.key == 0) ≡ b → (nat_le e.version last_entry_version ≡ true) × ((if e.key == 0 then are_zeros e.value else (nat_le low e.key && nat_lt e.key high)) ≡ true) → IsEntry p low high e
       by true is parts = record { value = long; version = grind (arith, nat_tests, parts); within = inl (grind (arith, nat_tests, is), zeros_tested e.value p.value_words long (rw is at parts.1)) }
       by false is parts = record { value = long; version = grind (arith, nat_tests, parts); within = inr (grind (arith, nat_tests, is, parts)) }
 
   entry_test : (low high : ℕ) (e : LeafEntry) → IsEntry p low high e → fits_entry p low high e ≡ true
-  entry_test low high e h = both_test _ _ (at_most_test _ _ h.version) (elim h.within [
+  entry_test low high e h = true_and _ _ (at_most_test _ _ h.version) (elim h.within [
     | inl empty ↦ rw (same_test e.key 0 empty.0) (ap are_zeros empty.1 ∙ zeros_test p.value_words)
-    | inr keyed ↦ rw (differs_test e.key 0 (λ e. omega (arith, keyed.1))) (both_test _ _ (at_most_test _ _ keyed.0) (less_test _ _ keyed.2))
+    | inr keyed ↦ rw (differ_test e.key 0 (λ e. omega (arith, keyed.1))) (true_and _ _ (at_most_test _ _ keyed.0) (less_test _ _ keyed.2))
   ])
 
   entries_tested : (low high : ℕ) (es : List LeafEntry) → HaveWords p es → fit_entries p low high es ≡ true → AllByRecursion (IsEntry p low high) es
   entries_tested low high [] long h = tt
-  entries_tested low high (e ∷ es) long h = let parts = both (fits_entry p low high e) _ h in (entry_tested low high e long.0 parts.0, entries_tested low high es long.1 parts.1)
+  entries_tested low high (e ∷ es) long h = let parts = and_true (fits_entry p low high e) _ h in (entry_tested low high e long.0 parts.0, entries_tested low high es long.1 parts.1)
 
   entries_test : (low high : ℕ) (es : List LeafEntry) → AllByRecursion (IsEntry p low high) es → fit_entries p low high es ≡ true
   entries_test low high [] h = refl
-  entries_test low high (e ∷ es) h = both_test _ _ (entry_test low high e h.0) (entries_test low high es h.1)
+  entries_test low high (e ∷ es) h = true_and _ _ (entry_test low high e h.0) (entries_test low high es h.1)
 
 end_tested : (next high : ℕ) → fits_end next high ≡ true → (next ≡ 0) ↔ (high ≡ 18446744073709551615)
 end_tested next high h = grind (arith, nat_tests, h)
@@ -90,10 +73,10 @@ past i = omega arith
 module _ (p : ConfigParts) where
   leaf_tested : (a : Leaf) → length a.entries ≡ p.leaf → HaveWords p a.entries → fits_leaf p a ≡ true → IsLeaf p a
   leaf_tested a count long h =
-      let one = both (nat_le a.version (last_version p)) _ h in
-      let two = both (nat_lt a.low a.high) _ one.1 in
-      let three = both (nat_le a.next (nodes p)) _ two.1 in
-      let four = both (fits_end a.next a.high) _ three.1 in
+      let one = and_true (nat_le a.version (last_version p)) _ h in
+      let two = and_true (nat_lt a.low a.high) _ one.1 in
+      let three = and_true (nat_le a.next (nodes p)) _ two.1 in
+      let four = and_true (fits_end a.next a.high) _ three.1 in
       record {
         version = grind (arith, nat_tests, one.0);
         fences = grind (arith, nat_tests, two.0);
@@ -104,15 +87,15 @@ module _ (p : ConfigParts) where
       }
 
   leaf_test : (a : Leaf) → IsLeaf p a → fits_leaf p a ≡ true
-  leaf_test a h = both_test _ _ (at_most_test _ _ h.version) (both_test _ _ (less_test _ _ h.fences) (both_test _ _ (at_most_test _ _ h.next) (both_test _ _ (end_test _ _ h.end) (entries_test p a.low a.high a.entries h.entries))))
+  leaf_test a h = true_and _ _ (at_most_test _ _ h.version) (true_and _ _ (less_test _ _ h.fences) (true_and _ _ (at_most_test _ _ h.next) (true_and _ _ (end_test _ _ h.end) (entries_test p a.low a.high a.entries h.entries))))
 
   -- of the pairs: what the test of one tells
   pair_tested : (low high : ℕ) (x : Pair) (xs : List Pair) → fit_pairs p low high (x ∷ xs) ≡ true → (low ≤ x.separator) × (x.separator < high) × HasChild p x × (fit_pairs p (x.separator + 1) high xs ≡ true)
   pair_tested low high x xs h =
-      let one = both (nat_le low x.separator) _ h in
-      let two = both (nat_lt x.separator high) _ one.1 in
-      let three = both (nat_lt 0 x.child) _ two.1 in
-      let four = both (nat_le x.child (nodes p)) _ three.1 in
+      let one = and_true (nat_le low x.separator) _ h in
+      let two = and_true (nat_lt x.separator high) _ one.1 in
+      let three = and_true (nat_lt 0 x.child) _ two.1 in
+      let four = and_true (nat_le x.child (nodes p)) _ three.1 in
       (grind (arith, nat_tests, one.0), grind (arith, nat_tests, two.0), (grind (arith, nat_tests, three.0), grind (arith, nat_tests, four.0)), four.1)
 
   rise_tested : (low high : ℕ) (xs : List Pair) → fit_pairs p low high xs ≡ true → (i : ℕ) → i + 1 < length xs → separator_at xs i < separator_at xs (i + 1)
@@ -133,7 +116,7 @@ module _ (p : ConfigParts) where
   pairs_test : (low high : ℕ) (xs : List Pair) → (0 < length xs → low ≤ separator_at xs 0) → ((i : ℕ) → i + 1 < length xs → separator_at xs i < separator_at xs (i + 1)) → ((i : ℕ) → i < length xs → separator_at xs i < high) → AllByRecursion (HasChild p) xs → fit_pairs p low high xs ≡ true
   pairs_test low high [] begin rise below children = refl
   pairs_test low high (x ∷ xs) begin rise below children =
-      both_test _ _ (at_most_test _ _ (begin (omega arith))) (both_test _ _ (less_test _ _ (below 0 (omega arith))) (both_test _ _ (less_test 0 _ children.0.0) (both_test _ _ (at_most_test _ _ children.0.1) (pairs_test (x.separator + 1) high xs (next xs rise) (λ i h. subst (λ n. separator_at (x ∷ xs) (suc i) < separator_at (x ∷ xs) n) (past i) (rise (suc i) (omega arith))) (λ i h. below (suc i) (omega arith)) children.1))))
+      true_and _ _ (at_most_test _ _ (begin (omega arith))) (true_and _ _ (less_test _ _ (below 0 (omega arith))) (true_and _ _ (less_test 0 _ children.0.0) (true_and _ _ (at_most_test _ _ children.0.1) (pairs_test (x.separator + 1) high xs (next xs rise) (λ i h. subst (λ n. separator_at (x ∷ xs) (suc i) < separator_at (x ∷ xs) n) (past i) (rise (suc i) (omega arith))) (λ i h. below (suc i) (omega arith)) children.1))))
     where
       next : (ys : List Pair) → ((i : ℕ) → i + 1 < length (x ∷ ys) → separator_at (x ∷ ys) i < separator_at (x ∷ ys) (i + 1)) → 0 < length ys → x.separator + 1 ≤ separator_at ys 0
       next ys up some = omega (arith, up 0 (omega arith))
@@ -148,13 +131,13 @@ module _ (p : ConfigParts) where
 
   inner_tested : (a : Inner) → length a.pairs ≤ 2 * p.leaf → fits_inner p a ≡ true → IsInner p a
   inner_tested a few h =
-      let one = both (nat_le a.version (last_version p)) _ h in
-      let two = both (nat_lt 0 a.level) _ one.1 in
-      let three = both (nat_lt a.level (nodes p)) _ two.1 in
-      let four = both (nat_lt a.low a.high) _ three.1 in
-      let five = both (nat_le a.next (nodes p)) _ four.1 in
-      let six = both (fits_end a.next a.high) _ five.1 in
-      let seven = both (begins_at a.low a.pairs) _ six.1 in
+      let one = and_true (nat_le a.version (last_version p)) _ h in
+      let two = and_true (nat_lt 0 a.level) _ one.1 in
+      let three = and_true (nat_lt a.level (nodes p)) _ two.1 in
+      let four = and_true (nat_lt a.low a.high) _ three.1 in
+      let five = and_true (nat_le a.next (nodes p)) _ four.1 in
+      let six = and_true (fits_end a.next a.high) _ five.1 in
+      let seven = and_true (begins_at a.low a.pairs) _ six.1 in
       let begin = begins_tested a.low a.pairs seven.0 in
       record {
         version = grind (arith, nat_tests, one.0);
@@ -170,19 +153,12 @@ module _ (p : ConfigParts) where
   inner_test : (a : Inner) → IsInner p a → fits_inner p a ≡ true
   inner_test a h =
       let pairs = pairs_test a.low a.high a.pairs (λ some. omega (arith, h.separators.first)) h.separators.rise h.separators.below h.children in
-      both_test _ _ (at_most_test _ _ h.version) (both_test _ _ (less_test 0 _ h.level.0) (both_test _ _ (less_test _ _ h.level.1) (both_test _ _ (less_test _ _ h.fences) (both_test _ _ (at_most_test _ _ h.next) (both_test _ _ (end_test _ _ h.end) (both_test _ _ (begins_test a.low a.pairs h.separators.first h.count.0) pairs))))))
+      true_and _ _ (at_most_test _ _ h.version) (true_and _ _ (less_test 0 _ h.level.0) (true_and _ _ (less_test _ _ h.level.1) (true_and _ _ (less_test _ _ h.fences) (true_and _ _ (at_most_test _ _ h.next) (true_and _ _ (end_test _ _ h.end) (true_and _ _ (begins_test a.low a.pairs h.separators.first h.count.0) pairs))))))
 
 -- a choice has what each side has
 chosen : (P : Seen → Type 0) (b : Bool) (x y : Seen) → (b ≡ true → P x) → (b ≡ false → P y) → P (if b then x else y)
 chosen P true x y f g = f refl
 chosen P false x y f g = g refl
-
-abbrev is_there : Option ℕ → Bool
-is_there None = false
-is_there (Some n) = true
-
-some_not_none : (n : ℕ) → Some n ≡ None → ⊥
-some_not_none n h = false≢true (sym (ap is_there h))
 
 abbrev given : Option ℕ → ℕ
 given None = 0
@@ -198,7 +174,7 @@ module _ (p : ConfigParts) (ws : List ℕ) where
         | inl is ↦ subst (λ n. entry_front p ws n ≡ entry_rear p ws n) is (grind (arith, nat_tests, e))
         | inr other ↦ more (rw e at h) (omega arith) (omega arith)
       ]
-      by false e more = absurd (some_not_none i (rw e at h))
+      by false e more = absurd (some_none (rw e at h))
 
   -- the first one whose versions differ, of those from i on
   record IsTornFrom (i k at : ℕ) : Type 0 where
@@ -208,7 +184,7 @@ module _ (p : ConfigParts) (ws : List ℕ) where
     differ : entry_front p ws at ≢ entry_rear p ws at
 
   torn_some : (i k at : ℕ) → first_torn p ws i k ≡ Some at → IsTornFrom i k at
-  torn_some i zero at h = absurd (some_not_none at (sym h))
+  torn_some i zero at h = absurd (some_none (sym h))
   torn_some i (suc k) at h = by (entry_front p ws i == entry_rear p ws i) refl (torn_some (i + 1) k at)
     where
       by : (b : Bool) → (entry_front p ws i == entry_rear p ws i) ≡ b → (first_torn p ws (i + 1) k ≡ Some at → IsTornFrom (i + 1) k at) → IsTornFrom i (suc k) at
@@ -247,14 +223,14 @@ module _ (p : ConfigParts) (ws : List ℕ) where
         let whole : HasWholeEntries p ws = λ i h. torn_none 0 p.leaf found i (omega arith) (omega arith) in
         chosen (SeenBy p ws) ((slice_index ws 5 == 0) && fits_leaf p (leaf_in p ws)) (LeafSeen (leaf_in p ws)) Odd
         (λ t.
-        let parts = both (slice_index ws 5 == 0) _ t in
+        let parts = and_true (slice_index ws 5 == 0) _ t in
         record {
           words = sym (words_from_untorn p ws long level (grind (arith, nat_tests, parts.0)) rear whole);
           lawful = leaf_tested p (leaf_in p ws) (length-entries_in p.value_words p.leaf (drop 6 ws)) (entries_in_have_words p ws long) parts.1;
         })
         (λ f. (
           record { node = sym rear; entries = λ leaf. whole },
-          λ a s. false≢true (sym f ∙ both_test _ _ (same_test _ 0 (header_spelled p ws a s).1) (leaf_test p (leaf_in p ws) (subst (IsLeaf p) (sym (spelled_one p ws a s)) s.lawful))),
+          λ a s. false≢true (sym f ∙ true_and _ _ (same_test _ 0 (header_spelled p ws a s).1) (leaf_test p (leaf_in p ws) (subst (IsLeaf p) (sym (spelled_one p ws a s)) s.lawful))),
           λ a s. absurd (omega (arith, level, (inner_spelled p ws a s).3)),
         ))
 
@@ -265,8 +241,8 @@ module _ (p : ConfigParts) (ws : List ℕ) where
     inner_judged level =
         chosen (SeenBy p ws) (has_zeros_behind p ws (slice_index ws 5) && fits_inner p (inner_in ws)) (InnerSeen (inner_in ws)) Odd
         (λ t.
-        let parts = both (has_zeros_behind p ws (slice_index ws 5)) _ t in
-        let zeros = both (nat_le (slice_index ws 5) (2 * p.leaf)) _ parts.0 in
+        let parts = and_true (has_zeros_behind p ws (slice_index ws 5)) _ t in
+        let zeros = and_true (nat_le (slice_index ws 5) (2 * p.leaf)) _ parts.0 in
         let few : slice_index ws 5 ≤ 2 * p.leaf = grind (arith, nat_tests, zeros.0) in
         let lawful = inner_tested p (inner_in ws) (omega (arith, few, length-pairs_in (slice_index ws 5) (drop 6 ws))) parts.1 in
         inner_passed p ws (inner_in ws) some long rear few (zeros_are (slice_index ws 5) zeros.1) (refl, lawful.children) lawful)
@@ -275,7 +251,7 @@ module _ (p : ConfigParts) (ws : List ℕ) where
           λ a s. level (header_spelled p ws a s).0,
           λ a s.
               let said = inner_spelled p ws a s in
-              false≢true (sym f ∙ both_test _ _ (both_test _ _ (at_most_test _ _ said.2) (ap are_zeros (zeros_spelled p ws a s) ∙ zeros_test (words_behind p (slice_index ws 5)))) (inner_test p (inner_in ws) said.0)),
+              false≢true (sym f ∙ true_and _ _ (true_and _ _ (at_most_test _ _ said.2) (ap are_zeros (zeros_spelled p ws a s) ∙ zeros_test (words_behind p (slice_index ws 5)))) (inner_test p (inner_in ws) said.0)),
         ))
 
   -- what the tests answer is answered by its cause

@@ -3,6 +3,7 @@ use Rattle.std.proofs.Common.{◌≡◌, ◌≢◌, ℕ, zero, suc, ◌+◌, ◌
 use Rattle.std.specs.Prelude.{nat_lt, slice_index, Some, None}
 use Rattle.std.proofs.lemmas.Bool.Decides.{nat_tests}
 use Rattle.std.proofs.lemmas.List.{drop_all, get_or-take, length-set, length-take-le}
+use Rattle.sh_logic.proofs.Tests.{less_test, not_less_test}
 use Rattle.sh_base.specs.declared.config.ConfigParts.{ConfigParts}
 use Rattle.sh_base.specs.Setting.{node_size, IsNode, IsSetting}
 use Rattle.sh_base.specs.Layout.{node_word}
@@ -17,15 +18,9 @@ use Rattle.sh_image.specs.Node.{seen_with}
 use Rattle.sh_read.specs.declared.state.Progress.{Progress}
 use Rattle.sh_read.specs.declared.state.Progress.TheVariants.{More, Accepted, Again, Odd}
 use Rattle.sh_read.specs.Judging.{seen_of}
-use Rattle.sh_read.specs.Reads.{reads_with, answer_to, fed_by, image_in, left_by, progress_of, wanted}
-use Rattle.sh_read.specs.Kept.{answer_of, image_at, loaded_in, left_after, reader_of, IsKept, Keeps}
-use Rattle.sh_read.specs.Loads.{IsLoad}
-
-less_test : (a b : ℕ) → a < b → nat_lt a b ≡ true
-less_test a b h = grind (arith, nat_tests)
-
-not_less_test : (a b : ℕ) → b ≤ a → nat_lt a b ≡ false
-not_less_test a b h = grind (arith, nat_tests)
+use Rattle.sh_read.specs.Reads.{reads_with, answer_to, read_fed, image_in, reads_left, progress_of, wanted}
+use Rattle.sh_read.specs.Kept.{kept_answer, image_at, loaded_in, left_after, reader_of, IsKeptRead, KeepsImage}
+use Rattle.sh_read.specs.Loads.{IsInside, IsNext}
 
 -- the words behind a word that is set
 set_front : (xs : List ℕ) (k w : ℕ) → k < length xs → drop k (set xs k w) ≡ w ∷ drop (suc k) xs
@@ -73,7 +68,7 @@ module _ (p : ConfigParts) (setting : IsSetting p) where
       length_fed : length (word ∷ loaded_in p left words) ≡ suc (node_size p - left)
       length_fed = ap suc length_loaded
 
-      pub fed_more : 0 < left - 1 → reader_of p node (left - 1) (set words (left - 1) word) ≡ record { setting = p; reads = fed_by p (reads_with node (loaded_in p left words)) word }
+      pub fed_more : 0 < left - 1 → reader_of p node (left - 1) (set words (left - 1) word) ≡ record { setting = p; reads = read_fed p (reads_with node (loaded_in p left words)) word }
       fed_more more =
           let test : nat_lt (length (word ∷ loaded_in p left words)) (node_size p) ≡ true = ap (λ n. nat_lt n (node_size p)) length_fed ∙ less_test _ _ (omega (arith, some, within, more)) in
           rw (loaded_more word some, test) refl
@@ -92,23 +87,26 @@ module _ (p : ConfigParts) (setting : IsSetting p) where
       pub answers_last : (seen : Seen) → left - 1 ≡ 0 → seen ≡ seen_of p (take (node_size p) (set words (left - 1) word)) → answer_to seen ≡ progress_of p (reads_with node (loaded_in p left words)) word
       answers_last seen last is = rw (full last) (ap answer_to (is ∙ ap (seen_of p) (all_is last)))
 
--- a word is loaded that isn't the last one
-pub loads_more : (p : ConfigParts) (setting : IsSetting p) (left : ℕ) (words : List ℕ) (room : length words ≡ 711) (within : left ≤ node_size p) (node : ℕ) (here : IsNode p node) (memory : List ℕ) (at word : ℕ) → 1 < left → at ≡ node_word p node + (left - 1) → word ≡ slice_index memory at → IsLoad memory (reader_of p node left words) (reader_of p node (left - 1) (set words (left - 1) word)) (record { at = at; word = word })
-loads_more p setting left words room within node here memory at word more at_is word_is =
-    let high = node_word_high p node here in
-    let some : 1 ≤ left = omega (arith, more) in
-    let again : 0 < left - 1 = omega (arith, more) in
-    let fits : left - 1 ≤ node_size p = omega (arith, within) in
-    let l = length_loaded p setting left words room within in
-    record {
-      at = sym (wants p setting left words room within node (omega (arith, more))) ∙ ap Some (sym at_is);
-      within = omega (arith, at_is, high, within, more);
-      word = word_is;
-      fed = fed_more p setting left words room within node word some again;
-      answer = sym (answers_more p setting left words room within node word some again);
-      more = λ none. absurd (omega_some (sym none ∙ sym (wants p setting (left - 1) (set words (left - 1) word) (length-set words (left - 1) word ∙ room) fits node again)));
-      left = omega (arith, l, more, within);
-    }
+-- a word is wanted that isn't the last one
+pub next_is : (p : ConfigParts) (setting : IsSetting p) (left : ℕ) (words : List ℕ) (room : length words ≡ 711) (within : left ≤ node_size p) (node : ℕ) (here : IsNode p node) (at : ℕ) → 1 < left → at ≡ node_word p node + (left - 1) → IsNext (reader_of p node left words) at
+next_is p setting left words room within node here at more at_is = record {
+  here = sym (wants p setting left words room within node (omega (arith, more))) ∙ ap Some (sym at_is);
+  within = omega (arith, at_is, node_word_high p node here, within, more);
+  left = omega (arith, length_loaded p setting left words room within, more, within);
+}
+
+-- such a word is taken
+pub inside_is : (p : ConfigParts) (setting : IsSetting p) (left : ℕ) (words : List ℕ) (room : length words ≡ 711) (within : left ≤ node_size p) (node word : ℕ) → length (loaded_in p left words) + 1 < node_size p → (1 < left) × IsInside (reader_of p node left words) (reader_of p node (left - 1) (set words (left - 1) word)) word
+inside_is p setting left words room within node word inside =
+    let more : 1 < left = omega (arith, inside, length_loaded p setting left words room within) in
+    let again : 0 < left - 1 = omega (arith, more) in (
+      more,
+      record {
+        fed = fed_more p setting left words room within node word (omega (arith, more)) again;
+        answer = sym (answers_more p setting left words room within node word (omega (arith, more)) again);
+        more = λ none. absurd (omega_some (sym none ∙ sym (wants p setting (left - 1) (set words (left - 1) word) (length-set words (left - 1) word ∙ room) (omega (arith, within)) node again)));
+      },
+    )
   where
     omega_some : {x : ℕ} → None ≡ Some x → ⊥
     omega_some e = cc
@@ -125,7 +123,7 @@ module _ (p : ConfigParts) (setting : IsSetting p) (node : ℕ) (words : List �
   none_words = drop_all (node_size p) (take (node_size p) words) (omega (arith, all_words))
 
   -- the READ that a reader's answer leaves
-  ended : (seen : Seen) → reads_with node (loaded_in p (left_after (answer_to seen) (node_size p)) words) ≡ left_by seen (reads_with node (take (node_size p) words))
+  ended : (seen : Seen) → reads_with node (loaded_in p (left_after (answer_to seen) (node_size p)) words) ≡ reads_left seen (reads_with node (take (node_size p) words))
   ended (LeafSeen a) = refl
   ended (InnerSeen a) = refl
   ended (Torn rear front) = ap (reads_with node) none_words
@@ -133,19 +131,19 @@ module _ (p : ConfigParts) (setting : IsSetting p) (node : ℕ) (words : List �
   ended OddSeen = refl
 
 module _ (p : ConfigParts) (setting : IsSetting p) (left node word : ℕ) (words : List ℕ) (room : length words ≡ 711) (within : left ≤ node_size p) (some : 1 ≤ left) where
-  pub fed_last : (seen : Seen) (after : ℕ) → left - 1 ≡ 0 → seen ≡ seen_of p (take (node_size p) (set words (left - 1) word)) → after ≡ left_after (answer_to seen) (node_size p) → reader_of p node after (set words (left - 1) word) ≡ record { setting = p; reads = fed_by p (reads_with node (loaded_in p left words)) word }
+  pub fed_last : (seen : Seen) (after : ℕ) → left - 1 ≡ 0 → seen ≡ seen_of p (take (node_size p) (set words (left - 1) word)) → after ≡ left_after (answer_to seen) (node_size p) → reader_of p node after (set words (left - 1) word) ≡ record { setting = p; reads = read_fed p (reads_with node (loaded_in p left words)) word }
   fed_last seen after last is after_is =
       let all = all_is p setting left words room within node word some last in
-      let step : reads_with node (loaded_in p after (set words (left - 1) word)) ≡ fed_by p (reads_with node (loaded_in p left words)) word =
+      let step : reads_with node (loaded_in p after (set words (left - 1) word)) ≡ read_fed p (reads_with node (loaded_in p left words)) word =
       ap (λ n. reads_with node (loaded_in p n (set words (left - 1) word))) after_is
       ∙ ended p setting node (set words (left - 1) word) (length-set words (left - 1) word ∙ room) seen
-      ∙ (λ i. left_by ((is ∙ ap (seen_of p) all) i) (reads_with node (all i)))
+      ∙ (λ i. reads_left ((is ∙ ap (seen_of p) all) i) (reads_with node (all i)))
       ∙ sym (rw (full p setting left words room within node word some last) refl) in
       λ i. record { setting = p; reads = step i }
 
 module _ (p : ConfigParts) (setting : IsSetting p) (node first : ℕ) (words : List ℕ) (leaf inner : Image) (here : IsNode p node) (address : first ≡ node_word p node) (room : length words ≡ 711) where
   -- some words are left to load
-  pub kept_under_way : (left : ℕ) → left ≤ node_size p → 0 < left → IsKept p node first left words leaf inner
+  pub kept_under_way : (left : ℕ) → left ≤ node_size p → 0 < left → IsKeptRead p node first left words leaf inner
   kept_under_way left within some = record {
     here = here;
     address = address;
@@ -155,11 +153,11 @@ module _ (p : ConfigParts) (setting : IsSetting p) (node first : ℕ) (words : L
   }
 
   -- nothing is loaded yet
-  pub kept_new : (left : ℕ) → left ≡ node_size p → IsKept p node first left words leaf inner
+  pub kept_new : (left : ℕ) → left ≡ node_size p → IsKeptRead p node first left words leaf inner
   kept_new left is = kept_under_way left (omega (arith, is)) (omega (arith, is, size_some p setting))
 
   -- all words were judged
-  pub kept_judged : (after : ℕ) → after ≤ node_size p → Keeps (image_in (seen_of p (take (node_size p) words))) (image_at (slice_index (take (node_size p) words) 1) leaf inner) → IsKept p node first after words leaf inner
+  pub kept_judged : (after : ℕ) → after ≤ node_size p → KeepsImage (image_in (seen_of p (take (node_size p) words))) (image_at (slice_index (take (node_size p) words) 1) leaf inner) → IsKeptRead p node first after words leaf inner
   kept_judged after within keeps = record {
     here = here;
     address = address;
@@ -180,10 +178,10 @@ left_after_within (Again rear front) size after is = omega (arith, is)
 left_after_within Odd size after is = omega (arith, is)
 
 -- what is answered to what was found, and the image that is kept, are those of what a reader sees
-pub found_seen : (found : Found) (image : Image) (seen : Seen) → seen_with found image ≡ seen → (answer_of found ≡ answer_to seen) × Keeps (image_in seen) image
-found_seen found image seen is = subst (λ (s : Seen). (answer_of found ≡ answer_to s) × Keeps (image_in s) image) is (by found image)
+pub found_seen : (found : Found) (image : Image) (seen : Seen) → seen_with found image ≡ seen → (kept_answer found ≡ answer_to seen) × KeepsImage (image_in seen) image
+found_seen found image seen is = subst (λ (s : Seen). (kept_answer found ≡ answer_to s) × KeepsImage (image_in s) image) is (by found image)
   where
-    by : (found : Found) (image : Image) → (answer_of found ≡ answer_to (seen_with found image)) × Keeps (image_in (seen_with found image)) image
+    by : (found : Found) (image : Image) → (kept_answer found ≡ answer_to (seen_with found image)) × KeepsImage (image_in (seen_with found image)) image
     by Node (Leaf a) = (refl, refl)
     by Node (Inner a) = (refl, refl)
     by (FoundTorn rear front) image = (refl, tt)

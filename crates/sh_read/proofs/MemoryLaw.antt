@@ -5,7 +5,7 @@ use Rattle.sh_base.specs.Setting.{node_size}
 use Rattle.sh_base.specs.Layout.{entry_at, rear_at, entry_rear_at}
 use Rattle.sh_base.proofs.LayoutLemmas.{entry_high, entry_within, node_size_is, rear_at_low}
 use Rattle.sh_read.specs.Moments.{}
-use Rattle.sh_read.specs.Reading.{IsHead, IsIn}
+use Rattle.sh_read.specs.Reading.{IsHead, IsEntryWord}
 use Rattle.sh_read.specs.ReadLaw.{Moment, word_at, load_at, IsHistory, HasMemoryLaw}
 use Rattle.sh_read.proofs.Law.{node_law, entry_law}
 
@@ -18,7 +18,7 @@ module _ (p : ConfigParts) (level n : ℕ) (memories : List (List ℕ)) (moments
   head_below o (inr (inl rear)) = omega (arith, node_size_is p)
   head_below o (inr (inr inner)) = omega (arith, inner.1, node_size_is p)
 
-  entry_below : (i o : ℕ) → i < p.leaf → IsIn p i o → o < node_size p
+  entry_below : (i o : ℕ) → i < p.leaf → IsEntryWord p i o → o < node_size p
   entry_below i o k at = omega (arith, at.high, entry_high p i k, node_size_is p)
 
   rear_found : (t : ℕ) → t < length memories → load_at p memories n t (rear_at p) ≡ word_at p moments t (rear_at p)

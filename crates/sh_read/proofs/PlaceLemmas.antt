@@ -2,19 +2,15 @@
 use Rattle.std.proofs.Common.{◌≡◌, ℕ, zero, suc, ◌+◌, List, [], ◌∷◌, ◌++◌, length, set, refl, sym, ap, subst, ◌∙◌, append-nil, arith}
 use Rattle.std.specs.Prelude.{replicate}
 use Rattle.std.proofs.lemmas.List.{length-replicate}
+use Rattle.sh_logic.proofs.Lists.{set_last}
 use Rattle.sh_base.specs.declared.config.ConfigParts.{ConfigParts}
 use Rattle.sh_base.specs.Setting.{node_size}
 use Rattle.sh_base.specs.Layout.{rear_at}
 use Rattle.sh_base.proofs.LayoutLemmas.{node_size_is}
-use Rattle.sh_read.specs.Moments.{Writing, word, IsMoment}
+use Rattle.sh_read.specs.Moments.{Writing, word, IsNodeMoment}
 use Rattle.sh_read.specs.Reading.{StoodIn, StoodWith, FitsRead}
 use Rattle.sh_read.specs.Reads.{in_place, left_in}
 use Rattle.sh_read.proofs.Read.{FitsRead-begin, stood-load}
-
--- a word in the last place in front
-set_last : (k x : ℕ) (loaded : List ℕ) → set (replicate (suc k) 0 ++ loaded) k x ≡ replicate k 0 ++ x ∷ loaded
-set_last zero x loaded = refl
-set_last (suc k) x loaded = ap (λ l. 0 ∷ l) (set_last k x loaded)
 
 module _ (p : ConfigParts) where
   one_more : (x at : ℕ) (loaded : List ℕ) → left_in p loaded ≡ at + 1 → set (in_place p loaded) at x ≡ in_place p (x ∷ loaded)
@@ -26,7 +22,7 @@ module _ (p : ConfigParts) where
   pub in_place-all : (loaded : List ℕ) → length loaded ≡ node_size p → in_place p loaded ≡ loaded
   in_place-all loaded all = let none : left_in p loaded ≡ 0 = omega (arith, all) in ap (λ n. replicate n 0 ++ loaded) none
 
-  module _ (level : ℕ) (stood : List (List ℕ)) (s : List ℕ) (w : Writing) (m : IsMoment p level s w) where
+  module _ (level : ℕ) (stood : List (List ℕ)) (s : List ℕ) (w : Writing) (m : IsNodeMoment p level s w) where
     pub fits_first : FitsRead p level (StoodWith stood s) s w (left_in p (word p s w (rear_at p) ∷ [])) (in_place p (word p s w (rear_at p) ∷ []))
     fits_first =
         let x = word p s w (rear_at p) in

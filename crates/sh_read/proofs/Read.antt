@@ -6,8 +6,8 @@ use Rattle.sh_base.specs.declared.config.ConfigParts.{ConfigParts}
 use Rattle.sh_base.specs.Setting.{node_size}
 use Rattle.sh_base.specs.Layout.{entry_at, rear_at, entry_rear_at}
 use Rattle.sh_base.proofs.LayoutLemmas.{entry_within, entry_size_is, node_size_is, rear_at_low}
-use Rattle.sh_read.specs.Moments.{Writing, Idle, Whole, One, word, IsWriting, IsMoment, Next, still, begin_whole, more_whole, end_whole, begin_one, more_one, end_one}
-use Rattle.sh_read.specs.Reading.{IsHead, IsIn, NotWhole, NotOne, IsCalm, FitsEntry, FitsRead, StoodIn, StoodWith}
+use Rattle.sh_read.specs.Moments.{Writing, Idle, Whole, One, word, IsWriting, IsNodeMoment, Next, still, begin_whole, more_whole, end_whole, begin_one, more_one, end_one}
+use Rattle.sh_read.specs.Reading.{IsHead, IsEntryWord, NotWhole, NotOne, IsCalm, FitsReadEntry, FitsRead, StoodIn, StoodWith}
 use Rattle.sh_read.proofs.Words.{entry_end, word_head, word_other, word_rear, word_front, word_first, rear_below, ended_head, ended_other}
 
 abbrev get_or_in : List ℕ → ℕ → ℕ
@@ -19,16 +19,16 @@ module _ (p : ConfigParts) (level : ℕ) where
   calm_before s t w v got n e c = record { none = n; same = c.same ∙ sym e }
 
   -- the entry that was written has a greater version than the one that was loaded
-  ended_here : (s t : List ℕ) (j i from : ℕ) (got new : List ℕ) (done : ℕ) → ((o : ℕ) → get_or t o 0 ≡ word p s (One j new (3 + p.value_words)) o) → j ≡ i → IsWriting p level s (One j new done) → FitsEntry p s (One j new done) from got i → FitsEntry p t Idle from got i
+  ended_here : (s t : List ℕ) (j i from : ℕ) (got new : List ℕ) (done : ℕ) → ((o : ℕ) → get_or t o 0 ≡ word p s (One j new (3 + p.value_words)) o) → j ≡ i → IsWriting p level s (One j new done) → FitsReadEntry p s (One j new done) from got i → FitsReadEntry p t Idle from got i
   ended_here s t j i from got new done ends here h f =
       let front : get_or t (entry_at p i) 0 ≡ get_or new 0 0 = ap (λ k. get_or t (entry_at p k) 0) (sym here) ∙ ends (entry_at p j) ∙ word_front p level s j new (3 + p.value_words) (omega arith) in
       let past : get_or got (entry_rear_at p i) 0 < get_or t (entry_at p i) 0 = omega (arith, f.version, front, h.1, ap (λ k. get_or s (entry_at p k) 0) here) in
       record { version = omega arith; words = λ n e. absurd (omega arith) }
 
   -- the others stand as before
-  ended_there : (s t : List ℕ) (j i from : ℕ) (got new : List ℕ) (done : ℕ) → ((o : ℕ) → get_or t o 0 ≡ word p s (One j new (3 + p.value_words)) o) → j ≢ i → FitsEntry p s (One j new done) from got i → FitsEntry p t Idle from got i
+  ended_there : (s t : List ℕ) (j i from : ℕ) (got new : List ℕ) (done : ℕ) → ((o : ℕ) → get_or t o 0 ≡ word p s (One j new (3 + p.value_words)) o) → j ≢ i → FitsReadEntry p s (One j new done) from got i → FitsReadEntry p t Idle from got i
   ended_there s t j i from got new done ends differ f =
-      let stays = λ (o : ℕ) (at : IsIn p i o). ended_other p level s i j new t o ends differ at in
+      let stays = λ (o : ℕ) (at : IsEntryWord p i o). ended_other p level s i j new t o ends differ at in
       let front = stays (entry_at p i) (record { low = omega arith; high = omega (arith, entry_size_is p) }) in
       record {
         version = omega (arith, f.version, front);
@@ -36,7 +36,7 @@ module _ (p : ConfigParts) (level : ℕ) where
       }
 
   -- ---- the events
-  pub FitsRead-next : (Was : List ℕ → Type 0) (s t : List ℕ) (w v : Writing) (from : ℕ) (got : List ℕ) → Next p s w t v → IsMoment p level s w → IsMoment p level t v → FitsRead p level Was s w from got → FitsRead p level Was t v from got
+  pub FitsRead-next : (Was : List ℕ → Type 0) (s t : List ℕ) (w v : Writing) (from : ℕ) (got : List ℕ) → Next p s w t v → IsNodeMoment p level s w → IsNodeMoment p level t v → FitsRead p level Was s w from got → FitsRead p level Was t v from got
   FitsRead-next Was s t w v from got still m m' r = r
   FitsRead-next Was s t w v from got (begin_whole e) m m' r = record {
     long = r.long;
@@ -111,7 +111,7 @@ module _ (p : ConfigParts) (level : ℕ) where
   ]
 
   -- ---- a load
-  module _ (Was : List ℕ → Type 0) (s : List ℕ) (w : Writing) (at : ℕ) (got : List ℕ) (m : IsMoment p level s w) (was : Was s) (r : FitsRead p level Was s w (at + 1) got) where
+  module _ (Was : List ℕ → Type 0) (s : List ℕ) (w : Writing) (at : ℕ) (got : List ℕ) (m : IsNodeMoment p level s w) (was : Was s) (r : FitsRead p level Was s w (at + 1) got) where
     pub x : ℕ
     x = word p s w at
 
@@ -140,14 +140,14 @@ module _ (p : ConfigParts) (level : ℕ) where
     rear_is = m.versioned.entries
 
     -- the words of an entry that is loaded in part, one word more
-    load_words : (i : ℕ) → NotWhole w → NotOne i w → ((o : ℕ) → IsIn p i o → at + 1 ≤ o → get_or got o 0 ≡ get_or s o 0) → (o : ℕ) → IsIn p i o → at ≤ o → get_or new_got o 0 ≡ get_or s o 0
+    load_words : (i : ℕ) → NotWhole w → NotOne i w → ((o : ℕ) → IsEntryWord p i o → at + 1 ≤ o → get_or got o 0 ≡ get_or s o 0) → (o : ℕ) → IsEntryWord p i o → at ≤ o → get_or new_got o 0 ≡ get_or s o 0
     unfolding x
     load_words i n k before o h above = elim (cases_eq o at) [
       | inl e ↦ ap (λ k. get_or new_got k 0) e ∙ here ∙ ap (word p s w) (sym e) ∙ word_other p level s w i o m.writing n k h
       | inr ne ↦ there o (omega arith) ∙ before o h (omega arith)
     ]
 
-    load_part : level ≡ 0 → IsCalm p s w got → (i : ℕ) → i < p.leaf → entry_at p i < at → at ≤ entry_rear_at p i → FitsEntry p s w at new_got i
+    load_part : level ≡ 0 → IsCalm p s w got → (i : ℕ) → i < p.leaf → entry_at p i < at → at ≤ entry_rear_at p i → FitsReadEntry p s w at new_got i
     unfolding x
     load_part l c i h low high = elim (cases_lt at (entry_rear_at p i)) [
       | inl before ↦
@@ -164,7 +164,7 @@ module _ (p : ConfigParts) (level : ℕ) where
     ]
 
     -- The load of an entry's front version: where it agrees with the rear one, the entry is the one that stands now.
-    pub load_front : level ≡ 0 → IsCalm p s w got → (i : ℕ) → i < p.leaf → at ≡ entry_at p i → get_or new_got (entry_rear_at p i) 0 ≡ get_or new_got (entry_at p i) 0 → (o : ℕ) → IsIn p i o → get_or new_got o 0 ≡ get_or s o 0
+    pub load_front : level ≡ 0 → IsCalm p s w got → (i : ℕ) → i < p.leaf → at ≡ entry_at p i → get_or new_got (entry_rear_at p i) 0 ≡ get_or new_got (entry_at p i) 0 → (o : ℕ) → IsEntryWord p i o → get_or new_got o 0 ≡ get_or s o 0
     unfolding x
     load_front l c i h same agree =
         let past : at < entry_rear_at p i = omega arith in
@@ -178,7 +178,7 @@ module _ (p : ConfigParts) (level : ℕ) where
           | inr greater ↦ absurd (omega (arith, f.version, greater, rear, agree, front))
         ]
 
-    load_whole : level ≡ 0 → IsCalm p s w got → (i : ℕ) → i < p.leaf → at ≤ entry_at p i → get_or new_got (entry_rear_at p i) 0 ≡ get_or new_got (entry_at p i) 0 → (b : List ℕ) × Was b × ((o : ℕ) → IsIn p i o → get_or new_got o 0 ≡ get_or b o 0)
+    load_whole : level ≡ 0 → IsCalm p s w got → (i : ℕ) → i < p.leaf → at ≤ entry_at p i → get_or new_got (entry_rear_at p i) 0 ≡ get_or new_got (entry_at p i) 0 → (b : List ℕ) × Was b × ((o : ℕ) → IsEntryWord p i o → get_or new_got o 0 ≡ get_or b o 0)
     load_whole l c i h low agree = elim (cases_lt at (entry_at p i)) [
       | inl before ↦
           let past : at < entry_rear_at p i = omega arith in
@@ -203,7 +203,7 @@ module _ (p : ConfigParts) (level : ℕ) where
         }
 
   -- the first load, of the rear version
-  pub FitsRead-begin : (Was : List ℕ → Type 0) (s : List ℕ) (w : Writing) (blank : List ℕ) → IsMoment p level s w → length blank ≡ node_size p → FitsRead p level Was s w (rear_at p) (set blank (rear_at p) (word p s w (rear_at p)))
+  pub FitsRead-begin : (Was : List ℕ → Type 0) (s : List ℕ) (w : Writing) (blank : List ℕ) → IsNodeMoment p level s w → length blank ≡ node_size p → FitsRead p level Was s w (rear_at p) (set blank (rear_at p) (word p s w (rear_at p)))
   FitsRead-begin Was s w blank m long =
       let rear : get_or (set blank (rear_at p) (word p s w (rear_at p))) (rear_at p) 0 ≡ word p s w (rear_at p) = get_or-set_same blank (rear_at p) _ 0 (omega (arith, long, node_size_is p)) in
       record {
@@ -220,7 +220,7 @@ module _ (p : ConfigParts) (level : ℕ) where
 
   -- A READ whose node versions agree when the front version is loaded: no node WRITE is under way, and what it loaded
   -- of the words that only node WRITEs store is what stands.
-  pub accepted : (Was : List ℕ → Type 0) (s : List ℕ) (w : Writing) (got : List ℕ) → IsMoment p level s w → FitsRead p level Was s w 0 got → get_or got 0 0 ≡ word p s w 0 → get_or got 0 0 ≡ get_or got (rear_at p) 0 → IsCalm p s w got
+  pub accepted : (Was : List ℕ → Type 0) (s : List ℕ) (w : Writing) (got : List ℕ) → IsNodeMoment p level s w → FitsRead p level Was s w 0 got → get_or got 0 0 ≡ word p s w 0 → get_or got 0 0 ≡ get_or got (rear_at p) 0 → IsCalm p s w got
   accepted Was s Idle got m r last agree = record { none = tt; same = sym agree ∙ last }
   accepted Was s (Whole new done) got m r last agree = absurd (omega (arith, r.version, last, agree, m.writing.1, word_first p level s new done m.writing.2))
   accepted Was s (One i new done) got m r last agree = record { none = tt; same = sym agree ∙ last ∙ word_head p level s (One i new done) 0 m.writing tt (inl (omega arith)) }
@@ -248,7 +248,7 @@ module _ (p : ConfigParts) (level : ℕ) where
   }
 
   -- the header stays while no node WRITE has stored
-  pub header_stays : (s t : List ℕ) (w v : Writing) (got : List ℕ) → Next p s w t v → IsMoment p level s w → get_or got (rear_at p) 0 ≤ get_or s 0 0 → IsCalm p t v got → (o : ℕ) → o < 6 → get_or s o 0 ≡ get_or t o 0
+  pub header_stays : (s t : List ℕ) (w v : Writing) (got : List ℕ) → Next p s w t v → IsNodeMoment p level s w → get_or got (rear_at p) 0 ≤ get_or s 0 0 → IsCalm p t v got → (o : ℕ) → o < 6 → get_or s o 0 ≡ get_or t o 0
   header_stays s t w v got still m version c o low = refl
   header_stays s t w v got (begin_whole e) m version c o low = absurd c.none
   header_stays s t w v got (more_whole e) m version c o low = absurd c.none
@@ -261,11 +261,11 @@ module _ (p : ConfigParts) (level : ℕ) where
 
   -- ---- with the header that stands now
   module _ (stood : List (List ℕ)) where
-    pub stood-next : (s t : List ℕ) (w v : Writing) (from : ℕ) (got : List ℕ) → Next p s w t v → IsMoment p level s w → IsMoment p level t v → FitsRead p level (StoodWith stood s) s w from got → FitsRead p level (StoodWith stood t) t v from got
+    pub stood-next : (s t : List ℕ) (w v : Writing) (from : ℕ) (got : List ℕ) → Next p s w t v → IsNodeMoment p level s w → IsNodeMoment p level t v → FitsRead p level (StoodWith stood s) s w from got → FitsRead p level (StoodWith stood t) t v from got
     stood-next s t w v from got next m m' r =
         FitsRead-calm (StoodWith stood s) (StoodWith stood t) t v from got (λ c b was. (was.0, λ o low. was.1 o low ∙ header_stays s t w v got next m r.version c o low)) (FitsRead-next (StoodWith stood s) s t w v from got next m m' r)
 
-    pub stood-load : (s : List ℕ) (w : Writing) (at : ℕ) (got : List ℕ) → IsMoment p level s w → StoodIn stood s → FitsRead p level (StoodWith stood s) s w (at + 1) got → FitsRead p level (StoodWith stood s) s w at (set got at (word p s w at))
+    pub stood-load : (s : List ℕ) (w : Writing) (at : ℕ) (got : List ℕ) → IsNodeMoment p level s w → StoodIn stood s → FitsRead p level (StoodWith stood s) s w (at + 1) got → FitsRead p level (StoodWith stood s) s w at (set got at (word p s w at))
     stood-load s w at got m was = FitsRead-load (StoodWith stood s) s w at got m (was, λ o low. refl)
 
     pub stood-more : (b s : List ℕ) (w : Writing) (from : ℕ) (got : List ℕ) → FitsRead p level (StoodWith stood s) s w from got → FitsRead p level (StoodWith (b ∷ stood) s) s w from got

@@ -7,8 +7,8 @@ use Rattle.sh_base.specs.declared.config.ConfigParts.{ConfigParts}
 use Rattle.sh_base.specs.Setting.{entry_size}
 use Rattle.sh_base.specs.Layout.{entry_at, rear_at, entry_rear_at}
 use Rattle.sh_base.proofs.LayoutLemmas.{entry_low, entry_apart, entry_within, entry_size_is}
-use Rattle.sh_read.specs.Moments.{Writing, Idle, Whole, One, word, IsWriting, IsMoment}
-use Rattle.sh_read.specs.Reading.{IsHead, IsIn, NotWhole, NotOne}
+use Rattle.sh_read.specs.Moments.{Writing, Idle, Whole, One, word, IsWriting, IsNodeMoment}
+use Rattle.sh_read.specs.Reading.{IsHead, IsEntryWord, NotWhole, NotOne}
 
 pub stored : (n o x y : ℕ) → o < n → cond (ltb o n) x y ≡ x
 stored n o x y h = grind (arith, nat_tests)
@@ -35,7 +35,7 @@ module _ (p : ConfigParts) (level : ℕ) (s : List ℕ) where
   word_head (One i new done) o h n (inr (inl rear)) = outside (entry_at p i) done o _ _ (inr (omega (arith, entry_within p i h.0, h.4)))
 
   -- and the words of the other entries
-  pub word_other : (w : Writing) (i o : ℕ) → IsWriting p level s w → NotWhole w → NotOne i w → IsIn p i o → word p s w o ≡ get_or s o 0
+  pub word_other : (w : Writing) (i o : ℕ) → IsWriting p level s w → NotWhole w → NotOne i w → IsEntryWord p i o → word p s w o ≡ get_or s o 0
   word_other Idle i o h n k at = refl
   word_other (Whole new done) i o h n k at = absurd n
   word_other (One j new done) i o h n k at = outside (entry_at p j) done o _ _ (elim (cases_lt i j) [
@@ -58,7 +58,7 @@ module _ (p : ConfigParts) (level : ℕ) (s : List ℕ) where
       let none : entry_at p i - entry_at p i ≡ 0 = omega arith in
       inside (entry_at p i) done (entry_at p i) _ _ (omega arith) (omega arith) ∙ ap (λ o. get_or new o 0) none
 
-  pub rear_below : (w : Writing) → IsMoment p level s w → word p s w (rear_at p) ≤ get_or s 0 0
+  pub rear_below : (w : Writing) → IsNodeMoment p level s w → word p s w (rear_at p) ≤ get_or s 0 0
   rear_below Idle m = omega (arith, m.versioned.node)
   rear_below (Whole new done) m = omega (arith, m.versioned.node, not_stored done (rear_at p) (get_or new (rear_at p) 0) (get_or s (rear_at p) 0) m.writing.3)
   rear_below (One i new done) m = omega (arith, m.versioned.node, word_head (One i new done) (rear_at p) m.writing tt (inr (inl refl)))
@@ -73,7 +73,7 @@ module _ (p : ConfigParts) (level : ℕ) (s : List ℕ) where
   ended_head i new t o h leaf same (inr (inr inner)) = absurd (inner.0 leaf)
   ended_head i new t o h leaf same (inr (inl rear)) = same o ∙ outside (entry_at p i) (3 + p.value_words) o _ _ (inr (omega (arith, entry_within p i h)))
 
-  pub ended_other : (i j : ℕ) (new t : List ℕ) (o : ℕ) → ((o : ℕ) → get_or t o 0 ≡ word p s (One j new (3 + p.value_words)) o) → j ≢ i → IsIn p i o → get_or t o 0 ≡ get_or s o 0
+  pub ended_other : (i j : ℕ) (new t : List ℕ) (o : ℕ) → ((o : ℕ) → get_or t o 0 ≡ word p s (One j new (3 + p.value_words)) o) → j ≢ i → IsEntryWord p i o → get_or t o 0 ≡ get_or s o 0
   ended_other i j new t o same differ at = same o ∙ outside (entry_at p j) (3 + p.value_words) o _ _ (elim (cases_lt i j) [
     | inl lt ↦ inl (omega (arith, entry_apart p i j lt, at.high))
     | inr ge ↦ let past : j < i = omega arith in inr (omega (arith, entry_apart p j i past, at.low, entry_size_is p))

@@ -6,13 +6,9 @@ use Rattle.sh_image.specs.declared.inner.Image.TheVariants.{Leaf as LeafImage, I
 use Rattle.sh_image.specs.declared.read.Seen.{Seen}
 use Rattle.sh_image.specs.declared.read.Seen.TheVariants.{Leaf as LeafSeen, Inner as InnerSeen, Torn, TornEntry, Odd as OddSeen}
 use Rattle.sh_image.specs.Seen.{SeenBy}
+use Rattle.sh_image.specs.Node.{seen_as}
 use Rattle.sh_read.specs.declared.state.Progress.{Progress}
 use Rattle.sh_read.specs.declared.state.Progress.TheVariants.{More, Accepted, Again, Odd}
-
--- a reader's answer to words that spell the image
-abbrev pub seen_as : Image → Seen
-seen_as (LeafImage a) = LeafSeen a
-seen_as (InnerImage a) = InnerSeen a
 
 -- The words spell a node; the node's two versions differ, or those of the first such entry; or neither.
 abbrev pub AnsweredBy : ConfigParts → List ℕ → Progress → Type 0

@@ -25,25 +25,25 @@ left_after Accepted size = 0
 left_after Odd size = 0
 
 -- what is answered to what was found in all the words
-abbrev pub answer_of : Found → Progress
-answer_of Node = Accepted
-answer_of (Torn rear front) = Again rear front
-answer_of (TornEntry index rear front) = Again rear front
-answer_of FoundOdd = Odd
+abbrev pub kept_answer : Found → Progress
+kept_answer Node = Accepted
+kept_answer (Torn rear front) = Again rear front
+kept_answer (TornEntry index rear front) = Again rear front
+kept_answer FoundOdd = Odd
 
 -- the image of a node, by its level
 abbrev pub image_at : (level : ℕ) (leaf inner : Image) → Image
 image_at level leaf inner = if level == 0 then leaf else inner
 
 -- this is the image, where there is one
-abbrev pub Keeps : Option Image → Image → Type 0
-Keeps (Some a) image = image ≡ a
-Keeps None image = Unit {0}
+abbrev pub KeepsImage : Option Image → Image → Type 0
+KeepsImage (Some a) image = image ≡ a
+KeepsImage None image = Unit {0}
 
 -- the address of the node, the room, and, where all words are loaded, the image of those that were accepted
-pub record IsKept (p : ConfigParts) (node first left : ℕ) (words : List ℕ) (leaf inner : Image) : Type 0 where
+pub record IsKeptRead (p : ConfigParts) (node first left : ℕ) (words : List ℕ) (leaf inner : Image) : Type 0 where
   pub here : IsNode p node
   pub address : first ≡ node_word p node
   pub within : left ≤ node_size p
   pub room : length words ≡ 711
-  pub found : left ≡ 0 → Keeps (accepted p (reads_with node (loaded_in p left words))) (image_at (slice_index words 1) leaf inner)
+  pub found : left ≡ 0 → KeepsImage (accepted p (reads_with node (loaded_in p left words))) (image_at (slice_index words 1) leaf inner)

@@ -28,7 +28,7 @@ IsWriting p level standing (Whole new done) = IsVersioned p level new × (slice_
 IsWriting p level standing (One i new done) = (i < p.leaf) × (slice_index standing (entry_at p i) < slice_index new 0) × (slice_index new (2 + p.value_words) ≡ slice_index new 0) × (1 ≤ done) × (done ≤ 2 + p.value_words) × (level ≡ 0)
 
 -- a node at a moment
-pub record IsMoment (p : ConfigParts) (level : ℕ) (standing : List ℕ) (w : Writing) : Type 0 where
+pub record IsNodeMoment (p : ConfigParts) (level : ℕ) (standing : List ℕ) (w : Writing) : Type 0 where
   pub versioned : IsVersioned p level standing
   pub writing : IsWriting p level standing w
 

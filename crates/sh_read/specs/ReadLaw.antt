@@ -2,8 +2,8 @@
 use Rattle.std.specs.Prelude.{◌≡◌, ℕ, ◌+◌, ◌<◌, ◌≤◌, List, [], length, slice_index, slice_index_or}
 use Rattle.sh_base.specs.declared.config.ConfigParts.{ConfigParts}
 use Rattle.sh_base.specs.Layout.{entry_at, rear_at, node_part, entry_rear_at}
-use Rattle.sh_read.specs.Moments.{Writing, Idle, word, IsMoment, Next, Agrees}
-use Rattle.sh_read.specs.Reading.{IsHead, IsIn}
+use Rattle.sh_read.specs.Moments.{Writing, Idle, word, IsNodeMoment, Next, Agrees}
+use Rattle.sh_read.specs.Reading.{IsHead, IsEntryWord}
 
 pub record Moment : Type 0 where
   pub standing : List ℕ
@@ -18,18 +18,12 @@ word_at p moments t o = let m = slice_index_or moments t nowhere in word p m.sta
 
 -- the moments follow each other by events
 pub record IsCourse (p : ConfigParts) (level : ℕ) (moments : List Moment) : Type 0 where
-  pub each : (t : ℕ) → t < length moments → IsMoment p level (slice_index_or moments t nowhere).standing (slice_index_or moments t nowhere).writing
+  pub each : (t : ℕ) → t < length moments → IsNodeMoment p level (slice_index_or moments t nowhere).standing (slice_index_or moments t nowhere).writing
   pub steps : (t : ℕ) → t + 1 < length moments → Next p (slice_index_or moments t nowhere).standing (slice_index_or moments t nowhere).writing (slice_index_or moments (t + 1) nowhere).standing (slice_index_or moments (t + 1) nowhere).writing
 
 -- the word is the same from s to t
 abbrev pub IsQuiet : ConfigParts → List Moment → ℕ → ℕ → ℕ → Type 0
 IsQuiet p moments s t o = (u : ℕ) → s ≤ u → u ≤ t → word_at p moments u o ≡ word_at p moments s o
-
--- Where the rear version at s is the front version at t, the words that only node WRITEs store are quiet between.
--- Where besides an entry's rear version at a is its front version at b, the entry is quiet between these.
-pub record HasReadLaw (p : ConfigParts) (level : ℕ) (moments : List Moment) : Type 0 where
-  pub node : (s t : ℕ) → s ≤ t → t < length moments → word_at p moments s (rear_at p) ≡ word_at p moments t 0 → (o : ℕ) → IsHead p level o → IsQuiet p moments s t o
-  pub entries : level ≡ 0 → (s a b t i : ℕ) → s ≤ a → a ≤ b → b ≤ t → t < length moments → i < p.leaf → word_at p moments s (rear_at p) ≡ word_at p moments t 0 → word_at p moments a (entry_rear_at p i) ≡ word_at p moments b (entry_at p i) → (o : ℕ) → IsIn p i o → IsQuiet p moments a b o
 
 -- the word of node n at an offset, in the memory at a moment
 abbrev pub load_at : ConfigParts → List (List ℕ) → ℕ → ℕ → ℕ → ℕ
@@ -46,4 +40,4 @@ pub record IsHistory (p : ConfigParts) (level n : ℕ) (memories : List (List �
 -- entry the rear version at a and the front version at b.
 pub record HasMemoryLaw (p : ConfigParts) (level n : ℕ) (memories : List (List ℕ)) : Type 0 where
   pub node : (s t : ℕ) → s ≤ t → t < length memories → load_at p memories n s (rear_at p) ≡ load_at p memories n t 0 → (o u : ℕ) → IsHead p level o → s ≤ u → u ≤ t → load_at p memories n u o ≡ load_at p memories n s o
-  pub entries : level ≡ 0 → (s a b t i : ℕ) → s ≤ a → a ≤ b → b ≤ t → t < length memories → i < p.leaf → load_at p memories n s (rear_at p) ≡ load_at p memories n t 0 → load_at p memories n a (entry_rear_at p i) ≡ load_at p memories n b (entry_at p i) → (o u : ℕ) → IsIn p i o → a ≤ u → u ≤ b → load_at p memories n u o ≡ load_at p memories n a o
+  pub entries : level ≡ 0 → (s a b t i : ℕ) → s ≤ a → a ≤ b → b ≤ t → t < length memories → i < p.leaf → load_at p memories n s (rear_at p) ≡ load_at p memories n t 0 → load_at p memories n a (entry_rear_at p i) ≡ load_at p memories n b (entry_at p i) → (o u : ℕ) → IsEntryWord p i o → a ≤ u → u ≤ b → load_at p memories n u o ≡ load_at p memories n a o

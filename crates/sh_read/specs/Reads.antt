@@ -25,8 +25,8 @@ pub record Reader : Type 0 where
   pub reads : Reads
 
 -- nothing is loaded yet
-abbrev pub start_of : (node : ℕ) → Reads
-start_of node = reads_with node []
+abbrev pub reads_start : (node : ℕ) → Reads
+reads_start node = reads_with node []
 
 -- the address of the word in front of those that are loaded, where there is one
 abbrev pub wanted : ConfigParts → Reads → Option ℕ
@@ -41,26 +41,26 @@ answer_to (TornEntry index rear front) = Again rear front
 answer_to OddSeen = Odd
 
 -- the READ behind that answer: words that are torn are loaded again, from the node's last one on
-abbrev pub left_by : Seen → Reads → Reads
-left_by (LeafSeen a) r = r
-left_by (InnerSeen a) r = r
-left_by (Torn rear front) r = start_of r.node
-left_by (TornEntry index rear front) r = start_of r.node
-left_by OddSeen r = r
+abbrev pub reads_left : Seen → Reads → Reads
+reads_left (LeafSeen a) r = r
+reads_left (InnerSeen a) r = r
+reads_left (Torn rear front) r = reads_start r.node
+reads_left (TornEntry index rear front) r = reads_start r.node
+reads_left OddSeen r = r
 
 -- the answer, and the READ behind it, of words that are loaded: they are judged where they are all
 abbrev pub progress_with : ConfigParts → List ℕ → Progress
 progress_with p words = if nat_lt (length words) (node_size p) then More else answer_to (seen_of p words)
 
 abbrev pub judged : ConfigParts → Reads → Reads
-judged p r = if nat_lt (length r.loaded) (node_size p) then r else left_by (seen_of p r.loaded) r
+judged p r = if nat_lt (length r.loaded) (node_size p) then r else reads_left (seen_of p r.loaded) r
 
 -- a READ is fed the word that it wanted: the answer, and the READ behind it
 abbrev pub progress_of : ConfigParts → Reads → (word : ℕ) → Progress
 progress_of p r word = progress_with p (word ∷ r.loaded)
 
-abbrev pub fed_by : ConfigParts → Reads → (word : ℕ) → Reads
-fed_by p r word = judged p (reads_with r.node (word ∷ r.loaded))
+abbrev pub read_fed : ConfigParts → Reads → (word : ℕ) → Reads
+read_fed p r word = judged p (reads_with r.node (word ∷ r.loaded))
 
 -- the image of the node whose words are loaded, where they were accepted
 abbrev pub image_in : Seen → Option Image

@@ -8,8 +8,9 @@ ghost use Rattle.sh_image.specs.declared.inner.Image.{Image};
 ghost use Rattle.sh_image.specs.declared.read.Seen.{Seen};
 ghost use Rattle.sh_read.specs.Judging.{seen_of};
 ghost use Rattle.sh_read.specs.Reads.{accepted, in_place, left_in, progress_with, Reads};
-ghost use Rattle.sh_read.specs.Causes.{seen_as, AnsweredBy};
-ghost use Rattle.sh_read.specs.Moments.{Writing, word, IsMoment, Next};
+ghost use Rattle.sh_image.specs.Node.{seen_as};
+ghost use Rattle.sh_read.specs.Causes.{AnsweredBy};
+ghost use Rattle.sh_read.specs.Moments.{Writing, word, IsNodeMoment, Next};
 ghost use Rattle.sh_read.specs.Reading.{StoodIn, StoodWith, FitsRead, IsCalm, IsLeafNode, IsGoodEntry};
 ghost use Rattle.sh_read.specs.ReadLaw.{Moment, IsHistory, HasMemoryLaw};
 
@@ -27,11 +28,11 @@ pub fn read_law(cfg: &Config)
 /// happens to the node, and by the load of the next lower word. `stood` are nodes that stood since the READ began, and
 /// more may come to it. At the last load, where the node's two versions agree, no WRITE of the node has stored since.
 pub fn reads_under_way(cfg: &Config)
-    ensures begin { (level : ℕ) (stood : List (List ℕ)) (s : List ℕ) (w : Writing) (blank : List ℕ) → IsMoment (parts_of cfg.now) level s w → length blank ≡ node_size (parts_of cfg.now) → FitsRead (parts_of cfg.now) level (StoodWith stood s) s w (rear_at (parts_of cfg.now)) (slice_set blank (rear_at (parts_of cfg.now)) (word (parts_of cfg.now) s w (rear_at (parts_of cfg.now)))) }
-    ensures event { (level : ℕ) (stood : List (List ℕ)) (s t : List ℕ) (w v : Writing) (from : ℕ) (got : List ℕ) → Next (parts_of cfg.now) s w t v → IsMoment (parts_of cfg.now) level s w → IsMoment (parts_of cfg.now) level t v → FitsRead (parts_of cfg.now) level (StoodWith stood s) s w from got → FitsRead (parts_of cfg.now) level (StoodWith stood t) t v from got }
-    ensures load { (level : ℕ) (stood : List (List ℕ)) (s : List ℕ) (w : Writing) (at : ℕ) (got : List ℕ) → IsMoment (parts_of cfg.now) level s w → StoodIn stood s → FitsRead (parts_of cfg.now) level (StoodWith stood s) s w (at + 1) got → FitsRead (parts_of cfg.now) level (StoodWith stood s) s w at (slice_set got at (word (parts_of cfg.now) s w at)) }
+    ensures begin { (level : ℕ) (stood : List (List ℕ)) (s : List ℕ) (w : Writing) (blank : List ℕ) → IsNodeMoment (parts_of cfg.now) level s w → length blank ≡ node_size (parts_of cfg.now) → FitsRead (parts_of cfg.now) level (StoodWith stood s) s w (rear_at (parts_of cfg.now)) (slice_set blank (rear_at (parts_of cfg.now)) (word (parts_of cfg.now) s w (rear_at (parts_of cfg.now)))) }
+    ensures event { (level : ℕ) (stood : List (List ℕ)) (s t : List ℕ) (w v : Writing) (from : ℕ) (got : List ℕ) → Next (parts_of cfg.now) s w t v → IsNodeMoment (parts_of cfg.now) level s w → IsNodeMoment (parts_of cfg.now) level t v → FitsRead (parts_of cfg.now) level (StoodWith stood s) s w from got → FitsRead (parts_of cfg.now) level (StoodWith stood t) t v from got }
+    ensures load { (level : ℕ) (stood : List (List ℕ)) (s : List ℕ) (w : Writing) (at : ℕ) (got : List ℕ) → IsNodeMoment (parts_of cfg.now) level s w → StoodIn stood s → FitsRead (parts_of cfg.now) level (StoodWith stood s) s w (at + 1) got → FitsRead (parts_of cfg.now) level (StoodWith stood s) s w at (slice_set got at (word (parts_of cfg.now) s w at)) }
     ensures more { (level : ℕ) (stood : List (List ℕ)) (b s : List ℕ) (w : Writing) (from : ℕ) (got : List ℕ) → FitsRead (parts_of cfg.now) level (StoodWith stood s) s w from got → FitsRead (parts_of cfg.now) level (StoodWith (b ∷ stood) s) s w from got }
-    ensures accepted { (level : ℕ) (stood : List (List ℕ)) (s : List ℕ) (w : Writing) (got : List ℕ) → IsMoment (parts_of cfg.now) level s w → FitsRead (parts_of cfg.now) level (StoodWith stood s) s w 0 got → slice_index got 0 ≡ word (parts_of cfg.now) s w 0 → slice_index got 0 ≡ slice_index got (rear_at (parts_of cfg.now)) → IsCalm (parts_of cfg.now) s w got }
+    ensures accepted { (level : ℕ) (stood : List (List ℕ)) (s : List ℕ) (w : Writing) (got : List ℕ) → IsNodeMoment (parts_of cfg.now) level s w → FitsRead (parts_of cfg.now) level (StoodWith stood s) s w 0 got → slice_index got 0 ≡ word (parts_of cfg.now) s w 0 → slice_index got 0 ≡ slice_index got (rear_at (parts_of cfg.now)) → IsCalm (parts_of cfg.now) s w got }
 {}
 
 /// An entry of a leaf that a READ under way has loaded whole, with equal versions, stood at some moment since the READ
@@ -45,8 +46,8 @@ pub fn entries_under_way(cfg: &Config)
 /// The same for the words that a READ was fed, each in its place: what it knows begins with the first word, the rear
 /// version, and each word that it's fed adds to it. When all are fed, the words are the node's.
 pub fn fed_words_fit(cfg: &Config)
-    ensures begin { (level : ℕ) (stood : List (List ℕ)) (s : List ℕ) (w : Writing) → IsMoment (parts_of cfg.now) level s w → FitsRead (parts_of cfg.now) level (StoodWith stood s) s w (left_in (parts_of cfg.now) (word (parts_of cfg.now) s w (rear_at (parts_of cfg.now)) ∷ [])) (in_place (parts_of cfg.now) (word (parts_of cfg.now) s w (rear_at (parts_of cfg.now)) ∷ [])) }
-    ensures load { (level : ℕ) (stood : List (List ℕ)) (s : List ℕ) (w : Writing) (loaded : List ℕ) (at : ℕ) → IsMoment (parts_of cfg.now) level s w → StoodIn stood s → left_in (parts_of cfg.now) loaded ≡ at + 1 → FitsRead (parts_of cfg.now) level (StoodWith stood s) s w (left_in (parts_of cfg.now) loaded) (in_place (parts_of cfg.now) loaded) → FitsRead (parts_of cfg.now) level (StoodWith stood s) s w (left_in (parts_of cfg.now) (word (parts_of cfg.now) s w at ∷ loaded)) (in_place (parts_of cfg.now) (word (parts_of cfg.now) s w at ∷ loaded)) }
+    ensures begin { (level : ℕ) (stood : List (List ℕ)) (s : List ℕ) (w : Writing) → IsNodeMoment (parts_of cfg.now) level s w → FitsRead (parts_of cfg.now) level (StoodWith stood s) s w (left_in (parts_of cfg.now) (word (parts_of cfg.now) s w (rear_at (parts_of cfg.now)) ∷ [])) (in_place (parts_of cfg.now) (word (parts_of cfg.now) s w (rear_at (parts_of cfg.now)) ∷ [])) }
+    ensures load { (level : ℕ) (stood : List (List ℕ)) (s : List ℕ) (w : Writing) (loaded : List ℕ) (at : ℕ) → IsNodeMoment (parts_of cfg.now) level s w → StoodIn stood s → left_in (parts_of cfg.now) loaded ≡ at + 1 → FitsRead (parts_of cfg.now) level (StoodWith stood s) s w (left_in (parts_of cfg.now) loaded) (in_place (parts_of cfg.now) loaded) → FitsRead (parts_of cfg.now) level (StoodWith stood s) s w (left_in (parts_of cfg.now) (word (parts_of cfg.now) s w at ∷ loaded)) (in_place (parts_of cfg.now) (word (parts_of cfg.now) s w at ∷ loaded)) }
     ensures all { (loaded : List ℕ) → length loaded ≡ node_size (parts_of cfg.now) → in_place (parts_of cfg.now) loaded ≡ loaded }
 {}
 

@@ -6,7 +6,7 @@ mod reading;
 mod state;
 
 pub use laws::{entries_under_way, fed_words_fit, judged_by_causes, read_law, reads_under_way};
-pub use state::{Loaded, Progress, Reading};
+pub use state::{Progress, Reading};
 
 #[cfg(test)]
 mod tests {

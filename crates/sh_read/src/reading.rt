@@ -1,14 +1,14 @@
 // A READ that is fed its words one at a time.
-ghost use Rattle.std.specs.Prelude.{◌≡◌, ◌≢◌, ◌<◌, ◌≤◌, IfSome, length, slice_index, None, Some};
+ghost use Rattle.std.specs.Prelude.{◌≡◌, ◌≢◌, ◌+◌, ◌<◌, ◌≤◌, IfSome, length, slice_index, None, Some};
 ghost use Rattle.sh_base.specs.Parts.{parts_of};
 ghost use Rattle.sh_base.specs.Setting.{node_size, pool_words, IsNode, IsSetting};
 ghost use Rattle.sh_read.specs.declared.state.Progress.TheVariants.{Accepted};
 ghost use Rattle.sh_read.specs.Judging.{seen_of};
-ghost use Rattle.sh_read.specs.Reads.{accepted, answer_to, fed_by, image_in, progress_of, start_of, wanted};
-ghost use Rattle.sh_read.specs.Kept.{answer_of, image_at, left_after, Keeps};
-ghost use Rattle.sh_read.specs.Loads.{HasLoaded};
+ghost use Rattle.sh_read.specs.Reads.{accepted, answer_to, read_fed, image_in, progress_of, reads_start, wanted};
+ghost use Rattle.sh_read.specs.Kept.{kept_answer, image_at, left_after, KeepsImage};
+ghost use Rattle.sh_read.specs.Loads.{HasNext, IsInside};
 
-use crate::{Loaded, Progress, Reading};
+use crate::{Progress, Reading};
 use sh_base::{Config, Value};
 use sh_image::{Found, Image, InnerImage, LeafImage, read_into};
 
@@ -16,7 +16,7 @@ impl Reading {
     /// A READ of a node, with nothing loaded. Condition: a node of this setting.
     pub fn new(cfg: &Config, node: u32) -> Reading
         requires { IsNode (parts_of cfg.now) node }
-        ensures { result ≡ record { setting = parts_of cfg.now; reads = start_of node } }
+        ensures { result ≡ record { setting = parts_of cfg.now; reads = reads_start node } }
     {
         Reading {
             cfg: *cfg,
@@ -32,7 +32,7 @@ impl Reading {
     /// Begins a READ of another node, with nothing loaded. Condition: a node of this setting.
     pub fn start(&mut self, node: u32)
         requires { IsNode self.old.setting node }
-        ensures { self.new ≡ record self.old { reads = start_of node } }
+        ensures { self.new ≡ record self.old { reads = reads_start node } }
     {
         self.node = node;
         self.first = self.cfg.node_word(node);
@@ -64,7 +64,7 @@ impl Reading {
     /// Condition: a word is wanted.
     pub fn fed(&mut self, word: u64) -> Progress
         requires { wanted self.old.setting self.old.reads ≢ None }
-        ensures reads { self.new ≡ record self.old { reads = fed_by self.old.setting self.old.reads word } }
+        ensures reads { self.new ≡ record self.old { reads = read_fed self.old.setting self.old.reads word } }
         ensures answer { result ≡ progress_of self.old.setting self.old.reads word }
         ensures image { result ≡ Accepted → accepted self.new.setting self.new.reads ≢ None }
     {
@@ -80,23 +80,29 @@ impl Reading {
         progress
     }
 
-    /// Loads the wanted word from a memory, where it isn't the last one: the READ then stands as `fed` leaves it, and the
-    /// answer would be `More`. None exactly where no more than the last word is wanted; then nothing changes. Condition:
-    /// the memory is a pool of this setting.
+    /// The address of the wanted word, where it isn't the last one. None exactly where no more than the last word is
+    /// wanted.
+    #[inline]
     #[tactic(auto, using(sh_base::proofs::LayoutLemmas::node_word_high))]
-    pub fn load(&mut self, memory: &[u64]) -> Option<Loaded>
-        requires { length memory.now ≡ pool_words self.old.setting }
-        ensures { HasLoaded memory.now self.old self.new result }
+    pub fn next_inside(&self) -> Option<u32>
+        ensures { HasNext self.now result }
     {
         if self.left <= 1 {
             return None;
         }
         let left = self.left - 1;
-        let at = self.first + left;
-        let word = memory[at as usize];
+        Some(self.first + left)
+    }
+
+    /// Takes the wanted word, as `fed` does, whose answer would be `More`. Condition: it isn't the last one.
+    #[inline]
+    pub fn fed_inside(&mut self, word: u64)
+        requires { length self.old.reads.loaded + 1 < node_size self.old.setting }
+        ensures { IsInside self.old self.new word }
+    {
+        let left = self.left - 1;
         self.words[left as usize] = word;
         self.left = left;
-        Some(Loaded { at, word })
     }
 
     /// The node is one of the setting, and no more words are loaded than it has.
@@ -144,7 +150,7 @@ fn no_inner() -> Image {
 fn judge(cfg: &Config, words: &[u64], leaf: &mut Image, inner: &mut Image) -> Progress
     requires { length words.now ≡ node_size (parts_of cfg.now) }
     ensures progress { result ≡ answer_to (seen_of (parts_of cfg.now) words.now) }
-    ensures image { Keeps (image_in (seen_of (parts_of cfg.now) words.now)) (image_at (slice_index words.now 1) leaf.new inner.new) }
+    ensures image { KeepsImage (image_in (seen_of (parts_of cfg.now) words.now)) (image_at (slice_index words.now 1) leaf.new inner.new) }
 {
     if words[1] == 0 {
         judged(cfg, words, leaf)
@@ -157,7 +163,7 @@ fn judge(cfg: &Config, words: &[u64], leaf: &mut Image, inner: &mut Image) -> Pr
 fn judged(cfg: &Config, words: &[u64], image: &mut Image) -> Progress
     requires { length words.now ≡ node_size (parts_of cfg.now) }
     ensures progress { result ≡ answer_to (seen_of (parts_of cfg.now) words.now) }
-    ensures image { Keeps (image_in (seen_of (parts_of cfg.now) words.now)) image.new }
+    ensures image { KeepsImage (image_in (seen_of (parts_of cfg.now) words.now)) image.new }
 {
     let found = read_into(cfg, words, image);
     answer(&found)
@@ -165,7 +171,7 @@ fn judged(cfg: &Config, words: &[u64], image: &mut Image) -> Progress
 
 // The answer to what was found.
 fn answer(found: &Found) -> Progress
-    ensures { result ≡ answer_of found.now }
+    ensures { result ≡ kept_answer found.now }
 {
     match *found {
         Found::Node => Progress::Accepted,

@@ -17,13 +17,6 @@ pub enum Progress {
     Odd,
 }
 
-/// A word that was loaded, and its address.
-#[derive(Clone, Copy, Debug, PartialEq, Eq)]
-pub struct Loaded {
-    pub at: u32,
-    pub word: u64,
-}
-
 /// A READ of one node under way. It has room for the 711 words of the largest node and for its image, and takes no
 /// memory.
 #[derive(Debug, Drop)]
@@ -42,11 +35,11 @@ pub struct Reading {
 
 impl Model for Reading {
     ghost use Rattle.sh_read.specs.Reads.{Reader};
-    ghost use Rattle.sh_read.specs.Kept.{reader_of, IsKept};
+    ghost use Rattle.sh_read.specs.Kept.{reader_of, IsKeptRead};
 
     ghost Value = { Reader };
 
     ghost view = { λ c. reader_of c.cfg.parts c.node c.left c.words };
 
-    ghost invariant = { λ c. IsKept c.cfg.parts c.node c.first c.left c.words c.leaf c.inner };
+    ghost invariant = { λ c. IsKeptRead c.cfg.parts c.node c.first c.left c.words c.leaf c.inner };
 }

@@ -45,12 +45,8 @@ by_end true calls place r first point = answered_same calls place r first point
 by_end false calls place r first point = refl
 
 took_same : (s : State) (seat : ℕ) (q : Place) (w : Want) → items_of (took s seat q w) ≡ items_of s
-took_same s seat q (want.Event e) = by_end _ s.calls _ _ _ _
-took_same s seat q (want.Draw lock) = by_end _ s.calls _ _ _ _
-took_same s seat q (want.Look lock) = by_end _ s.calls _ _ _ _
-took_same s seat q (want.Waiting lock) = by_end _ s.calls _ _ _ _
-took_same s seat q (want.Leave lock carry) = by_end _ s.calls _ _ _ _
 took_same s seat q want.Done = refl
+took_same s seat q w = by_end _ s.calls _ _ _ _
 
 turn_at_same : (s : State) (seat : ℕ) (o : Option Place) → items_of (turn_at s seat o) ≡ items_of s
 turn_at_same s seat None = refl

@@ -1,5 +1,6 @@
 -- All seats are idle exactly where every call has ended.
 use Rattle.std.proofs.Common.{◌≡◌, ◌≢◌, ◌≤◌, ◌<◌, ◌*◌, ℕ, zero, suc, ◌+◌, Bool, true, false, List, [], ◌∷◌, ◌++◌, length, Option, Some, None, refl, sym, ap, ◌∙◌, arith}
+use Rattle.std.proofs.lemmas.Bool.{and_parts, eqb-true}
 use Rattle.std.specs.Prelude.{◌==◌, ◌&&◌, is_some, slice_get}
 use Rattle.std.proofs.lemmas.Bool.Decides.{nat_tests}
 use Rattle.std.proofs.lemmas.Option.{slice_get_within}
@@ -16,7 +17,6 @@ use Rattle.sh_world.specs.Turning.{is_done, is_idle, is_idle_at}
 use Rattle.sh_world.specs.Running.{IsPlace, IsRunning, numbers_from}
 use Rattle.sh_replay.specs.Course.{have_ended}
 use Rattle.sh_replay.specs.Thinning.{AllIdle}
-use Rattle.sh_replay.proofs.TurnLemmas.{both_left, both_right, same_number}
 
 abbrev one : Bool → ℕ
 one true = 1
@@ -73,8 +73,8 @@ as_many : (seat n : ℕ) (calls : List Given) → have_ended calls ≡ true → 
 as_many seat n [] e = refl
 as_many seat n (g ∷ calls) e =
     let b = g.seat == seat in
-    let some = both_left (is_some g.reply) (have_ended calls) e in
-    omega (arith, ended_head g seat n (dones_from (n + 1) calls) g.reply b refl, all_head g seat n calls b refl, ap (λ t. one (t && b)) some, as_many seat (n + 1) calls (both_right (is_some g.reply) (have_ended calls) e))
+    let some = (and_parts (is_some g.reply) (have_ended calls) e).0 in
+    omega (arith, ended_head g seat n (dones_from (n + 1) calls) g.reply b refl, all_head g seat n calls b refl, ap (λ t. one (t && b)) some, as_many seat (n + 1) calls ((and_parts (is_some g.reply) (have_ended calls) e).1))
 
 by_places : (calls : List Given) → ((place : ℕ) (g : Given) → slice_get calls place ≡ Some g → is_some g.reply ≡ true) → have_ended calls ≡ true
 by_places [] each = refl
@@ -96,7 +96,7 @@ module _ (s : State) (h : IsRunning s) where
         let q = there.0 in
         let p = h.places g.seat q there.1 in
         let rests : is_idle q ≡ true = sym (ap is_idle_at there.1) ∙ idle g.seat in
-        let all = same_number q.ended (length q.numbers) (both_right (is_done (want_of q.client)) _ rests) in
+        let all = eqb-true q.ended (length q.numbers) ((and_parts (is_done (want_of q.client)) _ rests).1) in
         each_ended g.seat 1 s.calls (p.count ∙ all ∙ ap length p.numbers) place g here refl
 
   idle_place : (seat : ℕ) (q : Place) → IsPlace s.calls seat q → have_ended s.calls ≡ true → (b : Bool) → is_resting q.client ≡ b → is_idle q ≡ true
@@ -124,7 +124,7 @@ module _ (s : State) (h : IsRunning s) where
 rests_at : (s : State) (h : IsRunning s) → AllIdle s → (seat : ℕ) (q : Place) → slice_get s.seats seat ≡ Some q → (b : Bool) → is_resting q.client ≡ b → is_resting q.client ≡ true
 rests_at s h idle seat q here true rests = rests
 rests_at s h idle seat q here false rests =
-    let all = same_number q.ended (length q.numbers) (both_right (is_done (want_of q.client)) _ (sym (ap is_idle_at here) ∙ idle seat)) in
+    let all = eqb-true q.ended (length q.numbers) ((and_parts (is_done (want_of q.client)) _ (sym (ap is_idle_at here) ∙ idle seat)).1) in
     absurd (omega (arith, all, slice_get_within q.numbers q.ended q.number ((h.places seat q here).busy rests)))
 
 pub all_rest : (s : State) → IsRunning s → AllIdle s → (seat : ℕ) (a : Actor) → HasActor s.seats s.calls seat a → is_resting a.client ≡ true

@@ -8,7 +8,7 @@ use Rattle.sh_base.specs.declared.config.ConfigParts.{ConfigParts}
 use Rattle.sh_map.specs.declared.call.Call.{Call}
 use Rattle.sh_sheet.specs.declared.item.Item.{Item}
 use Rattle.sh_sheet.specs.declared.item.Item.TheVariants.{Ask, Mark, After, Turn}
-use Rattle.sh_sheet.specs.Sheet.{calls_of}
+use Rattle.sh_sheet.specs.Sheet.{item_calls}
 use Rattle.sh_world.specs.declared.state.Given.{Given}
 use Rattle.sh_world.specs.States.{Place, State}
 use Rattle.sh_world.specs.Turning.{give_at}
@@ -73,23 +73,23 @@ give_count s seat call (Some q) =
     let g : Given = record { seat = seat; call = call; reply = None; first = 0; point = 0 } in
     omega (arith, length-append s.calls (g ∷ []))
 
-given_count : (s : State) (item : Item) → length (given_by s item).calls ≤ length s.calls + calls_of item
+given_count : (s : State) (item : Item) → length (given_by s item).calls ≤ length s.calls + item_calls item
 given_count s (Ask seat call) = give_count s seat call _
 given_count s (Mark seat n) = omega arith
 given_count s (After seat n) = omega arith
 given_count s (Turn seat count) = omega arith
 
-pub given_counts : (items : List Item) (s : State) → length (fold given_by s items).calls ≤ length s.calls + sum_by calls_of items
+pub given_counts : (items : List Item) (s : State) → length (fold given_by s items).calls ≤ length s.calls + sum_by item_calls items
 given_counts [] s = omega arith
-given_counts (i ∷ is) s = omega (arith, given_count s i, given_counts is (given_by s i), sum_by-cons calls_of i is)
+given_counts (i ∷ is) s = omega (arith, given_count s i, given_counts is (given_by s i), sum_by-cons item_calls i is)
 
-sum_take : (items : List Item) (i : ℕ) → sum_by calls_of (take i items) ≤ sum_by calls_of items
+sum_take : (items : List Item) (i : ℕ) → sum_by item_calls (take i items) ≤ sum_by item_calls items
 sum_take [] zero = omega arith
 sum_take [] (suc i) = omega arith
 sum_take (x ∷ xs) zero = omega arith
-sum_take (x ∷ xs) (suc i) = omega (arith, sum_take xs i, sum_by-cons calls_of x xs, sum_by-cons calls_of x (take i xs))
+sum_take (x ∷ xs) (suc i) = omega (arith, sum_take xs i, sum_by-cons item_calls x xs, sum_by-cons item_calls x (take i xs))
 
-pub few_given : (first world : State) (items : List Item) (i : ℕ) → world ≡ fold given_by first (take i items) → first.calls ≡ [] → sum_by calls_of items ≤ 1000000 → length world.calls < 2 ^ 32 - 1
+pub few_given : (first world : State) (items : List Item) (i : ℕ) → world ≡ fold given_by first (take i items) → first.calls ≡ [] → sum_by item_calls items ≤ 1000000 → length world.calls < 2 ^ 32 - 1
 few_given first world items i so none few = omega (arith, ap (λ (t : State). length t.calls) so, given_counts (take i items) first, ap length none, sum_take items i, few)
 
 -- ---- items that are served

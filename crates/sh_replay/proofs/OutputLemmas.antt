@@ -4,6 +4,7 @@ use Rattle.std.proofs.lemmas.List.{append-nil, drop_more, length-take-le, take-a
 use Rattle.std.proofs.lemmas.List.Folds.{list_all_at, list_all_more}
 use Rattle.std.proofs.lemmas.List.Sums.{sum_by_more}
 use Rattle.std.proofs.lemmas.Option.{get_or_from_slice_get, slice_get_within}
+use Rattle.std.proofs.lemmas.Bool.{and_parts}
 use Rattle.std.specs.Prelude.{◌&&◌, if◌then◌else◌, is_some, slice_get}
 use Rattle.sh_map.specs.declared.call.Reply.{Reply}
 use Rattle.sh_map.specs.declared.book.Done.{Done}
@@ -17,7 +18,6 @@ use Rattle.sh_world.specs.States.{done_in, dones_from}
 use Rattle.sh_replay.specs.Course.{have_ended}
 use Rattle.sh_replay.specs.Output.{count_ended, ended_by, lines_from, text_with}
 use Rattle.sh_replay.specs.Served.{done_item, item_of}
-use Rattle.sh_replay.proofs.TurnLemmas.{both_left, both_right}
 
 -- a front of the first part is one of the whole
 pub front_of_first : (a b : Option (List ℕ)) (first second : List ℕ) → AppendsFront a b first → AppendsFront a b (first ++ second)
@@ -77,8 +77,8 @@ item_head n g (Some r) ds e = refl
 pub done_items : (n : ℕ) (calls : List Given) → have_ended calls ≡ true → map done_item (dones_from n calls) ≡ map item_of calls
 done_items n [] e = refl
 done_items n (g ∷ calls) e =
-    item_head n g g.reply (dones_from (n + 1) calls) (both_left (is_some g.reply) (have_ended calls) e)
-    ∙ ap (λ l. item_of g ∷ l) (done_items (n + 1) calls (both_right (is_some g.reply) (have_ended calls) e))
+    item_head n g g.reply (dones_from (n + 1) calls) ((and_parts (is_some g.reply) (have_ended calls) e).0)
+    ∙ ap (λ l. item_of g ∷ l) (done_items (n + 1) calls ((and_parts (is_some g.reply) (have_ended calls) e).1))
 
 text_head : (n : ℕ) (g : Given) (o : Option Reply) (ds : List Done) → is_some o ≡ true → text_with n g o ++ calls_text points.Shown ds ≡ calls_text points.Shown (done_in n g o ++ ds)
 text_head n g None ds e = absurd (cc)
@@ -87,5 +87,5 @@ text_head n g (Some r) ds e = refl
 pub done_lines : (n : ℕ) (calls : List Given) → have_ended calls ≡ true → lines_from n calls ≡ calls_text points.Shown (dones_from n calls)
 done_lines n [] e = refl
 done_lines n (g ∷ calls) e =
-    ap (λ t. text_with n g g.reply ++ t) (done_lines (n + 1) calls (both_right (is_some g.reply) (have_ended calls) e))
-    ∙ text_head n g g.reply (dones_from (n + 1) calls) (both_left (is_some g.reply) (have_ended calls) e)
+    ap (λ t. text_with n g g.reply ++ t) (done_lines (n + 1) calls ((and_parts (is_some g.reply) (have_ended calls) e).1))
+    ∙ text_head n g g.reply (dones_from (n + 1) calls) ((and_parts (is_some g.reply) (have_ended calls) e).0)

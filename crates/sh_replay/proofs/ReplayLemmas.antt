@@ -9,7 +9,7 @@ use Rattle.sh_sheet.specs.Sheet.{Items, AreFew, sheet_of}
 use Rattle.sh_text.specs.declared.write.WriteError.{WriteError}
 use Rattle.sh_text.specs.declared.write.WriteError.TheVariants as error
 use Rattle.sh_text.specs.Write.{CauseOf}
-use Rattle.sh_words.specs.Order.{Asked}
+use Rattle.sh_options.specs.Order.{Asked}
 use Rattle.sh_world.specs.States.{State}
 use Rattle.sh_replay.specs.declared.ending.Finish.{Finish}
 use Rattle.sh_replay.specs.declared.ending.Finish.TheVariants as finish

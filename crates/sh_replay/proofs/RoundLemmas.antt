@@ -9,11 +9,13 @@ use Rattle.std.proofs.lemmas.List.{get_or-set_other, get_or-take, length-take-le
 use Rattle.std.proofs.lemmas.List.Sums.{fold-append, fold_push}
 use Rattle.std.proofs.lemmas.List.Elements.{All-cons, All-head, All-nil, All-tail}
 use Rattle.std.proofs.lemmas.Option.{slice_get_past}
+use Rattle.sh_logic.proofs.Tests.{not_true}
 use Rattle.sh_world.specs.States.{State}
 use Rattle.sh_world.specs.Turning.{is_idle_at, turn_of}
 use Rattle.sh_replay.specs.Course.{ask, last_round, round, rounds, Rounds}
 use Rattle.sh_replay.specs.Thinning.{AllIdle, Thins}
-use Rattle.sh_replay.proofs.TurnLemmas.{idle_stays, turn_idle, turn_seats}
+use Rattle.sh_world.proofs.LawLemmas.{turn_idle}
+use Rattle.sh_replay.proofs.TurnLemmas.{idle_stays, turn_seats}
 
 -- ---- one seat is asked
 
@@ -264,10 +266,6 @@ pub record SoFar (r : Rounds) (old : List ℕ) (world : State) (turns : ℕ) (se
 pub so_far_at : (r : Rounds) (old : List ℕ) (world : State) (turns : ℕ) (seats : List ℕ) (kept i turns' : ℕ) (seats' : List ℕ) (kept' : ℕ) → SoFar r old world turns seats kept i → turns' ≡ turns → seats' ≡ seats → kept' ≡ kept → SoFar r old world turns' seats' kept' i
 so_far_at r old world turns seats kept i turns' seats' kept' h a b c =
     subst (λ (t : ℕ). SoFar r old world t seats' kept' i) (sym a) (subst (λ (l : List ℕ). SoFar r old world turns l kept' i) (sym b) (subst (λ (k : ℕ). SoFar r old world turns seats k i) (sym c) h))
-
-not_true : (b : Bool) → (b ≡ true → ⊥) → b ≡ false
-not_true true h = absurd (h refl)
-not_true false h = refl
 
 module _ (r : Rounds) (old : List ℕ) (world : State) (turns : ℕ) (seats : List ℕ) (kept i : ℕ) (h : SoFar r old world turns seats kept i) where
   -- the seat that is asked next

@@ -11,13 +11,13 @@ use Rattle.sh_base.specs.Setting.{all_seats, IsSetting}
 use Rattle.sh_map.specs.declared.book.Row.{Row}
 use Rattle.sh_map.specs.Book.{IsClosed}
 use Rattle.sh_map.specs.Log.{map_of}
-use Rattle.sh_map.specs.Map.{Map, pair_of, size}
+use Rattle.sh_map.specs.Map.{Map, row_pair, size}
 use Rattle.sh_sheet.specs.declared.item.Item.{Item}
 use Rattle.sh_sheet.specs.declared.item.Item.TheVariants.{Ask, Mark, After, Turn}
-use Rattle.sh_sheet.specs.Sheet.{calls_of}
+use Rattle.sh_sheet.specs.Sheet.{item_calls}
 use Rattle.sh_tree.specs.Tree.{IsTree, map_in}
-use Rattle.sh_own.specs.Laid.{AreLaid}
-use Rattle.sh_world.specs.Laws.{IsLawful}
+use Rattle.sh_image.specs.Laid.{AreLaid}
+use Rattle.sh_world.specs.Laws.{IsLawfulWorld}
 use Rattle.sh_world.specs.Running.{IsRunning}
 use Rattle.sh_world.specs.States.{State, dones_of, fresh_from, fresh_state}
 use Rattle.sh_world.specs.Turning.{is_idle_at}
@@ -35,14 +35,14 @@ use Rattle.sh_replay.proofs.RoundLemmas.{last_seats}
 
 -- what a world's laws give
 abbrev pub IsSound : State → Type 0
-IsSound s = IsLawful s × IsRunning s
+IsSound s = IsLawfulWorld s × IsRunning s
 
 -- rows are those of their pairs
-rows_back : (rows : List Row) → rows ≡ map row_of (map pair_of rows)
+rows_back : (rows : List Row) → rows ≡ map row_of (map row_pair rows)
 rows_back [] = refl
 rows_back (r ∷ rs) = ap (λ ts. r ∷ ts) (rows_back rs)
 
-rows_at_rest : {E : Type 0} (s : State) (levels : List (List ℕ)) (closed : IsClosed s.log (dones_of s.calls)) (tree : IsTree s.setting s.words levels) (holds : map_in s.setting s.words levels ≡ map_of s.log) (r : Result (List Row) E) → IfOk r (λ rows. map pair_of rows ≡ entries (map_in s.setting s.words levels)) → IfOk r (HoldsAll s)
+rows_at_rest : {E : Type 0} (s : State) (levels : List (List ℕ)) (closed : IsClosed s.log (dones_of s.calls)) (tree : IsTree s.setting s.words levels) (holds : map_in s.setting s.words levels ≡ map_of s.log) (r : Result (List Row) E) → IfOk r (λ rows. map row_pair rows ≡ entries (map_in s.setting s.words levels)) → IfOk r (HoldsAll s)
 rows_at_rest s levels closed tree holds (Ok rows) h = record {
   closed = closed;
   levels = levels;
@@ -53,12 +53,12 @@ rows_at_rest s levels closed tree holds (Ok rows) h = record {
 rows_at_rest s levels closed tree holds (Err e) h = tt
 
 pub rows_of_words : {E : Type 0} (s : State) (p : ConfigParts) (words : List ℕ) (r : Result (List Row) E) → IsSound s → have_ended s.calls ≡ true → p ≡ s.setting → words ≡ s.words
-    → ((levels : List (List ℕ)) → IsTree p words levels → IfOk r (λ rows. map pair_of rows ≡ entries (map_in p words levels))) → IfOk r (HoldsAll s)
+    → ((levels : List (List ℕ)) → IsTree p words levels → IfOk r (λ rows. map row_pair rows ≡ entries (map_in p words levels))) → IfOk r (HoldsAll s)
 rows_of_words s p words r sound ended setting same h =
     let idle = idle_ended s sound.1 ended in
     let rest = sound.0.rest (λ seat q here. ap is_idle_at (sym here) ∙ idle seat) in
-    let here = subst (λ (q : ConfigParts). (levels : List (List ℕ)) → IsTree q s.words levels → IfOk r (λ rows. map pair_of rows ≡ entries (map_in q s.words levels))) setting
-    (subst (λ (ws : List ℕ). (levels : List (List ℕ)) → IsTree p ws levels → IfOk r (λ rows. map pair_of rows ≡ entries (map_in p ws levels))) same h) in
+    let here = subst (λ (q : ConfigParts). (levels : List (List ℕ)) → IsTree q s.words levels → IfOk r (λ rows. map row_pair rows ≡ entries (map_in q s.words levels))) setting
+    (subst (λ (ws : List ℕ). (levels : List (List ℕ)) → IsTree p ws levels → IfOk r (λ rows. map row_pair rows ≡ entries (map_in p ws levels))) same h) in
     rows_at_rest s rest.levels (sound.0.book.closed (all_rest s sound.1 idle)) rest.tree rest.map r (here rest.levels rest.tree)
 
 -- there are no more rows than entries of the log
@@ -72,12 +72,12 @@ fresh_seats : (p : ConfigParts) (seat count : ℕ) → length (fresh_from p seat
 fresh_seats p seat zero = refl
 fresh_seats p seat (suc count) = ap suc (fresh_seats p (seat + 1) count)
 
-calls_counted : (items : List Item) → length (filter is_call items) ≡ sum_by calls_of items
+calls_counted : (items : List Item) → length (filter is_call items) ≡ sum_by item_calls items
 calls_counted [] = refl
-calls_counted (Ask seat call ∷ is) = omega (arith, calls_counted is, sum_by-cons calls_of (Ask seat call) is)
-calls_counted (Mark seat n ∷ is) = omega (arith, calls_counted is, sum_by-cons calls_of (Mark seat n) is)
-calls_counted (After seat n ∷ is) = omega (arith, calls_counted is, sum_by-cons calls_of (After seat n) is)
-calls_counted (Turn seat count ∷ is) = omega (arith, calls_counted is, sum_by-cons calls_of (Turn seat count) is)
+calls_counted (Ask seat call ∷ is) = omega (arith, calls_counted is, sum_by-cons item_calls (Ask seat call) is)
+calls_counted (Mark seat n ∷ is) = omega (arith, calls_counted is, sum_by-cons item_calls (Mark seat n) is)
+calls_counted (After seat n ∷ is) = omega (arith, calls_counted is, sum_by-cons item_calls (After seat n) is)
+calls_counted (Turn seat count ∷ is) = omega (arith, calls_counted is, sum_by-cons item_calls (Turn seat count) is)
 
 some_seats : (p : ConfigParts) → IsSetting p → 0 < all_seats p
 some_seats p h = product p.computes p.seats h.ranged.computes.0 h.ranged.seats.0 where
@@ -111,20 +111,20 @@ module _ (p : ConfigParts) (lawful : IsSetting p) (items sheet : List Item) (lai
   given_all : map item_of given.calls ≡ filter is_call sheet
   given_all = ap (λ (s : State). map item_of s.calls) so ∙ all_given p items laid (subst (All (IsServable p)) (sym same) can) seats_are ∙ ap (λ (s : State). map item_of s.calls ++ filter is_call items) is ∙ ap (filter is_call) same
 
-  pub given_count : length given.calls ≡ sum_by calls_of sheet
+  pub given_count : length given.calls ≡ sum_by item_calls sheet
   given_count = sym (length-map given.calls item_of) ∙ ap length given_all ∙ calls_counted sheet
 
   module _ (budget calls : ℕ) (budget_is : budget ≡ budget_of calls) (calls_are : calls ≡ length given.calls) (after : State) (finish : Finish) (last : after ≡ (finished given sheet budget).world) (ends : HasFinished budget (finished given sheet budget) finish) where
     pub after_laid : 0 < length after.seats
     after_laid = omega (arith, ap (λ (s : State). length s.seats) last, last_seats (fold turned_by given sheet) budget, turned_seats sheet given, given_laid)
 
-    budget_same : budget ≡ budget_of (sum_by calls_of sheet)
+    budget_same : budget ≡ budget_of (sum_by item_calls sheet)
     budget_same = budget_is ∙ ap budget_of (calls_are ∙ given_count)
 
     on_course : finished given sheet budget ≡ course p laid.words sheet
-    on_course = ap (λ n. finished given sheet n) budget_same ∙ ap (λ (s : State). finished s sheet (budget_of (sum_by calls_of sheet))) (so ∙ ap (fold given_by laid) same ∙ ap (λ (s : State). fold given_by s sheet) is)
+    on_course = ap (λ n. finished given sheet n) budget_same ∙ ap (λ (s : State). finished s sheet (budget_of (sum_by item_calls sheet))) (so ∙ ap (fold given_by laid) same ∙ ap (λ (s : State). fold given_by s sheet) is)
 
-    pub has_served : (rows : List Row) → AreLaid p laid.words → sum_by calls_of sheet ≤ 1000000 → IsSound after → HoldsRows after finish rows → HasServed p sheet after finish rows
+    pub has_served : (rows : List Row) → AreLaid p laid.words → sum_by item_calls sheet ≤ 1000000 → IsSound after → HoldsRows after finish rows → HasServed p sheet after finish rows
     has_served rows are_laid few sound holds =
         let same_items : map item_of after.calls ≡ map item_of given.calls = ap (λ (s : State). map item_of s.calls) last ∙ (finished_same sheet given budget).0 in
         let few_calls : length after.calls ≤ 1000000 = omega (arith, length-map after.calls item_of, ap length same_items, length-map given.calls item_of, given_count, few) in
@@ -132,7 +132,7 @@ module _ (p : ConfigParts) (lawful : IsSetting p) (items sheet : List Item) (lai
           laid = laid.words;
           are_laid = are_laid;
           last = last ∙ ap (λ (r : Rounds). r.world) on_course;
-          end_is = subst (λ (r : Rounds). HasFinished (budget_of (sum_by calls_of sheet)) r finish) on_course (subst (λ n. HasFinished n (finished given sheet budget) finish) budget_same ends);
+          end_is = subst (λ (r : Rounds). HasFinished (budget_of (sum_by item_calls sheet)) r finish) on_course (subst (λ n. HasFinished n (finished given sheet budget) finish) budget_same ends);
           setting = ap (λ (s : State). s.setting) last ∙ (finished_same sheet given budget).1 ∙ setting_is;
           calls = same_items ∙ given_all;
           lawful = sound.0.book.lawful;

@@ -1,29 +1,17 @@
 -- What a turn of a seat leaves of a world.
 use Rattle.std.proofs.Common.{◌≡◌, ◌≢◌, ◌⊎◌, ◌<◌, ℕ, zero, suc, ◌+◌, ◌-◌, Bool, true, false, List, [], ◌∷◌, length, Option, Some, None, refl, ap, subst, ◌∙◌, inl, inr, arith}
-use Rattle.std.specs.Prelude.{◌&&◌, ◌==◌, slice_get, slice_set}
+use Rattle.std.specs.Prelude.{◌&&◌, slice_get, slice_set}
 use Rattle.std.proofs.lemmas.Bool.{cases_eq}
-use Rattle.std.proofs.lemmas.Bool.Decides.{nat_tests}
 use Rattle.std.proofs.lemmas.List.{length-set}
-use Rattle.std.proofs.lemmas.Option.{slice_get_past}
+use Rattle.sh_logic.proofs.Lists.{set_else}
 use Rattle.sh_client.specs.declared.state.Want.{Want}
 use Rattle.sh_client.specs.declared.state.Want.TheVariants as want
 use Rattle.sh_client.specs.Wants.{want_of}
 use Rattle.sh_map.specs.declared.call.Call.{Call}
 use Rattle.sh_world.specs.States.{Place, State}
-use Rattle.sh_world.specs.Turning.{asked, asked_in, give_at, give_of, is_done, is_idle_at, starts_next, took, turn_at, turn_of}
+use Rattle.sh_world.specs.Turning.{asked, give_at, give_of, is_idle_at, took, turn_at, turn_of}
+use Rattle.sh_world.proofs.LawLemmas.{turn_idle}
 use Rattle.sh_replay.specs.Course.{turns_by}
-
-pub get_other : {X : Type 0} (xs : List X) (i j : ℕ) (y : X) → j ≢ i → slice_get (slice_set xs i y) j ≡ slice_get xs j
-get_other [] i j y ne = refl
-get_other (x ∷ xs) zero zero y ne = absurd (ne refl)
-get_other (x ∷ xs) zero (suc j) y ne = refl
-get_other (x ∷ xs) (suc i) zero y ne = refl
-get_other (x ∷ xs) (suc i) (suc j) y ne = get_other xs i j y (λ e. ne (ap suc e))
-
-pub set_same : {X : Type 0} (xs : List X) (i : ℕ) (x : X) → slice_get xs i ≡ Some x → slice_set xs i x ≡ xs
-set_same [] i x e = refl
-set_same (y ∷ ys) zero x e = cc
-set_same (y ∷ ys) (suc i) x e = ap (λ zs. y ∷ zs) (set_same ys i x e)
 
 -- only the place of this seat differs
 pub record Alters (s : State) (seat : ℕ) (t : State) : Type 0 where
@@ -32,12 +20,8 @@ pub record Alters (s : State) (seat : ℕ) (t : State) : Type 0 where
   pub seats : t.seats ≡ slice_set s.seats seat place
 
 alters_took : (s : State) (seat : ℕ) (q : Place) (w : Want) → Alters s seat (took s seat q w)
-alters_took s seat q (want.Event e) = record { place = _; setting = refl; seats = refl }
-alters_took s seat q (want.Draw lock) = record { place = _; setting = refl; seats = refl }
-alters_took s seat q (want.Look lock) = record { place = _; setting = refl; seats = refl }
-alters_took s seat q (want.Waiting lock) = record { place = _; setting = refl; seats = refl }
-alters_took s seat q (want.Leave lock carry) = record { place = _; setting = refl; seats = refl }
 alters_took s seat q want.Done = record { place = _; setting = refl; seats = refl }
+alters_took s seat q w = record { place = _; setting = refl; seats = refl }
 
 alters_at : (s : State) (seat : ℕ) (o : Option Place) → (turn_at s seat o ≡ s) ⊎ Alters s seat (turn_at s seat o)
 alters_at s seat None = inl refl
@@ -62,44 +46,10 @@ turn_seats s seat = elim (alters s seat) [
 pub turn_others : (s : State) (seat other : ℕ) → other ≢ seat → slice_get (turn_of s seat).seats other ≡ slice_get s.seats other
 turn_others s seat other ne = elim (alters s seat) [
   | inl same ↦ ap (λ (t : State). slice_get t.seats other) same
-  | inr a ↦ ap (λ (xs : List Place). slice_get xs other) a.seats ∙ get_other s.seats seat other a.place ne
+  | inr a ↦ ap (λ (xs : List Place). slice_get xs other) a.seats ∙ set_else s.seats seat other a.place ne
 ]
 
 -- ---- idle seats
-
-done_want : (w : Want) → is_done w ≡ true → w ≡ want.Done
-done_want want.Done e = refl
-done_want (want.Event x) e = absurd (cc)
-done_want (want.Draw lock) e = absurd (cc)
-done_want (want.Look lock) e = absurd (cc)
-done_want (want.Waiting lock) e = absurd (cc)
-done_want (want.Leave lock carry) e = absurd (cc)
-
-pub both_left : (a b : Bool) → (a && b) ≡ true → a ≡ true
-both_left true b e = refl
-both_left false b e = absurd (cc)
-
-pub both_right : (a b : Bool) → (a && b) ≡ true → b ≡ true
-both_right true b e = e
-both_right false b e = absurd (cc)
-
-pub same_number : (a b : ℕ) → (a == b) ≡ true → a ≡ b
-same_number a b e = grind (arith, nat_tests)
-
-idle_asked : (s : State) (q : Place) → want_of q.client ≡ want.Done → slice_get q.numbers q.ended ≡ None → asked s.calls q (length s.log) ≡ q
-idle_asked s q done none = ap (asked_in s.calls q (length s.log)) done ∙ ap (starts_next s.calls q (length s.log)) none
-
-idle_at : (s : State) (seat : ℕ) (o : Option Place) → slice_get s.seats seat ≡ o → is_idle_at o ≡ true → turn_at s seat o ≡ s
-idle_at s seat None here idle = refl
-idle_at s seat (Some q) here idle =
-    let done = done_want (want_of q.client) (both_left (is_done (want_of q.client)) _ idle) in
-    let all : q.ended ≡ length q.numbers = same_number q.ended (length q.numbers) (both_right (is_done (want_of q.client)) _ idle) in
-    let same = idle_asked s q done (slice_get_past q.numbers q.ended (omega (arith, all))) in
-    ap (λ (r : Place). took s seat r (want_of r.client)) same ∙ ap (took s seat q) done ∙ ap (λ (xs : List Place). record s { seats = xs }) (set_same s.seats seat q here)
-
--- a turn of an idle seat changes nothing
-pub turn_idle : (s : State) (seat : ℕ) → is_idle_at (slice_get s.seats seat) ≡ true → turn_of s seat ≡ s
-turn_idle s seat idle = idle_at s seat (slice_get s.seats seat) refl idle
 
 -- an idle seat stays idle
 pub idle_stays : (s : State) (seat other : ℕ) → is_idle_at (slice_get s.seats other) ≡ true → is_idle_at (slice_get (turn_of s seat).seats other) ≡ true

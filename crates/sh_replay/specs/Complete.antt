@@ -5,7 +5,7 @@ use Rattle.sh_sheet.specs.declared.status.Status.{Status}
 use Rattle.sh_sheet.specs.declared.status.Status.TheVariants as status
 use Rattle.sh_sheet.specs.declared.item.Mode.TheVariants.{Replay}
 use Rattle.sh_sheet.specs.Sheet.{Items, AreFew, sheet_of}
-use Rattle.sh_words.specs.Order.{Asked}
+use Rattle.sh_options.specs.Order.{Asked}
 use Rattle.sh_replay.specs.Serving.{first_unserved}
 
 -- a count of faults that stays, below its last value

@@ -5,7 +5,7 @@ use Rattle.std.specs.List.{fold, list_all, range_with_len, sum_by}
 use Rattle.sh_base.specs.declared.config.ConfigParts.{ConfigParts}
 use Rattle.sh_sheet.specs.declared.item.Item.{Item}
 use Rattle.sh_sheet.specs.declared.item.Item.TheVariants.{Ask, Mark, After, Turn}
-use Rattle.sh_sheet.specs.Sheet.{calls_of}
+use Rattle.sh_sheet.specs.Sheet.{item_calls}
 use Rattle.sh_world.specs.declared.state.Given.{Given}
 use Rattle.sh_world.specs.States.{State, fresh_state}
 use Rattle.sh_world.specs.Turning.{give_of, is_idle_at, turn_of}
@@ -63,7 +63,7 @@ budget_of calls = 4096 + 100000 * calls
 
 -- the course's last state, over these laid words
 abbrev pub course : ConfigParts → (words : List ℕ) → List Item → Rounds
-course p words items = finished (fold given_by (fresh_state p words) items) items (budget_of (sum_by calls_of items))
+course p words items = finished (fold given_by (fresh_state p words) items) items (budget_of (sum_by item_calls items))
 
 -- every call has ended
 abbrev pub have_ended : List Given → Bool

@@ -9,10 +9,10 @@ use Rattle.sh_map.specs.Book.{IsClosed, IsLawful}
 use Rattle.sh_map.specs.Log.{map_of}
 use Rattle.sh_sheet.specs.declared.item.Item.{Item}
 use Rattle.sh_sheet.specs.declared.item.Item.TheVariants.{Ask, Mark, After, Turn}
-use Rattle.sh_sheet.specs.Sheet.{calls_of}
+use Rattle.sh_sheet.specs.Sheet.{item_calls}
 use Rattle.sh_tree.specs.Tree.{IsTree, map_in}
 use Rattle.sh_world.specs.declared.state.Given.{Given}
-use Rattle.sh_own.specs.Laid.{AreLaid}
+use Rattle.sh_image.specs.Laid.{AreLaid}
 use Rattle.sh_world.specs.States.{State, dones_of}
 use Rattle.sh_replay.specs.declared.ending.Finish.{Finish}
 use Rattle.sh_replay.specs.declared.ending.Finish.TheVariants as finish
@@ -62,7 +62,7 @@ pub record HasServed (p : ConfigParts) (items : List Item) (s : State) (end : Fi
   pub laid : List ℕ
   pub are_laid : AreLaid p laid
   pub last : s ≡ (course p laid items).world
-  pub end_is : HasFinished (budget_of (sum_by calls_of items)) (course p laid items) end
+  pub end_is : HasFinished (budget_of (sum_by item_calls items)) (course p laid items) end
   pub setting : s.setting ≡ p
   pub calls : map item_of s.calls ≡ filter is_call items
   pub lawful : IsLawful s.log (dones_of s.calls)

@@ -11,8 +11,8 @@ use Rattle.sh_sheet.specs.declared.item.Item.{Item}
 use Rattle.sh_sheet.specs.declared.item.Item.TheVariants.{Ask, Mark, After, Turn}
 use Rattle.sh_sheet.specs.declared.item.Mode.TheVariants.{Replay}
 use Rattle.sh_sheet.specs.Sheet.{row_of}
-use Rattle.sh_words.specs.Order.{Asked, order_of}
-use Rattle.sh_words.specs.Uses.{Text}
+use Rattle.sh_options.specs.Order.{Asked, order_of}
+use Rattle.sh_options.specs.Uses.{Text}
 
 -- an order is served where it asks neither for the events nor for calls that are made
 abbrev pub if_served : Asked → Option Asked

@@ -2,7 +2,7 @@
 ghost use Rattle.std.specs.Prelude.{◌≡◌, ℕ, true, List, Option, map};
 ghost use Rattle.sh_sheet.specs.declared.status.Status.{Status};
 ghost use Rattle.std.specs.List.{sum_by};
-ghost use Rattle.sh_sheet.specs.Sheet.{calls_of};
+ghost use Rattle.sh_sheet.specs.Sheet.{item_calls};
 ghost use Rattle.sh_text.specs.Text.{calls_text};
 ghost use Rattle.sh_text.specs.declared.points.Points.TheVariants as points;
 ghost use Rattle.sh_world.specs.declared.state.Given.{Given};
@@ -11,7 +11,7 @@ ghost use Rattle.sh_replay.specs.Output.{lines_from};
 ghost use Rattle.sh_replay.specs.Served.{done_item, item_of};
 ghost use Rattle.sh_world.specs.States.{IsBlank};
 ghost use Rattle.sh_replay.specs.Course.{budget_of, have_ended};
-ghost use Rattle.sh_words.specs.Order.{Asked};
+ghost use Rattle.sh_options.specs.Order.{Asked};
 ghost use Rattle.sh_replay.specs.Serving.{accepted};
 ghost use Rattle.sh_replay.specs.Headline.{Headline};
 ghost use Rattle.sh_replay.specs.Complete.{IsFree, EndsWell, IsNoFault};
@@ -29,7 +29,7 @@ use std::alloc::Global;
 pub fn replay_laws()
     ensures each { (calls : List Given) → have_ended calls ≡ true → map done_item (dones_of calls) ≡ map item_of calls }
     ensures lines { (calls : List Given) → have_ended calls ≡ true → lines_from 1 calls ≡ calls_text points.Shown (dones_of calls) }
-    ensures complete { (asked : Option Asked) (old new : State) (left rest : Option (List ℕ)) (before now : ℕ) (held after : Option (List ℕ)) (fell fallen : ℕ) (status : Status) → Headline asked old new left rest before now held after fell fallen status → (free : IsFree asked left before now fell fallen) → EndsWell (budget_of (sum_by calls_of free.items)) status }
+    ensures complete { (asked : Option Asked) (old new : State) (left rest : Option (List ℕ)) (before now : ℕ) (held after : Option (List ℕ)) (fell fallen : ℕ) (status : Status) → Headline asked old new left rest before now held after fell fallen status → (free : IsFree asked left before now fell fallen) → EndsWell (budget_of (sum_by item_calls free.items)) status }
 {}
 
 /// [`replay_top`] over a source and a sink that never fail: neither `ReadFault` nor `WriteFault` comes, and all that is

@@ -3,7 +3,7 @@ ghost use Rattle.std.specs.Prelude.{◌≡◌, ◌≤◌, ◌<◌, [], All, IfOk
 ghost use Rattle.std.specs.List.{fold, sum_by};
 ghost use Rattle.sh_base.specs.Parts.{parts_of};
 ghost use Rattle.sh_base.specs.Setting.{all_seats};
-ghost use Rattle.sh_sheet.specs.Sheet.{calls_of};
+ghost use Rattle.sh_sheet.specs.Sheet.{item_calls};
 ghost use Rattle.sh_replay.specs.Course.{budget_of, given_by};
 ghost use Rattle.sh_replay.specs.Serving.{IsServable};
 ghost use Rattle.sh_replay.specs.Served.{HasEnded, HasServed, HoldsRows};
@@ -22,7 +22,7 @@ fn give_all(world: &mut World, items: &[Item]) -> Result<(), AllocError>
     requires seats { length world.old.seats ≡ all_seats world.old.setting }
     requires none { world.old.calls ≡ [] }
     requires items { All (IsServable world.old.setting) items.now }
-    requires few { sum_by calls_of items.now ≤ 1000000 }
+    requires few { sum_by item_calls items.now ≤ 1000000 }
     ensures { OnOk result (world.new ≡ fold given_by world.old items.now) }
 {
     for item in items {
@@ -58,7 +58,7 @@ fn rows_in(alloc: Global, world: &World, finish: &Finish) -> Result<Rows, AllocE
 /// that its words hold. The sheet is let go before the first turn, but for its turn rows.
 pub fn serve(alloc: Global, cfg: &Config, sheet: Sheet) -> Result<(World, Finish, Rows), AllocError>
     requires items { All (IsServable (parts_of cfg.now)) sheet.items }
-    requires few { sum_by calls_of sheet.items ≤ 1000000 }
+    requires few { sum_by item_calls sheet.items ≤ 1000000 }
     ensures { IfOk result (λ r. HasServed (parts_of cfg.now) sheet.items r.0 r.1 r.2) }
 {
     let mut world = World::blank(alloc);

@@ -1,12 +1,12 @@
 // What a replay serves for now.
 ghost use Rattle.std.specs.Prelude.{◌≡◌, map, Some, None, IfOk, IsErrOf};
-ghost use Rattle.sh_words.specs.Order.{asked_of};
-ghost use Rattle.sh_words.specs.declared.order.WordFault.TheVariants.{Usage};
+ghost use Rattle.sh_options.specs.Order.{asked_of};
+ghost use Rattle.sh_options.specs.declared.order.WordFault.TheVariants.{Usage};
 ghost use Rattle.sh_replay.specs.Serving.{accepted, first_unserved, is_one_key, is_served};
 
 use sh_map::Call;
+use sh_options::{Order, WordFault, read_words};
 use sh_sheet::{Item, Mode};
-use sh_words::{Order, WordFault, read_words};
 use std::alloc::Global;
 
 /// What the words ask for, where it is served: an order without events and without calls that are made.

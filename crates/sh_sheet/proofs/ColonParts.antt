@@ -41,14 +41,6 @@ pub record IsCut (text ns : List ℕ) (at : ℕ) (left : List (List ℕ)) : Type
   pub count : length (colon_parts text) ≡ at + length left
   pub numbers : numbers_of (colon_parts text) ≡ behind ns (numbers_of left)
 
-behind_none : (o : Option (List ℕ)) → o ≡ behind [] o
-behind_none None = refl
-behind_none (Some ms) = refl
-
--- nothing is cut yet
-pub cut_none : (text : List ℕ) → IsCut text [] 0 (colon_parts text)
-cut_none text = record { count = omega arith; numbers = behind_none (numbers_of (colon_parts text)) }
-
 behind_more : (ns : List ℕ) (n : ℕ) (o : Option (List ℕ)) → behind ns (joined (Some n) o) ≡ behind (ns ++ n ∷ []) o
 behind_more ns n None = refl
 behind_more ns n (Some ms) = ap (λ t. Some t) (sym (append_assoc ns (n ∷ []) ms))
@@ -65,24 +57,4 @@ pub too_many_parts : (text ns more : List ℕ) (at count : ℕ) → IsCut text n
 too_many_parts text ns more at count was full =
     let all = was.count in
     let some = length-slice_split is_colon more in
-    grind (arith, nat_tests)
-
--- fewer parts than words
-pub too_few_parts : (text ns : List ℕ) (at count : ℕ) → IsCut text ns at [] → at < count → None ≡ value_in count text
-too_few_parts text ns at count was few = let more = was.count in grind (arith, nat_tests)
-
-no_value : (text : List ℕ) (count : ℕ) → numbers_of (colon_parts text) ≡ None → None ≡ value_in count text
-no_value text count none = grind (arith, nat_tests)
-
--- a part that is no number
-pub no_number_part : (text ns part : List ℕ) (at count : ℕ) (left more : List (List ℕ)) → IsCut text ns at left → left ≡ part ∷ more → None ≡ number_of part → None ≡ value_in count text
-no_number_part text ns part at count left more was parts number =
-    let none : numbers_of (colon_parts text) ≡ None = was.numbers ∙ rw (parts, ← number) refl in
-    no_value text count none
-
--- each part was a number
-pub all_parts : (text ns : List ℕ) (at count : ℕ) → IsCut text ns at [] → at ≤ count → count ≤ at → Some ns ≡ value_in count text
-all_parts text ns at count was low high =
-    let all = was.count in
-    let numbers : numbers_of (colon_parts text) ≡ Some ns = was.numbers ∙ ap (λ t. Some t) (append-nil ns) in
     grind (arith, nat_tests)

@@ -10,13 +10,13 @@ use Rattle.std.proofs.Math.Seq.{take-append_seam}
 use Rattle.std.proofs.lemmas.List.Elements.{All-nil, All-push}
 use Rattle.std.proofs.lemmas.Map.Views.{Contains-from_any, list_any-from_Contains}
 use Rattle.std.proofs.lemmas.Option.{cond_some, same_Some, slice_get_within}
+use Rattle.sh_logic.proofs.Lists.{slice_get-push_back}
 use Rattle.sh_base.specs.Setting.{all_seats}
 use Rattle.sh_base.specs.declared.config.ConfigParts.{ConfigParts}
 use Rattle.sh_map.specs.declared.call.Call.TheVariants.{Get, Put, Del, Range}
 use Rattle.sh_map.specs.Calls.{IsKey}
-use Rattle.sh_map.proofs.BookLemmas.{slice_get-push_back}
 use Rattle.sh_sheet.specs.Number.{number_of}
-use Rattle.sh_sheet.specs.Row.{joined, numbers_of, value_in, colon_parts, if_empty, is_key, is_here, is_marked, has_key, has_bounds, has_mark, op_of, deed_of, by_seat, given, tested, item_in, is_heading}
+use Rattle.sh_sheet.specs.Row.{joined, numbers_of, value_in, colon_parts, if_empty, is_key, is_here, is_marked, has_key, has_bounds, has_mark, op_of, deed_of, by_seat, or_cause, tested, item_in, is_heading}
 use Rattle.sh_sheet.specs.Sheet.{Reading, Items, Refused, marks_in, row_then, rows_from, rows_in, IsLawfulItem, IsLawfulMark, AreMarksLawful}
 use Rattle.sh_sheet.specs.declared.status.RowCause.{RowCause}
 use Rattle.sh_sheet.specs.declared.status.RowCause.TheVariants.{BadOp, TurnNotHere, BadNumber, BadSeat, BadKey, BadBounds, BadMark}
@@ -102,7 +102,7 @@ deed_lawful p marks seat (Mark n) fits is_seat keyed bounds mark = record { asks
 deed_lawful p marks seat (After n) fits is_seat keyed bounds mark = record { asks = is_seat; mark = marked marks n mark }
 deed_lawful p marks seat (Turn n) fits is_seat keyed bounds mark = record { asks = is_seat; mark = tt }
 
-given_ok : {A B : Type 0} (o : Option A) (why : RowCause) (next : A → Result B RowCause) (y : B) → given o why next ≡ Ok y → (x : A) × (o ≡ Some x) × (next x ≡ Ok y)
+given_ok : {A B : Type 0} (o : Option A) (why : RowCause) (next : A → Result B RowCause) (y : B) → or_cause o why next ≡ Ok y → (x : A) × (o ≡ Some x) × (next x ≡ Ok y)
 given_ok None why next y e = cc
 given_ok (Some x) why next y e = (x, refl, e)
 
@@ -142,9 +142,9 @@ row_lawful p mode marks (first ∷ []) item e = cc
 row_lawful p mode marks (first ∷ second ∷ []) item e = cc
 row_lawful p mode marks (first ∷ second ∷ a ∷ []) item e = cc
 row_lawful p mode marks (first ∷ second ∷ a ∷ b ∷ []) item e =
-    let last : Op → ℕ → ℕ → Result Item RowCause = λ o seat n. given (deed_of p.value_words o n b) BadNumber (behind_deed p marks seat) in
-    let next : Op → ℕ → Result Item RowCause = λ o seat. given (number_of a) BadNumber (last o seat) in
-    let numbers : Op → Result Item RowCause = λ o. given (number_of second) BadNumber (next o) in
+    let last : Op → ℕ → ℕ → Result Item RowCause = λ o seat n. or_cause (deed_of p.value_words o n b) BadNumber (behind_deed p marks seat) in
+    let next : Op → ℕ → Result Item RowCause = λ o seat. or_cause (number_of a) BadNumber (last o seat) in
+    let numbers : Op → Result Item RowCause = λ o. or_cause (number_of second) BadNumber (next o) in
     let (o, is_op, e1) = given_ok (op_of first) BadOp (λ o. tested (is_here mode o) TurnNotHere (numbers o)) item e in
     let (here, e2) = tested_ok (is_here mode o) TurnNotHere (numbers o) item e1 in
     let (seat, is_seat, e3) = given_ok (number_of second) BadNumber (next o) item e2 in

@@ -11,8 +11,8 @@ use Rattle.sh_base.specs.Setting.{all_seats, IsSetting}
 use Rattle.sh_map.specs.declared.call.Call.{Call}
 use Rattle.sh_map.specs.declared.call.Call.TheVariants.{Get, Put, Del, Range}
 use Rattle.sh_map.specs.Calls.{IsInRange}
-use Rattle.sh_sheet.specs.Generate.{key_from, made_call, made_item, made_items, next_number, number_at}
-use Rattle.sh_sheet.specs.Sheet.{AreFew, AreMarksLawful, IsLawfulItem, IsLawfulMark, calls_of, most_rows, rows_of, turns_of}
+use Rattle.sh_sheet.specs.Generate.{key_from, made_call, made_item, made_items, next_number, drawn_number}
+use Rattle.sh_sheet.specs.Sheet.{AreFew, AreMarksLawful, IsLawfulItem, IsLawfulMark, item_calls, most_rows, rows_of, item_turns}
 use Rattle.sh_sheet.specs.declared.item.Item.{Item}
 use Rattle.sh_sheet.specs.declared.item.Item.TheVariants.{Ask}
 
@@ -30,25 +30,25 @@ pub words_more : (words : List ℕ) (first place word : ℕ) → place < length 
 words_more words first place word h e at = rw (take_more_set words place word h, e, at) (sym (range_more first place))
 
 -- the seed, and the next number
-pub number_first : (seed : ℕ) → seed ≡ number_at seed 0
-unfolding number_at
+pub number_first : (seed : ℕ) → seed ≡ drawn_number seed 0
+unfolding drawn_number
 number_first seed = refl
 
-pub number_more : (seed i : ℕ) → number_at seed (i + 1) ≡ next_number (number_at seed i)
-unfolding number_at
-number_more seed i = ap (number_at seed) (add-one i)
+pub number_more : (seed i : ℕ) → drawn_number seed (i + 1) ≡ next_number (drawn_number seed i)
+unfolding drawn_number
+number_more seed i = ap (drawn_number seed) (add-one i)
 
 module _ (p : ConfigParts) (n seed : ℕ) where
   -- one call more
   pub made_more : (place x y seat : ℕ) (call : Call) (items : List Item) → items ≡ map (made_item p n seed) (range_with_len 1 place)
-      → x ≡ number_at seed place → y ≡ next_number x → seat ≡ place % all_seats p → call ≡ made_call p n (place + 1) y
+      → x ≡ drawn_number seed place → y ≡ next_number x → seat ≡ place % all_seats p → call ≡ made_call p n (place + 1) y
       → items ++ Ask seat call ∷ [] ≡ map (made_item p n seed) (range_with_len 1 (place + 1))
   made_more place x y seat call items e at_x at_y at_seat at_call =
       let back : place + 1 - 1 ≡ place = omega arith in
-      let number : y ≡ number_at seed (place + 1) = at_y ∙ ap next_number at_x ∙ sym (number_more seed place) in
+      let number : y ≡ drawn_number seed (place + 1) = at_y ∙ ap next_number at_x ∙ sym (number_more seed place) in
       let item : Ask seat call ≡ made_item p n seed (place + 1) =
       ap (λ c. Ask seat c) (at_call ∙ ap (made_call p n (place + 1)) number)
-      ∙ ap (λ s. Ask s (made_call p n (place + 1) (number_at seed (place + 1)))) (at_seat ∙ ap (λ s. s % all_seats p) (sym back)) in
+      ∙ ap (λ s. Ask s (made_call p n (place + 1) (drawn_number seed (place + 1)))) (at_seat ∙ ap (λ s. s % all_seats p) (sym back)) in
       ap (λ xs. xs ++ Ask seat call ∷ []) e
       ∙ ap (λ t. map (made_item p n seed) (range_with_len 1 place) ++ t ∷ []) item
       ∙ sym (map-range_with_len_more (made_item p n seed) 1 place (place + 1) (omega arith))
@@ -64,7 +64,7 @@ module _ (p : ConfigParts) (n seed : ℕ) where
   item_lawful : IsSetting p → 1 ≤ n → n ≤ 1000000 → (i : ℕ) → IsLawfulItem p (made_item p n seed i)
   item_lawful is low high i =
       let seats : 0 < all_seats p = grind (arith, is.ranged.computes.0, is.ranged.seats.0) in
-      let x : ℕ = number_at seed i in
+      let x : ℕ = drawn_number seed i in
       let below : x / 2 ^ 33 % n < n = mod-lt (x / 2 ^ 33) (omega arith) in (
         mod-lt (i - 1) seats,
         call_in_range (nat_le (x / 2 ^ 60) 7) (nat_le (x / 2 ^ 60) 12) (nat_le (x / 2 ^ 60) 14) (key_from n x) (range_with_len i p.value_words) (omega arith) (omega arith) (length-range_with_len i p.value_words),
@@ -87,11 +87,11 @@ module _ (p : ConfigParts) (n seed : ℕ) where
   pub made_marks : (items : List Item) → items ≡ made_items p n seed → AreMarksLawful items
   made_marks items e = rw e (λ i item at. no_mark _ (range_with_len 1 n) i item at)
 
-  fold_calls : (k : ℕ) (is : List ℕ) → fold (λ a x. a + calls_of x) k (map (made_item p n seed) is) ≡ k + length is
+  fold_calls : (k : ℕ) (is : List ℕ) → fold (λ a x. a + item_calls x) k (map (made_item p n seed) is) ≡ k + length is
   fold_calls k [] = omega arith
   fold_calls k (i ∷ is) = fold_calls (k + 1) is ∙ omega arith
 
-  fold_turns : (k : ℕ) (is : List ℕ) → fold (λ a x. a + turns_of x) k (map (made_item p n seed) is) ≡ k
+  fold_turns : (k : ℕ) (is : List ℕ) → fold (λ a x. a + item_turns x) k (map (made_item p n seed) is) ≡ k
   fold_turns k [] = refl
   fold_turns k (i ∷ is) = fold_turns (k + 0) is ∙ omega arith
 
@@ -99,6 +99,6 @@ module _ (p : ConfigParts) (n seed : ℕ) where
   pub made_rows : n ≤ 1000000 → (items : List Item) → items ≡ made_items p n seed → (AreFew p items → ⊥) → most_rows < sum_by (rows_of p) (made_items p n seed)
   made_rows high items e many =
       let made : List Item = made_items p n seed in
-      let calls : sum_by calls_of made ≡ n = fold_calls 0 (range_with_len 1 n) ∙ omega (arith, length-range_with_len 1 n) in
-      let turns : sum_by turns_of made ≡ 0 = fold_turns 0 (range_with_len 1 n) in
+      let calls : sum_by item_calls made ≡ n = fold_calls 0 (range_with_len 1 n) ∙ omega (arith, length-range_with_len 1 n) in
+      let turns : sum_by item_turns made ≡ 0 = fold_turns 0 (range_with_len 1 n) in
       lt_of_not-le (λ few. many (rw e (record { calls = omega arith; turns = omega arith; rows = few })))

@@ -5,7 +5,7 @@ use Rattle.sh_base.specs.Setting.{all_seats}
 use Rattle.sh_base.specs.declared.config.ConfigParts.{ConfigParts}
 use Rattle.sh_sheet.specs.Number.{number_of}
 use Rattle.sh_sheet.specs.Records.{records_in}
-use Rattle.sh_sheet.specs.Row.{is_here, has_key, has_bounds, has_mark, op_of, deed_of, by_seat, given, tested, item_in, is_heading}
+use Rattle.sh_sheet.specs.Row.{is_here, has_key, has_bounds, has_mark, op_of, deed_of, by_seat, or_cause, tested, item_in, is_heading}
 use Rattle.sh_sheet.specs.Sheet.{Reading, Refused, marks_in, row_then, rows_from, rows_in, sheet_of}
 use Rattle.sh_sheet.specs.declared.status.RowCause.{RowCause}
 use Rattle.sh_sheet.specs.declared.status.RowCause.TheVariants.{BadOp, TurnNotHere, BadNumber, BadSeat, BadKey, BadBounds, BadMark, NotYet}
@@ -18,7 +18,7 @@ use Rattle.sh_sheet.specs.declared.deed.Deed.{Deed}
 IsServed : Result Item RowCause → Type 0
 IsServed r = r ≢ Err NotYet
 
-given_served : {A : Type 0} (o : Option A) (why : RowCause) (next : A → Result Item RowCause) → why ≢ NotYet → ((x : A) → IsServed (next x)) → IsServed (given o why next)
+given_served : {A : Type 0} (o : Option A) (why : RowCause) (next : A → Result Item RowCause) → why ≢ NotYet → ((x : A) → IsServed (next x)) → IsServed (or_cause o why next)
 unfolding IsServed
 given_served None why next apart more e = apart cc
 given_served (Some x) why next apart more e = more x e
@@ -40,9 +40,9 @@ row_served p mode marks (first ∷ second ∷ a ∷ b ∷ []) e =
     let t2 : ℕ → Deed → Result Item RowCause = λ seat deed. tested (has_bounds deed) BadBounds (t1 seat deed) in
     let t3 : ℕ → Deed → Result Item RowCause = λ seat deed. tested (has_key deed) BadKey (t2 seat deed) in
     let t4 : ℕ → Deed → Result Item RowCause = λ seat deed. tested (nat_lt seat (all_seats p)) BadSeat (t3 seat deed) in
-    let t5 : Op → ℕ → ℕ → Result Item RowCause = λ o seat n. given (deed_of p.value_words o n b) BadNumber (t4 seat) in
-    let t6 : Op → ℕ → Result Item RowCause = λ o seat. given (number_of a) BadNumber (t5 o seat) in
-    let t7 : Op → Result Item RowCause = λ o. given (number_of second) BadNumber (t6 o) in
+    let t5 : Op → ℕ → ℕ → Result Item RowCause = λ o seat n. or_cause (deed_of p.value_words o n b) BadNumber (t4 seat) in
+    let t6 : Op → ℕ → Result Item RowCause = λ o seat. or_cause (number_of a) BadNumber (t5 o seat) in
+    let t7 : Op → Result Item RowCause = λ o. or_cause (number_of second) BadNumber (t6 o) in
     given_served (op_of first) BadOp (λ o. tested (is_here mode o) TurnNotHere (t7 o)) (λ f. cc)
     (λ o. tested_served (is_here mode o) TurnNotHere (t7 o) (λ f. cc)
     (given_served (number_of second) BadNumber (t6 o) (λ f. cc)

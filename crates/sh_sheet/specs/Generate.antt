@@ -16,9 +16,9 @@ abbrev pub next_number : ℕ → ℕ
 next_number x = (x * 6364136223846793005 + 1442695040888963407) % 2 ^ 64
 
 -- number i behind a seed, which is number 0
-unfoldable pub number_at : ℕ → ℕ → ℕ
-number_at seed zero = seed
-number_at seed (suc i) = next_number (number_at seed i)
+unfoldable pub drawn_number : ℕ → ℕ → ℕ
+drawn_number seed zero = seed
+drawn_number seed (suc i) = next_number (drawn_number seed i)
 
 -- a key from 1 to n, of the high bits of x
 abbrev pub key_from : ℕ → ℕ → ℕ
@@ -38,7 +38,7 @@ made_call p n i x = call_from (x / 2 ^ 60) (key_from n x) (range_with_len i p.va
 
 -- call i of n, of number i: the seats take turns
 abbrev pub made_item : ConfigParts → ℕ → ℕ → ℕ → Item
-made_item p n seed i = Ask ((i - 1) % all_seats p) (made_call p n i (number_at seed i))
+made_item p n seed i = Ask ((i - 1) % all_seats p) (made_call p n i (drawn_number seed i))
 
 -- the n calls of a seed: call i, from 1 to n, of number i
 abbrev pub made_items : ConfigParts → ℕ → ℕ → List Item

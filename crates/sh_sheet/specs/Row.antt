@@ -102,9 +102,9 @@ by_seat seat (After n) = item.After seat n
 by_seat seat (Turn n) = item.Turn seat n
 
 -- what is there is taken on, else the row is refused
-abbrev pub given : {A B : Type 0} → Option A → RowCause → (A → Result B RowCause) → Result B RowCause
-given None why next = Err why
-given (Some x) why next = next x
+abbrev pub or_cause : {A B : Type 0} → Option A → RowCause → (A → Result B RowCause) → Result B RowCause
+or_cause None why next = Err why
+or_cause (Some x) why next = next x
 
 -- where the test holds it goes on, else the row is refused
 abbrev pub tested : {B : Type 0} → Bool → RowCause → Result B RowCause → Result B RowCause
@@ -113,11 +113,11 @@ tested holds why next = if holds then next else Err why
 -- The item of a row behind mark rows of these numbers, or the first test that the row fails.
 abbrev pub item_in : ConfigParts → Mode → List ℕ → List (List ℕ) → Result Item RowCause
 item_in p mode marks (first ∷ second ∷ a ∷ b ∷ []) =
-    given (op_of first) BadOp (λ o.
+    or_cause (op_of first) BadOp (λ o.
     tested (is_here mode o) TurnNotHere (
-    given (number_of second) BadNumber (λ seat.
-    given (number_of a) BadNumber (λ n.
-    given (deed_of p.value_words o n b) BadNumber (λ deed.
+    or_cause (number_of second) BadNumber (λ seat.
+    or_cause (number_of a) BadNumber (λ n.
+    or_cause (deed_of p.value_words o n b) BadNumber (λ deed.
     tested (nat_lt seat (all_seats p)) BadSeat (
     tested (has_key deed) BadKey (
     tested (has_bounds deed) BadBounds (

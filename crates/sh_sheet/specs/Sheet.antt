@@ -57,14 +57,14 @@ abbrev pub sheet_of : ConfigParts → Mode → List ℕ → Reading
 sheet_of p mode bytes = rows_in p mode (records_in bytes)
 
 -- whether an item is a call, as a number
-abbrev pub calls_of : Item → ℕ
-calls_of (Ask seat call) = 1
-calls_of other = 0
+abbrev pub item_calls : Item → ℕ
+item_calls (Ask seat call) = 1
+item_calls other = 0
 
 -- the turns that an item asks for
-abbrev pub turns_of : Item → ℕ
-turns_of (Turn seat count) = count
-turns_of other = 0
+abbrev pub item_turns : Item → ℕ
+item_turns (Turn seat count) = count
+item_turns other = 0
 
 -- the most rows that an item's answer may have: for a range as many as it has numbers, and at most a range's buffer
 abbrev pub rows_of : ConfigParts → Item → ℕ
@@ -85,13 +85,13 @@ most_rows = 4194304
 
 -- there aren't too many calls, turns or rows of ranges
 pub record AreFew (p : ConfigParts) (found : List Item) : Type 0 where
-  pub calls : sum_by calls_of found ≤ most_calls
-  pub turns : sum_by turns_of found ≤ most_turns
+  pub calls : sum_by item_calls found ≤ most_calls
+  pub turns : sum_by item_turns found ≤ most_turns
   pub rows : sum_by (rows_of p) found ≤ most_rows
 
 -- every row is lawful, and there are too many calls, turns or rows of ranges
 abbrev pub IsTooMany : ConfigParts → Reading → Type 0
-IsTooMany p (Items heading found) = (most_calls < sum_by calls_of found) ⊎ (most_turns < sum_by turns_of found) ⊎ (most_rows < sum_by (rows_of p) found)
+IsTooMany p (Items heading found) = (most_calls < sum_by item_calls found) ⊎ (most_turns < sum_by item_turns found) ⊎ (most_rows < sum_by (rows_of p) found)
 IsTooMany p (Refused row why) = ⊥
 
 -- why a sheet isn't read

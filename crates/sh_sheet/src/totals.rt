@@ -1,7 +1,7 @@
 // How much a sheet asks for.
 ghost use Rattle.std.specs.Prelude.{◌≡◌, ◌↔◌, IsTrue};
 ghost use Rattle.sh_base.specs.Parts.{parts_of};
-ghost use Rattle.sh_sheet.specs.Sheet.{calls_of, rows_of, turns_of, AreFew};
+ghost use Rattle.sh_sheet.specs.Sheet.{item_calls, rows_of, item_turns, AreFew};
 
 use crate::Item;
 use sh_base::Config;
@@ -17,8 +17,8 @@ pub const MOST_TURNS: u64 = 50_000_000;
 pub const MOST_ROWS: u64 = 4_194_304;
 
 // Whether an item is a call, as a number.
-fn calls_of(item: &Item) -> u64
-    ensures { result ≡ calls_of item.now }
+fn item_calls(item: &Item) -> u64
+    ensures { result ≡ item_calls item.now }
 {
     match item {
         Item::Ask { .. } => 1,
@@ -27,8 +27,8 @@ fn calls_of(item: &Item) -> u64
 }
 
 // The turns that an item asks for.
-fn turns_of(item: &Item) -> u64
-    ensures { result ≡ turns_of item.now }
+fn item_turns(item: &Item) -> u64
+    ensures { result ≡ item_turns item.now }
 {
     match *item {
         Item::Turn { count, .. } => count,
@@ -57,8 +57,8 @@ pub(crate) fn are_few(cfg: &Config, items: &[Item]) -> bool
     let mut turns = 0u64;
     let mut rows = 0u64;
     for item in items {
-        calls = calls.saturating_add(calls_of(item));
-        turns = turns.saturating_add(turns_of(item));
+        calls = calls.saturating_add(item_calls(item));
+        turns = turns.saturating_add(item_turns(item));
         rows = rows.saturating_add(rows_of(cfg, item));
     }
     calls <= MOST_CALLS && turns <= MOST_TURNS && rows <= MOST_ROWS

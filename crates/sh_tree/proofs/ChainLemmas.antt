@@ -2,6 +2,7 @@
 use Rattle.std.proofs.Common.{◌≡◌, ℕ, zero, suc, ◌+◌, ◌<◌, ◌≤◌, Bool, true, false, List, [], ◌∷◌, ◌++◌, length, get_or, map, drop, refl, sym, ap, subst, ◌∙◌, inl, inr, length-append, arith}
 use Rattle.std.specs.List.{concat, AllByRecursion}
 use Rattle.std.proofs.lemmas.List.{get_or-drop}
+use Rattle.sh_logic.proofs.Lists.{all_join}
 use Rattle.sh_base.specs.declared.config.ConfigParts.{ConfigParts}
 use Rattle.sh_base.specs.Setting.{nodes, IsNode}
 use Rattle.sh_base.specs.Layout.{node_part}
@@ -14,7 +15,7 @@ use Rattle.sh_image.proofs.LeafLemmas.{spelled_one}
 use Rattle.sh_tree.specs.Lists.{first_of, is_in, AreDifferent}
 use Rattle.sh_tree.specs.Nodes.{NodeIn, inner_at, low_at, high_at, next_at}
 use Rattle.sh_tree.specs.Tree.{IsChain, IsLeafOf, IsChildIn, IsInnerOf, AreLevels, top_of, leaves_of, IsTree, children_of}
-use Rattle.sh_tree.proofs.ListLemmas.{in_cases, in_head, in_front, all_join, few_nodes}
+use Rattle.sh_tree.proofs.ListLemmas.{in_cases, in_head, in_front, few_nodes}
 
 -- a node's words spell one image
 pub nodes_are_one : (p : ConfigParts) (words : List ℕ) (n : ℕ) (a b : Image) → NodeIn p words n a → NodeIn p words n b → a ≡ b

@@ -9,7 +9,8 @@ use Rattle.sh_image.proofs.InnerLemmas.{length-pairs_in}
 use Rattle.sh_tree.specs.Lists.{outside, AreDifferent}
 use Rattle.sh_tree.specs.Nodes.{inner_at}
 use Rattle.sh_tree.specs.Tree.{IsChain, IsInnerOf, AreLevels, IsTree, children_of, unnamed_from, unposted_in}
-use Rattle.sh_tree.proofs.ListLemmas.{all_at, outside_none, outside_head, outside_all, different_front, different_behind}
+use Rattle.sh_logic.proofs.Lists.{all_at}
+use Rattle.sh_tree.proofs.ListLemmas.{outside_none, outside_head, outside_all, different_front, different_behind}
 use Rattle.sh_tree.proofs.ChainLemmas.{top_chain, top_fenced, child_first, children_rise, children_among, rising_differ}
 
 module _ (p : ConfigParts) (words : List ℕ) where
@@ -60,7 +61,7 @@ module _ (p : ConfigParts) (words : List ℕ) where
   pub pairs_more : (level : List ℕ) (i above : ℕ) (below : List ℕ) (pairs word found most : ℕ) → i < length level → AllByRecursion (IsInnerOf p words above below) level → pairs ≡ length (children_of p words (take i level)) → word ≡ get_or (node_part p words (get_or level i 0)) 5 0 → found ≡ min word most → most ≡ 2 * p.leaf → pairs + found ≡ length (children_of p words (take (i + 1) level))
   pairs_more level i above below pairs word found most inside h so_far is least all =
       let n = get_or level i 0 in
-      let inner : IsInnerOf p words above below n = all_at (IsInnerOf p words above below) level i h inside in
+      let inner : IsInnerOf p words above below n = all_at (IsInnerOf p words above below) level i 0 h inside in
       let few : word ≤ most = omega (arith, is, all, pairs_counted n, inner.spelled.lawful.count) in
       omega (arith, so_far, least ∙ min-eq_left few, is, pairs_counted n, children_more (take i level) n, ap (λ l. length (children_of p words l)) (take_more level i 0 inside))
 

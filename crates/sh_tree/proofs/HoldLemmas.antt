@@ -1,14 +1,15 @@
 -- The map that the leaves hold, leaf by leaf.
-use Rattle.std.proofs.Common.{◌≡◌, ◌⊎◌, ℕ, zero, suc, ◌+◌, ◌-◌, ◌<◌, ◌≤◌, Bool, true, false, cond, Option, Some, None, List, [], ◌∷◌, ◌++◌, length, get_or, eqb, drop, take, refl, sym, ap, subst, ◌∙◌, inl, inr, arith}
+use Rattle.std.proofs.Common.{◌≡◌, ◌⊎◌, ℕ, zero, suc, ◌+◌, ◌-◌, ◌<◌, ◌≤◌, Bool, true, false, Some, None, List, [], ◌∷◌, ◌++◌, length, get_or, eqb, drop, take, refl, sym, ap, subst, ◌∙◌, inl, inr, arith}
 use Rattle.std.specs.Prelude.{slice_get}
 use Rattle.std.specs.List.{AllByRecursion}
-use Rattle.std.specs.Ordering.{nat_cmp, eq_by_cmp}
+use Rattle.std.specs.Ordering.{nat_cmp}
 use Rattle.std.specs.Cmp.{nat_cmp_total}
 use Rattle.std.specs.FinMap.{find, from_entries, get-from_entries}
 use Rattle.std.proofs.lemmas.Bool.{cases_eq, cases_lt}
 use Rattle.std.proofs.lemmas.List.{drop_more, append-nil, take_more}
 use Rattle.std.proofs.lemmas.List.Concat.{flat_map-append}
 use Rattle.std.proofs.lemmas.Option.{get_or_from_slice_get}
+use Rattle.sh_logic.proofs.Lookups.{find_past, find_before}
 use Rattle.sh_base.specs.declared.config.ConfigParts.{ConfigParts}
 use Rattle.sh_base.specs.Setting.{node_size}
 use Rattle.sh_base.specs.Layout.{node_word, node_part}
@@ -37,24 +38,11 @@ adds_before es step at e old map new below is_at got before adds pairs start =
     let parts : drop (length es - (step + 1)) es ≡ e ∷ rest = ap (λ n. drop n es) here ∙ drop_more es at e (omega arith) ∙ (λ t. get_or_from_slice_get es at e e got t ∷ drop (next t) es) in
     adds (pairs_of rest ++ pairs) (before pairs start) ∙ ap from_entries (one_before (eqb e.key 0) e rest pairs refl ∙ ap (λ l. pairs_of l ++ pairs) (sym parts))
 
--- ---- the keys of the leaves so far lie below the next leaf's
-find_join : (xs ys : List (ℕ × List ℕ)) (q : ℕ) → find nat_cmp q xs ≡ None → find nat_cmp q (xs ++ ys) ≡ find nat_cmp q ys
-find_join [] ys q none = refl
-find_join (x ∷ xs) ys q none = past (eq_by_cmp nat_cmp q x.0) x.1 (find nat_cmp q xs) _ _ none (find_join xs ys q)
-  where
-    past : (b : Bool) (v : List ℕ) (o r s : Option (List ℕ)) → cond b (Some v) o ≡ None → (o ≡ None → r ≡ s) → cond b (Some v) r ≡ s
-    past true v o r s h rest = absurd (cc)
-    past false v o r s h rest = rest h
-
-find_before : (xs ys : List (ℕ × List ℕ)) (q : ℕ) → find nat_cmp q ys ≡ None → find nat_cmp q (xs ++ ys) ≡ find nat_cmp q xs
-find_before [] ys q none = none
-find_before (x ∷ xs) ys q none = ap (cond (eq_by_cmp nat_cmp q x.0) (Some x.1)) (find_before xs ys q none)
-
 -- lists that share no key may stand either way round
 turned : (xs ys : List (ℕ × List ℕ)) → ((q : ℕ) → (find nat_cmp q xs ≡ None) ⊎ (find nat_cmp q ys ≡ None)) → from_entries {R = nat_cmp} (xs ++ ys) ≡ from_entries (ys ++ xs)
 turned xs ys apart = same_by_keys _ _ (λ q. get-from_entries nat_cmp_total (xs ++ ys) q ∙ elim (apart q) [
-  | inl none ↦ find_join xs ys q none ∙ sym (find_before ys xs q none)
-  | inr none ↦ find_before xs ys q none ∙ sym (find_join ys xs q none)
+  | inl none ↦ find_past xs ys q none ∙ sym (find_before ys xs q none)
+  | inr none ↦ find_before xs ys q none ∙ sym (find_past ys xs q none)
 ] ∙ sym (get-from_entries nat_cmp_total (ys ++ xs) q))
 
 module _ (p : ConfigParts) (words : List ℕ) where
@@ -82,7 +70,7 @@ module _ (p : ConfigParts) (words : List ℕ) where
   none_before low (n ∷ ns) zero q h k below from = (omega (arith, h.1), refl)
   none_before low (n ∷ ns) (suc i) q h k below from =
       let rest = none_before (high_at p words n) ns i q h.3 k.1 (omega arith) from in
-      (omega (arith, h.1, k.0.spelled.lawful.fences, rest.0), find_join (pairs_of (leaf_at p words n).entries) (pairs_along p words (take i ns)) q (none_outside n q k.0 (inr (omega (arith, rest.0)))) ∙ rest.1)
+      (omega (arith, h.1, k.0.spelled.lawful.fences, rest.0), find_past (pairs_of (leaf_at p words n).entries) (pairs_along p words (take i ns)) q (none_outside n q k.0 (inr (omega (arith, rest.0)))) ∙ rest.1)
 
   along_push : (ns : List ℕ) (n : ℕ) → pairs_along p words (ns ++ n ∷ []) ≡ pairs_along p words ns ++ pairs_of (leaf_at p words n).entries
   along_push ns n = flat_map-append (λ m. pairs_of (leaf_at p words m).entries) ns (n ∷ []) ∙ ap (λ l. pairs_along p words ns ++ l) (append-nil (pairs_of (leaf_at p words n).entries))

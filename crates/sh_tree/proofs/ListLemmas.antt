@@ -1,16 +1,13 @@
 -- Lists of node numbers: what is in them, and how many there are.
 use Rattle.std.specs.Prelude.{◌||◌}
-use Rattle.std.proofs.Common.{◌≡◌, ◌≢◌, ◌⊎◌, ℕ, zero, suc, ◌+◌, ◌<◌, ◌≤◌, Bool, true, false, cond, eqb, List, [], ◌∷◌, ◌++◌, length, get_or, refl, sym, subst, ◌∙◌, inl, inr, arith}
+use Rattle.std.proofs.Common.{◌≡◌, ◌≢◌, ◌⊎◌, ℕ, ◌+◌, ◌<◌, ◌≤◌, Bool, true, false, cond, eqb, List, [], ◌∷◌, ◌++◌, length, refl, sym, subst, ◌∙◌, inl, inr, arith}
 use Rattle.std.specs.List.{list_any, AllByRecursion, IsDistinct}
 use Rattle.std.proofs.lemmas.Bool.{cases_eq, eq-eqb}
-use Rattle.std.proofs.lemmas.Bool.Decides.{nat_tests}
 use Rattle.std.proofs.lemmas.Map.Steps.{length-le_from_distinct_below}
+use Rattle.sh_logic.proofs.Tests.{differ_test}
 use Rattle.sh_base.specs.declared.config.ConfigParts.{ConfigParts}
 use Rattle.sh_base.specs.Setting.{nodes, IsNode}
 use Rattle.sh_tree.specs.Lists.{is_in, outside, AreDifferent}
-
-pub differ_test : (k q : ℕ) → k ≢ q → eqb k q ≡ false
-differ_test k q h = grind (arith, nat_tests)
 
 pub in_head : (n : ℕ) (ns : List ℕ) → is_in (n ∷ ns) n ≡ true
 in_head n ns = rw (eq-eqb n n refl) refl
@@ -31,20 +28,6 @@ in_front (x ∷ xs) ys n h = elim (in_cases x n xs h) [
   | inl e ↦ rw (eq-eqb x n e) refl
   | inr rest ↦ in_more x n (xs ++ ys) (in_front xs ys n rest)
 ]
-
--- all that a list has passes what its elements pass
-pub all_in : (P : ℕ → Type 0) (xs : List ℕ) (n : ℕ) → AllByRecursion P xs → is_in xs n ≡ true → P n
-all_in P [] n h among = absurd (cc)
-all_in P (x ∷ xs) n h among = elim (in_cases x n xs among) [ inl e ↦ subst P e h.0 | inr rest ↦ all_in P xs n h.1 rest ]
-
-pub all_join : (P : ℕ → Type 0) (xs ys : List ℕ) → AllByRecursion P xs → AllByRecursion P ys → AllByRecursion P (xs ++ ys)
-all_join P [] ys h k = k
-all_join P (x ∷ xs) ys h k = (h.0, all_join P xs ys h.1 k)
-
-pub all_at : (P : ℕ → Type 0) (xs : List ℕ) (i : ℕ) → AllByRecursion P xs → i < length xs → P (get_or xs i 0)
-all_at P [] i h below = absurd (omega arith)
-all_at P (x ∷ xs) zero h below = h.0
-all_at P (x ∷ xs) (suc i) h below = all_at P xs i h.1 (omega arith)
 
 -- both parts of a list without repeats are without
 not_front : (xs ys : List ℕ) (n : ℕ) → is_in (xs ++ ys) n ≡ false → is_in xs n ≡ false

@@ -4,7 +4,7 @@ ghost use Rattle.std.specs.FinMap.{entries};
 ghost use Rattle.sh_base.specs.Parts.{parts_of};
 ghost use Rattle.sh_base.specs.Setting.{pool_words, IsNode};
 ghost use Rattle.sh_base.specs.Layout.{node_part};
-ghost use Rattle.sh_map.specs.Map.{pair_of};
+ghost use Rattle.sh_map.specs.Map.{row_pair};
 ghost use Rattle.sh_image.specs.Leaf.{Leaf, Spells};
 ghost use Rattle.sh_tree.specs.Tree.{map_in, IsTree};
 ghost use Rattle.sh_tree.specs.Adding.{Adds};
@@ -55,7 +55,7 @@ fn add_leaf(map: &mut PlainMap, cfg: &Config, words: &[u64], node: u32) -> Resul
 /// as the pool's, and hold a tree; of words that hold none the rows say nothing.
 pub fn pairs_in(alloc: Global, cfg: &Config, words: &[u64]) -> Result<Rows, AllocError>
     requires { length words.now ≡ pool_words (parts_of cfg.now) }
-    ensures { (levels : List (List ℕ)) → IsTree (parts_of cfg.now) words.now levels → IfOk result (λ rows. map pair_of rows ≡ entries (map_in (parts_of cfg.now) words.now levels)) }
+    ensures { (levels : List (List ℕ)) → IsTree (parts_of cfg.now) words.now levels → IfOk result (λ rows. map row_pair rows ≡ entries (map_in (parts_of cfg.now) words.now levels)) }
 {
     let mut map = PlainMap::new(alloc);
     let leaves = leaves(alloc, cfg, words)?;

@@ -2,15 +2,13 @@
 use Rattle.std.proofs.Common.{◌≡◌, ℕ, zero, suc, ◌+◌, ◌*◌, ◌≤◌, List, [], ◌∷◌, ◌++◌, length, set, take, drop, Some, None, refl, sym, ap, ◌∙◌, arith}
 use Rattle.std.specs.Prelude.{slice_get}
 use Rattle.std.proofs.lemmas.List.{drop-drop, drop-take, take-take, take-append-le, drop-append-le, length-drop}
+use Rattle.sh_logic.proofs.Options.{some_is}
 use Rattle.sh_map.specs.declared.call.Call.{Call}
 use Rattle.sh_map.specs.declared.call.Reply.{Reply}
 use Rattle.sh_world.specs.declared.calls.Kept.{Kept}
 use Rattle.sh_world.specs.declared.calls.ReplyKind.TheVariants.{Waiting}
 use Rattle.sh_world.specs.States.{answered}
-use Rattle.sh_world.specs.Columns.{call_of, calls_of, given_of, key_of, kind_of, reply_kind_of, reply_of}
-
-some_is : {X : Type 0} {x y : X} → Some x ≡ Some y → x ≡ y
-some_is e = cc
+use Rattle.sh_world.specs.Columns.{call_of, calls_of, given_of, key_of, kind_of, reply_kind_of, reply_read}
 
 -- the values of the next call lie behind those of this one
 pub row_next : (i n : ℕ) → suc i * n ≡ n + i * n
@@ -83,7 +81,7 @@ module _ (width : ℕ) where
 
   -- a call is answered
   pub call_answered : (kept : List Kept) (words new : List ℕ) (i at : ℕ) (k : Kept) (v : List ℕ) (r : Reply) (f p : ℕ) → at ≡ i * (2 * width) + width → slice_get kept i ≡ Some k → length v ≡ width → IsWritten words new at v
-      → reply_of (reply_kind_of r) v ≡ Some r
+      → reply_read (reply_kind_of r) v ≡ Some r
       → calls_of width (set kept i (record { key = k.key; seat = k.seat; first = f; point = p; call = k.call; reply = reply_kind_of r })) new ≡ answered (calls_of width kept words) i r f p
   unfolding calls_of
   call_answered [] words new i at k v r f p is e long h back = refl
@@ -94,7 +92,7 @@ module _ (width : ℕ) where
       let a : take width new ≡ take width words = written_not words new at width v (omega (arith, first)) h in
       let b : take width (drop width new) ≡ v = ap (λ (n : ℕ). take n (drop width new)) (sym long) ∙ ap (λ (n : ℕ). take (length v) (drop n new)) (sym first) ∙ h.here in
       let c : drop (2 * width) new ≡ drop (2 * width) words = ap (λ (n : ℕ). drop n new) (sym end) ∙ h.behind ∙ ap (λ (n : ℕ). drop n words) end in
-      let told : reply_of (reply_kind_of r) (take width (drop width new)) ≡ Some r = ap (reply_of (reply_kind_of r)) b ∙ back in
+      let told : reply_read (reply_kind_of r) (take width (drop width new)) ≡ Some r = ap (reply_read (reply_kind_of r)) b ∙ back in
       λ t. record { seat = (same t).seat; call = call_of (same t).call (same t).key (a t); reply = told t; first = f; point = p } ∷ calls_of width kept (c t)
   call_answered (x ∷ kept) words new (suc i) at k v r f p is e long h back =
       let next = row_next i (2 * width) in

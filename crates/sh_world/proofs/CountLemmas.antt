@@ -11,8 +11,8 @@ use Rattle.sh_map.specs.declared.log.Entry.{Entry}
 use Rattle.sh_map.specs.declared.book.Done.{Done}
 use Rattle.sh_map.specs.Made.{entries_by}
 use Rattle.sh_core.specs.Actors.{made_by, updates}
-use Rattle.sh_core.specs.Keeps.{pending, pending_aim, pending_then, pending_write}
-use Rattle.sh_core_books.specs.Rest.{sum_below}
+use Rattle.sh_core.specs.Keeps.{pending, pending_aim, pending_filling, pending_need, pending_then, pending_write}
+use Rattle.sh_core_says.specs.Rest.{sum_below}
 use Rattle.sh_decide.specs.declared.state.Aim.{Aim}
 use Rattle.sh_decide.specs.declared.state.Aim.TheVariants.{Own, Posts}
 use Rattle.sh_client.specs.declared.state.Then.{Then}
@@ -20,9 +20,13 @@ use Rattle.sh_client.specs.declared.state.Then.TheVariants.{Ends, Starts, Takes}
 use Rattle.sh_client.specs.declared.state.Write.{Write}
 use Rattle.sh_client.specs.declared.state.Write.TheVariants.{Nothing, Entry as OneEntry, Leaf as WholeLeaf, LeftLeaf, Inner as WholeInner, LeftInner}
 use Rattle.sh_client.specs.declared.state.Phase.{Phase}
-use Rattle.sh_client.specs.declared.state.Phase.TheVariants.{Idle, Root, Read, Draw, Look, Grab, Hold, Seek, Fill, Waiting, Body, Unlock, Leave, Top, Raise, Swap, Ended}
-use Rattle.sh_client.specs.Machine.{Machine}
-use Rattle.sh_client.specs.Giving.{entries_of, made_in}
+use Rattle.sh_client.specs.declared.state.Phase.TheVariants.{Idle, Root, Read, Draw, Look, Grab, ReadLocked, Seek, Fill, Waiting, Body, Unlock, Leave, Swap, Ended}
+use Rattle.sh_client.specs.declared.state.Need.{Need}
+use Rattle.sh_client.specs.declared.state.Need.TheVariants.{ToSplit, ToGrow}
+use Rattle.sh_client.specs.declared.state.Filling.{Filling}
+use Rattle.sh_client.specs.declared.state.Filling.TheVariants.{RightHalf, NewRoot}
+use Rattle.sh_client.specs.Machine.{Machine, Registers}
+use Rattle.sh_client.specs.Giving.{changes_map, entries_of, made_in}
 use Rattle.sh_client.specs.Rests.{rests}
 use Rattle.sh_world.specs.declared.state.Given.{Given}
 use Rattle.sh_world.specs.Running.{numbers_from}
@@ -123,47 +127,46 @@ then_one seat c r (Takes aim n) = aim_one seat c r aim
 
 write_one : (seat : ℕ) (c : Call) (r : Reply) (write : Write) (after : Then) → length (pending_write seat c r write after) ≤ 1
 write_one seat c r Nothing after = then_one seat c r after
-write_one seat c r (OneEntry index) after = omega arith
-write_one seat c r WholeLeaf after = omega arith
-write_one seat c r LeftLeaf after = omega arith
 write_one seat c r WholeInner after = entries_one seat c r
 write_one seat c r LeftInner after = entries_one seat c r
+write_one seat c r write after = omega arith
 
-pub pending_one : (i : ℕ) (m : Machine) (ph : Phase) → length (pending i m ph) ≤ 1
-pending_one i m Idle = omega arith
-pending_one i m (Root aim) = aim_one i m.call m.reply aim
-pending_one i m (Read aim top) = aim_one i m.call m.reply aim
-pending_one i m (Draw aim n) = aim_one i m.call m.reply aim
-pending_one i m (Look aim n) = aim_one i m.call m.reply aim
-pending_one i m (Grab aim n) = aim_one i m.call m.reply aim
-pending_one i m (Hold aim d) = aim_one i m.call m.reply aim
-pending_one i m (Seek aim d) = aim_one i m.call m.reply aim
-pending_one i m (Fill n d fresh done write after) = write_one i m.call m.reply write after
-pending_one i m (Waiting n d write after) = write_one i m.call m.reply write after
-pending_one i m (Body n carry done write after) = write_one i m.call m.reply write after
-pending_one i m (Unlock n after) = then_one i m.call m.reply after
-pending_one i m (Leave n carry after) = then_one i m.call m.reply after
-pending_one i m (Top post root) = entries_one i m.call m.reply
-pending_one i m (Raise post root fresh done) = entries_one i m.call m.reply
-pending_one i m (Swap post root fresh) = entries_one i m.call m.reply
-pending_one i m Ended = omega arith
+need_one : (seat : ℕ) (c : Call) (r : Reply) (need : Need) → length (pending_need seat c r need) ≤ 1
+need_one seat c r (ToSplit aim depth) = aim_one seat c r aim
+need_one seat c r (ToGrow post root) = entries_one seat c r
 
-pub pending_none : (i : ℕ) (m : Machine) (ph : Phase) → rests ph ≡ true → length (pending i m ph) ≤ 0
-pending_none i m Idle e = omega arith
-pending_none i m Ended e = omega arith
-pending_none i m ph e = cc
+filling_one : (seat : ℕ) (c : Call) (r : Reply) (filling : Filling) → length (pending_filling seat c r filling) ≤ 1
+filling_one seat c r (RightHalf depth giving) = write_one seat c r giving.write giving.after
+filling_one seat c r (NewRoot post root) = entries_one seat c r
+
+pub pending_one : (i : ℕ) (r : Registers) (ph : Phase) → length (pending i r ph) ≤ 1
+pending_one i r (Root aim) = aim_one i r.call r.reply aim
+pending_one i r (Read aim top) = aim_one i r.call r.reply aim
+pending_one i r (Draw aim n) = aim_one i r.call r.reply aim
+pending_one i r (Look aim n) = aim_one i r.call r.reply aim
+pending_one i r (Grab aim n) = aim_one i r.call r.reply aim
+pending_one i r (ReadLocked aim d) = aim_one i r.call r.reply aim
+pending_one i r (Seek need) = need_one i r.call r.reply need
+pending_one i r (Fill fresh done filling) = filling_one i r.call r.reply filling
+pending_one i r (Waiting depth giving) = write_one i r.call r.reply giving.write giving.after
+pending_one i r (Body carry done giving) = write_one i r.call r.reply giving.write giving.after
+pending_one i r (Unlock n after) = then_one i r.call r.reply after
+pending_one i r (Leave n carry after) = then_one i r.call r.reply after
+pending_one i r (Swap post root fresh) = entries_one i r.call r.reply
+pending_one i r ph = omega arith
+
+pub pending_none : (i : ℕ) (r : Registers) (ph : Phase) → rests ph ≡ true → length (pending i r ph) ≤ 0
+pending_none i r Idle e = omega arith
+pending_none i r Ended e = omega arith
+pending_none i r ph e = cc
 
 -- the entries that a turn makes are its seat's
-made_stored : (m : Machine) (write : Write) (k : ℕ) (e : Entry) → slice_get (entries_of m write) k ≡ Some e → e.seat ≡ m.seat
-made_stored m (OneEntry index) k e h = entries_of_seat m.seat m.call m.reply k e h
-made_stored m WholeLeaf k e h = entries_of_seat m.seat m.call m.reply k e h
-made_stored m LeftLeaf k e h = entries_of_seat m.seat m.call m.reply k e h
-made_stored m write k e h = cc
-
-made_if : (m : Machine) (write : Write) (b : Bool) (k : ℕ) (e : Entry) → slice_get (if b then entries_of m write else []) k ≡ Some e → e.seat ≡ m.seat
-made_if m write true k e h = made_stored m write k e h
-made_if m write false k e h = cc
+made_if : (seat : ℕ) (es : List Entry) → ((k : ℕ) (e : Entry) → slice_get es k ≡ Some e → e.seat ≡ seat) → (b : Bool) (k : ℕ) (e : Entry) → slice_get (if b then es else []) k ≡ Some e → e.seat ≡ seat
+made_if seat es own true k e h = own k e h
+made_if seat es own false k e h = cc
 
 pub made_of_seat : (m : Machine) (ph : Phase) (k : ℕ) (e : Entry) → slice_get (made_in m ph) k ≡ Some e → e.seat ≡ m.seat
-made_of_seat m (Body n carry done write after) k e h = made_if m write (done + 1 == length m.body) k e h
+made_of_seat m (Body carry done giving) k e h =
+    let own = entries_of_seat m.seat m.registers.call m.registers.reply in
+    made_if m.seat (entries_of m giving.write) (made_if m.seat (entries_by m.seat m.registers.call m.registers.reply) own (changes_map giving.write)) (done + 1 == length m.registers.body) k e h
 made_of_seat m ph k e h = cc

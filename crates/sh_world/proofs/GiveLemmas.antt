@@ -4,27 +4,24 @@ use Rattle.std.specs.Prelude.{◌==◌, if◌then◌else◌, slice_get}
 use Rattle.std.proofs.lemmas.Bool.{cases_eq}
 use Rattle.std.proofs.lemmas.Option.{slice_get_within}
 use Rattle.std.proofs.lemmas.List.{length-set, length_push}
+use Rattle.sh_logic.proofs.Lists.{set_here, set_else, slice_get-append_left, slice_get-push_back}
+use Rattle.sh_logic.proofs.Options.{some_is}
 use Rattle.sh_base.specs.declared.config.ConfigParts.{ConfigParts}
 use Rattle.sh_base.specs.Setting.{all_seats}
 use Rattle.sh_map.specs.declared.call.Call.{Call}
 use Rattle.sh_map.specs.declared.book.Done.{Done}
 use Rattle.sh_map.specs.declared.log.Entry.{Entry}
 use Rattle.sh_map.specs.Calls.{IsInRange}
-use Rattle.sh_map.proofs.BookLemmas.{slice_get-append_left, slice_get-push_back}
 use Rattle.sh_client.specs.Sound.{IsPointCall}
 use Rattle.sh_core.specs.Core.{AreSame}
-use Rattle.sh_core.proofs.Calls.{same_keeps}
+use Rattle.sh_core.proofs.Moves.{same_keeps}
 use Rattle.sh_world.specs.declared.state.Given.{Given}
 use Rattle.sh_world.specs.States.{Place, State, actor_of, dones_by, dones_of, HasActor, IsLeft}
 use Rattle.sh_world.specs.Turning.{give_at, give_of, queued}
 use Rattle.sh_world.specs.Running.{numbers_from, IsGiven, IsPlace, IsRunning, IsWorld}
 use Rattle.sh_world.proofs.DoneLemmas.{dones_waits}
-use Rattle.sh_world.proofs.MoveLemmas.{set_else, set_here}
 use Rattle.sh_world.proofs.PlaceLemmas.{number_in}
 use Rattle.sh_world.proofs.WantLemmas.{lines_still}
-
-some_is : {X : Type 0} {x y : X} → Some x ≡ Some y → x ≡ y
-some_is e = cc
 
 abbrev last : (seat n : ℕ) → Given → Bool → List ℕ
 last seat n g t = if t then n ∷ [] else []
@@ -115,7 +112,7 @@ module _ (s : State) (run : IsRunning s) (i : ℕ) (q : Place) (at : slice_get s
   pub given_runs : IsRunning (give_of s i call)
   given_runs = subst (λ (o : Option Place). IsRunning (give_at s i call o)) (sym at) (record {
     setting = run.setting;
-    inv = same_keeps s.setting run.setting s.words s.log (HasActor s.seats s.calls) (HasActor (set s.seats i Q) C) (IsLeft s.setting s.lines) run.inv same;
+    inv = same_keeps s.setting s.words s.log (HasActor s.seats s.calls) (HasActor (set s.seats i Q) C) (IsLeft s.setting s.lines) (IsLeft s.setting s.lines) run.inv same (record { on = λ l c d o. o; back = λ l c d o. o });
     seats = length-set s.seats i Q ∙ run.seats;
     lines = lines_still s.setting run.setting s.lines s.seats i q Q at run.lines refl (inr refl);
     places = λ j r e. elim (seat_of j r e) [

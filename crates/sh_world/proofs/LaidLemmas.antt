@@ -9,7 +9,7 @@ use Rattle.sh_base.specs.Places.{Counter}
 use Rattle.sh_base.proofs.LayoutLemmas.{node_word_low}
 use Rattle.sh_base.proofs.PlacesLemmas.{are_places_apart}
 use Rattle.sh_image.specs.Leaf.{Leaf, leaf_words}
-use Rattle.sh_own.specs.Laid.{blank_leaf, AreLaid}
+use Rattle.sh_image.specs.Laid.{AreLaid, blank_leaf}
 use Rattle.sh_world.specs.Laid.{bare_words, first_leaf}
 
 -- the counter of server 0 lies in the pool

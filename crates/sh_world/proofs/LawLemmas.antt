@@ -7,6 +7,7 @@ use Rattle.std.proofs.lemmas.Option.{slice_get_cases, slice_get_past}
 use Rattle.std.proofs.lemmas.List.{length-append}
 use Rattle.std.proofs.lemmas.List.Elements.{filter-append}
 use Rattle.std.proofs.lemmas.List.Kept.{AllPairs-cons}
+use Rattle.sh_logic.proofs.Lists.{set_same}
 use Rattle.sh_map.specs.declared.call.Reply.{Reply}
 use Rattle.sh_map.specs.declared.book.Done.{Done}
 use Rattle.sh_map.specs.declared.log.Entry.{Entry}
@@ -15,28 +16,28 @@ use Rattle.sh_client.specs.declared.state.Phase.{Phase}
 use Rattle.sh_client.specs.declared.state.Phase.TheVariants.{Body}
 use Rattle.sh_client.specs.declared.state.Write.{Write}
 use Rattle.sh_client.specs.declared.state.Write.TheVariants.{Entry as OneEntry, Leaf as WholeLeaf, LeftLeaf}
-use Rattle.sh_client.specs.Giving.{entries_of, made_in}
+use Rattle.sh_client.specs.Giving.{changes_map, entries_of, made_in}
+use Rattle.sh_map.specs.Made.{entries_by}
 use Rattle.sh_client.specs.Machine.{Machine}
 use Rattle.sh_client.specs.declared.state.Want.{Want}
 use Rattle.sh_client.specs.declared.state.Want.TheVariants as want
 use Rattle.sh_client.specs.Rests.{is_resting}
 use Rattle.sh_client.specs.Wants.{want_of}
 use Rattle.sh_core.specs.Actors.{Actor}
-use Rattle.sh_core_books.specs.Books.{numbered, IsBookOf}
-use Rattle.sh_core_books.proofs.AtRest.{at_rest}
-use Rattle.sh_core_books.proofs.Books.{books_are_lawful, calls_are_answered}
-use Rattle.sh_core_books.proofs.Moments.{each_moment}
-use Rattle.sh_core_books.proofs.Refusals.{refusals_have_causes}
+use Rattle.sh_core_says.specs.Books.{numbered, IsBookOf}
+use Rattle.sh_core_says.proofs.AtRest.{at_rest}
+use Rattle.sh_core_says.proofs.Books.{books_are_lawful, calls_are_answered}
+use Rattle.sh_core_says.proofs.Moments.{each_moment}
+use Rattle.sh_core_says.proofs.Refusals.{refusals_have_causes}
 use Rattle.sh_core_turns.proofs.Senses.{never_senseless}
 use Rattle.sh_world.specs.declared.state.Given.{Given}
 use Rattle.sh_world.specs.States.{Place, State, actor_of, done_in, dones_by, dones_from, dones_of}
-use Rattle.sh_world.specs.Turning.{answer_at, answer_in, answer_of, asked, asked_in, is_done, is_idle, is_idle_at, started, starts, starts_next, took, turn_at}
-use Rattle.sh_world.specs.Lines.{stand_in, IsIn}
+use Rattle.sh_world.specs.Turning.{answer_at, turn_answer_in, answer_of, asked, asked_in, is_done, is_idle, is_idle_at, started, starts, starts_next, took, turn_at, turn_of}
+use Rattle.sh_client.specs.InLine.{stand_in, IsIn}
 use Rattle.sh_world.specs.Running.{numbers_from, IsRunning}
-use Rattle.sh_world.specs.Laws.{entries_at, entries_in, AllIdle, Clients, Extends, IdlesRight, Rights, IsLawful}
+use Rattle.sh_world.specs.Laws.{entries_at, entries_wanted, AllIdle, Clients, Extends, IdlesRight, Rights, IsLawfulWorld}
 use Rattle.sh_world.specs.declared.turn.Turn.TheVariants as turn
 use Rattle.sh_world.proofs.CountLemmas.{entries_one}
-use Rattle.sh_world.proofs.MoveLemmas.{set_same}
 use Rattle.sh_world.proofs.PlaceLemmas.{number_in}
 use Rattle.sh_world.proofs.RunLemmas.{log_few, seat_at}
 use Rattle.sh_world.proofs.StartLemmas.{rests_done}
@@ -142,7 +143,7 @@ module _ (s : State) (run : IsRunning s) where
       let l = run.lines.each lock compute h.line h.lock_is h.compute_is h.here in
       let x = l.each 0 (omega (arith, (l.left depth h.left).0)) in
       let phase = (run.places x.seat x.place x.stands.here).rests (idle_rests x.seat x.place x.stands.here (idle x.seat x.place x.stands.here)) in
-      subst (IsIn lock) (ap (stand_in x.place.client.setting x.place.client) phase) x.stands.stands
+      subst (IsIn lock) (ap (stand_in x.place.client.setting x.place.client.registers) phase) x.stands.stands
 
   -- all calls have ended
   all_ended : AllIdle s → (k : ℕ) (g : Given) → slice_get s.calls k ≡ Some g → g.reply ≢ None
@@ -154,7 +155,7 @@ module _ (s : State) (run : IsRunning s) where
       let numbers = ap length pl.numbers in
       ended_all_of g.seat 1 1 s.calls (pl.count ∙ all ∙ numbers) k g e refl none
 
-  pub lawful : IsLawful s
+  pub lawful : IsLawfulWorld s
   lawful = record {
     seats = run.seats;
     moment = each_moment s.setting s.words s.log (Clients s) (Rights s) run.inv;
@@ -170,29 +171,19 @@ module _ (s : State) (run : IsRunning s) where
 
 -- ---- the log
 
-took_log : (s : State) (i : ℕ) (r : Place) (w : Want) → (took s i r w).log ≡ s.log ++ entries_in r w
-took_log s i r (want.Event e) = refl
-took_log s i r (want.Draw lock) = refl
-took_log s i r (want.Look lock) = refl
-took_log s i r (want.Waiting lock) = refl
-took_log s i r (want.Leave lock carry) = refl
+took_log : (s : State) (i : ℕ) (r : Place) (w : Want) → (took s i r w).log ≡ s.log ++ entries_wanted r w
 took_log s i r want.Done = sym (append-nil s.log)
-
-stored_one : (m : Machine) (write : Write) → length (entries_of m write) ≤ 1
-stored_one m (OneEntry index) = entries_one m.seat m.call m.reply
-stored_one m WholeLeaf = entries_one m.seat m.call m.reply
-stored_one m LeftLeaf = entries_one m.seat m.call m.reply
-stored_one m write = omega arith
+took_log s i r w = refl
 
 if_one : (es : List Entry) → length es ≤ 1 → (b : Bool) → length (if b then es else []) ≤ 1
 if_one es h true = h
 if_one es h false = omega arith
 
 made_one : (m : Machine) (ph : Phase) → length (made_in m ph) ≤ 1
-made_one m (Body n carry done write after) = if_one (entries_of m write) (stored_one m write) (done + 1 == length m.body)
+made_one m (Body carry done giving) = if_one (entries_of m giving.write) (if_one (entries_by m.seat m.registers.call m.registers.reply) (entries_one m.seat m.registers.call m.registers.reply) (changes_map giving.write)) (done + 1 == length m.registers.body)
 made_one m ph = omega arith
 
-in_one : (r : Place) (w : Want) → length (entries_in r w) ≤ 1
+in_one : (r : Place) (w : Want) → length (entries_wanted r w) ≤ 1
 in_one r (want.Event e) = made_one r.client r.client.phase
 in_one r w = omega arith
 
@@ -205,12 +196,33 @@ extends s i = let h = extends_at s i (slice_get s.seats i) in record { log = h.0
 
 -- ---- idle turns
 
-answer_done : (words : List ℕ) (w : Want) → answer_in words w ≡ turn.Idle → w ≡ want.Done
+answer_done : (words : List ℕ) (w : Want) → turn_answer_in words w ≡ turn.Idle → w ≡ want.Done
 answer_done words want.Done e = refl
 answer_done words w e = cc
 
 started_wants : (q : Place) (n seen : ℕ) (call : Call) → want_of (started q n call seen).client ≢ want.Done
 started_wants q n seen call e = cc
+
+module _ (s : State) (i : ℕ) (q : Place) where
+  asked_idle : is_idle q ≡ true → asked s.calls q (length s.log) ≡ q
+  asked_idle e =
+      let a = and_parts (is_done (want_of q.client)) (q.ended == length q.numbers) e in
+      let n = eqb-true q.ended (length q.numbers) a.1 in
+      let past = slice_get_past q.numbers q.ended (omega (arith, n)) in
+      ap (asked_in s.calls q (length s.log)) (done_is (want_of q.client) a.0) ∙ ap (starts_next s.calls q (length s.log)) past
+
+  idle_wants : is_idle q ≡ true → want_of (asked s.calls q (length s.log)).client ≡ want.Done
+  idle_wants e = ap (λ (x : Place). want_of x.client) (asked_idle e) ∙ done_is (want_of q.client) (and_parts (is_done (want_of q.client)) (q.ended == length q.numbers) e).0
+
+  turned_idle : slice_get s.seats i ≡ Some q → is_idle q ≡ true → turn_at s i (Some q) ≡ s
+  turned_idle at idle = (λ z. took s i (asked_idle idle z) (idle_wants idle z)) ∙ (λ z. record { setting = s.setting; words = s.words; log = s.log; seats = set_same s.seats i q at z; calls = s.calls; lines = s.lines })
+
+-- a turn of an idle seat changes nothing
+pub turn_idle : (s : State) (i : ℕ) → is_idle_at (slice_get s.seats i) ≡ true → turn_of s i ≡ s
+turn_idle s i idle = by_seat (slice_get s.seats i) refl idle where
+  by_seat : (o : Option Place) → slice_get s.seats i ≡ o → is_idle_at o ≡ true → turn_at s i o ≡ s
+  by_seat None e idle = refl
+  by_seat (Some q) e idle = turned_idle s i q e idle
 
 module _ (s : State) (run : IsRunning s) (i : ℕ) (q : Place) (at : slice_get s.seats i ≡ Some q) where
   calls_none : (o : Option Given) (n : ℕ) → slice_get s.calls (n - 1) ≡ o → slice_get q.numbers q.ended ≡ Some n → want_of (starts s.calls q n (length s.log) o).client ≡ want.Done → ⊥
@@ -238,29 +250,15 @@ module _ (s : State) (run : IsRunning s) (i : ℕ) (q : Place) (at : slice_get s
   idle_from want.Done e d =
       let all = ended_all (next_none (slice_get q.numbers q.ended) refl d) in
       ap (λ (v : Want). is_done v && (q.ended == length q.numbers)) e ∙ eq-eqb q.ended (length q.numbers) all
-  idle_from (want.Event x) e d = let f : want.Event x ≡ want.Done = sym e ∙ d in cc
-  idle_from (want.Draw lock) e d = let f : want.Draw lock ≡ want.Done = sym e ∙ d in cc
-  idle_from (want.Look lock) e d = let f : want.Look lock ≡ want.Done = sym e ∙ d in cc
-  idle_from (want.Waiting lock) e d = let f : want.Waiting lock ≡ want.Done = sym e ∙ d in cc
-  idle_from (want.Leave lock carry) e d = let f : want.Leave lock carry ≡ want.Done = sym e ∙ d in cc
-
-  asked_idle : is_idle q ≡ true → asked s.calls q (length s.log) ≡ q
-  asked_idle e =
-      let a = and_parts (is_done (want_of q.client)) (q.ended == length q.numbers) e in
-      let n = eqb-true q.ended (length q.numbers) a.1 in
-      let past = slice_get_past q.numbers q.ended (omega (arith, n)) in
-      ap (asked_in s.calls q (length s.log)) (done_is (want_of q.client) a.0) ∙ ap (starts_next s.calls q (length s.log)) past
-
-  idle_wants : is_idle q ≡ true → want_of (asked s.calls q (length s.log)).client ≡ want.Done
-  idle_wants e = ap (λ (x : Place). want_of x.client) (asked_idle e) ∙ done_is (want_of q.client) (and_parts (is_done (want_of q.client)) (q.ended == length q.numbers) e).0
+  idle_from w e d = let f : w ≡ want.Done = sym e ∙ d in cc
 
   answers_idle : answer_of s i ≡ turn.Idle → is_idle q ≡ true
   answers_idle e = idle_from (want_of q.client) refl (answer_done s.words (want_of (asked s.calls q (length s.log)).client) (sym (ap (answer_at s) at) ∙ e))
 
   pub idles_right : IdlesRight s i
   idles_right = record {
-    cause = (λ e. ap is_idle_at at ∙ answers_idle e, λ e. ap (answer_at s) at ∙ ap (answer_in s.words) (idle_wants (sym (ap is_idle_at at) ∙ e)));
-    same = λ e. let idle = answers_idle e in ap (turn_at s i) at ∙ (λ z. took s i (asked_idle idle z) ((idle_wants idle) z)) ∙ (λ z. record { setting = s.setting; words = s.words; log = s.log; seats = set_same s.seats i q at z; calls = s.calls; lines = s.lines });
+    cause = (λ e. ap is_idle_at at ∙ answers_idle e, λ e. ap (answer_at s) at ∙ ap (turn_answer_in s.words) (idle_wants s i q (sym (ap is_idle_at at) ∙ e)));
+    same = λ e. turn_idle s i (ap is_idle_at at ∙ answers_idle e);
   }
 
 pub idle_at : (s : State) (run : IsRunning s) (i : ℕ) → i < length s.seats → IdlesRight s i

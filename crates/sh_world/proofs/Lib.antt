@@ -3,7 +3,6 @@ pub mod WideLemmas
 pub mod PointLemmas
 pub mod DoneLemmas
 pub mod SettleLemmas
-pub mod StandLemmas
 pub mod LineLemmas
 pub mod MoveLemmas
 pub mod PlaceLemmas

@@ -2,51 +2,31 @@
 use Rattle.std.proofs.Common.{◌≡◌, ◌≢◌, ◌⊎◌, ℕ, zero, suc, ◌+◌, ◌-◌, ◌<◌, ◌≤◌, inl, inr, Bool, true, false, List, [], ◌∷◌, ◌++◌, length, set, Some, None, refl, sym, ap, ◌∙◌, subst, arith}
 use Rattle.std.specs.Prelude.{if◌then◌else◌, slice_get}
 use Rattle.std.proofs.lemmas.Bool.{cases_eq}
+use Rattle.sh_logic.proofs.Lists.{set_here, set_else}
 use Rattle.sh_base.specs.declared.config.ConfigParts.{ConfigParts}
 use Rattle.sh_map.specs.declared.book.Done.{Done}
 use Rattle.sh_map.specs.declared.log.Entry.{Entry}
 use Rattle.sh_client.specs.declared.state.Phase.TheVariants.{Ended}
 use Rattle.sh_client.specs.declared.state.Phase.{Phase}
 use Rattle.sh_client.specs.Machine.{Machine}
-use Rattle.sh_core.specs.Actors.{Actor, becomes, ending, going as actor_going, has_ended, point_of, rested}
-use Rattle.sh_core.specs.Core.{Inv, Moves, RestKeeps}
+use Rattle.sh_map.specs.Points.{point_of}
+use Rattle.sh_core.specs.Actors.{Actor, becomes, ending, actor_going, rested}
+use Rattle.sh_client.specs.Rests.{has_ended}
+use Rattle.sh_core.specs.Core.{Instead, Inv, Moves, RestKeeps}
+use Rattle.sh_core.proofs.Moves.{moves_from as core_moves, put_moves}
 use Rattle.sh_world.specs.declared.state.Given.{Given}
 use Rattle.sh_world.specs.States.{Place, actor_of, answered, dones_by, dones_of, HasActor}
 use Rattle.sh_world.specs.Turning.{calls_after, going, place_after, resting}
 use Rattle.sh_world.proofs.DoneLemmas.{by_other, by_own}
-
-pub set_here : {X : Type 0} (xs : List X) (i : ℕ) (x : X) → i < length xs → slice_get (set xs i x) i ≡ Some x
-set_here [] i x lt = absurd (omega (arith, lt))
-set_here (y ∷ xs) zero x lt = refl
-set_here (y ∷ xs) (suc i) x lt = set_here xs i x (omega (arith, lt))
-
-pub set_else : {X : Type 0} (xs : List X) (i j : ℕ) (x : X) → j ≢ i → slice_get (set xs i x) j ≡ slice_get xs j
-set_else [] i j x ne = refl
-set_else (y ∷ xs) zero zero x ne = absurd (ne refl)
-set_else (y ∷ xs) zero (suc j) x ne = refl
-set_else (y ∷ xs) (suc i) zero x ne = refl
-set_else (y ∷ xs) (suc i) (suc j) x ne = set_else xs i j x (λ e. ne (ap suc e))
 
 pub set_again : {X : Type 0} (xs : List X) (i : ℕ) (x y : X) → set (set xs i x) i y ≡ set xs i y
 set_again [] i x y = refl
 set_again (z ∷ xs) zero x y = refl
 set_again {X = X} (z ∷ xs) (suc i) x y = ap (λ (ys : List X). z ∷ ys) (set_again xs i x y)
 
-pub set_same : {X : Type 0} (xs : List X) (i : ℕ) (x : X) → slice_get xs i ≡ Some x → set xs i x ≡ xs
-set_same [] i x e = refl
-set_same (z ∷ xs) zero x e = cc
-set_same {X = X} (z ∷ xs) (suc i) x e = ap (λ (ys : List X). z ∷ ys) (set_same xs i x e)
-
 -- the others' actors stay where their ended calls do
 abbrev pub AgreeBut : (i : ℕ) → (calls now : List Given) → Type 0
 AgreeBut i calls now = (j : ℕ) → j ≢ i → dones_by j (dones_of now) ≡ dones_by j (dones_of calls)
-
--- the seat has one actor, and the others have theirs
-abbrev pub Instead : (Has : ℕ → Actor → Type 0) → (i : ℕ) → Actor → ℕ → Actor → Type 0
-Instead Has i a j b = ((j ≡ i) × (b ≡ a)) ⊎ ((j ≢ i) × Has j b)
-
-pub instead_moves : (Has : ℕ → Actor → Type 0) (i : ℕ) (a : Actor) → Moves Has i a (Instead Has i a)
-instead_moves Has i a = record { back = λ j b h. h; here = inl (refl, refl); on = λ j b ne h. inr (ne, h) }
 
 module _ (seats : List Place) (calls now : List Given) (i : ℕ) (q : Place) (a : Actor) (lt : i < length seats) (agree : AgreeBut i calls now) (is : a ≡ actor_of now i q) where
   other_on : (j : ℕ) (b : Actor) → j ≢ i → HasActor seats calls j b → HasActor (set seats i q) now j b
@@ -66,14 +46,7 @@ module _ (seats : List Place) (calls now : List Given) (i : ℕ) (q : Place) (a 
         some_is e = cc
 
   pub moves_from : (Has : ℕ → Actor → Type 0) → ((j : ℕ) (b : Actor) → j ≢ i → Has j b → HasActor seats calls j b) → ((j : ℕ) (b : Actor) → j ≢ i → HasActor seats calls j b → Has j b) → Moves Has i a (HasActor (set seats i q) now)
-  moves_from Has to from = record {
-    back = λ j b h. elim (cases_eq j i) [
-      | inl e ↦ inl (e, own_back b (subst (λ (k : ℕ). HasActor (set seats i q) now k b) e h))
-      | inr ne ↦ inr (ne, from j b ne (other_back j b ne h))
-    ];
-    here = own_here;
-    on = λ j b ne h. other_on j b ne (to j b ne h);
-  }
+  moves_from Has to from = core_moves Has (HasActor (set seats i q) now) i a own_here own_back (λ j b ne h. from j b ne (other_back j b ne h)) (λ j b ne h. other_on j b ne (to j b ne h))
 
   pub moves_seats : Moves (HasActor seats calls) i a (HasActor (set seats i q) now)
   moves_seats = moves_from (HasActor seats calls) (λ j b ne h. h) (λ j b ne h. h)
@@ -84,7 +57,7 @@ pub record IsNext (calls : List Given) (i number : ℕ) (m : Machine) : Type 0 w
   pub real : 1 ≤ number
   pub here : slice_get calls (number - 1) ≡ Some given
   pub seat_is : given.seat ≡ i
-  pub call_is : given.call ≡ m.call
+  pub call_is : given.call ≡ m.registers.call
   pub later : (j : ℕ) (x : Given) → number - 1 ≤ j → slice_get calls j ≡ Some x → x.seat ≡ i → x.reply ≡ None
 
 phase_ended : (ph : Phase) → has_ended ph ≡ true → ph ≡ Ended
@@ -95,29 +68,29 @@ module _ (p : ConfigParts) (seats : List Place) (calls : List Given) (i : ℕ) (
   abbrev A : Actor
   A = actor_of calls i q
 
-  pub agree_ended : IsNext calls i q.number m → AgreeBut i calls (answered calls (q.number - 1) m.reply q.first (point_of log q.first q.point m.call m.reply))
-  agree_ended n j ne = by_other j 1 calls (q.number - 1) m.reply q.first (point_of log q.first q.point m.call m.reply) n.given n.here (λ e. ne (sym e ∙ n.seat_is))
+  pub agree_ended : IsNext calls i q.number m → AgreeBut i calls (answered calls (q.number - 1) m.registers.reply q.first (point_of log q.first q.point m.registers.call m.registers.reply))
+  agree_ended n j ne = by_other j 1 calls (q.number - 1) m.registers.reply q.first (point_of log q.first q.point m.registers.call m.registers.reply) n.given n.here (λ e. ne (sym e ∙ n.seat_is))
 
   -- the seat's ended calls, with this one
-  own_ended : IsNext calls i q.number m → rested (ending i A log m) ≡ actor_of (answered calls (q.number - 1) m.reply q.first (point_of log q.first q.point m.call m.reply)) i (resting q log m)
+  own_ended : IsNext calls i q.number m → rested (ending i A log m) ≡ actor_of (answered calls (q.number - 1) m.registers.reply q.first (point_of log q.first q.point m.registers.call m.registers.reply)) i (resting q log m)
   own_ended n =
       let e : 1 + (q.number - 1) ≡ q.number = omega (arith, n.real) in
       ap (λ (ds : List Done). record { client = (rested (ending i A log m)).client; number = q.number; seen = length log; first = length log; point = q.point; dones = ds })
-      (sym (by_own i 1 calls (q.number - 1) m.reply q.first (point_of log q.first q.point m.call m.reply) n.given n.here n.seat_is n.later
-      ∙ (λ z. dones_by i (dones_of calls) ++ record { n = e z; seat = i; call = n.call_is z; reply = m.reply; first = q.first; point = point_of log q.first q.point m.call m.reply; rows = [] } ∷ [])))
+      (sym (by_own i 1 calls (q.number - 1) m.registers.reply q.first (point_of log q.first q.point m.registers.call m.registers.reply) n.given n.here n.seat_is n.later
+      ∙ (λ z. dones_by i (dones_of calls) ++ record { n = e z; seat = i; call = n.call_is z; reply = m.registers.reply; first = q.first; point = point_of log q.first q.point m.registers.call m.registers.reply; rows = [] } ∷ [])))
 
   -- The law's step, whatever relation tells the actors after it, gives the world's.
   module _ (words : List ℕ) (Out : ℕ → ℕ → ℕ → Type 0) (rest_law : RestKeeps p)
       (step : (Now : ℕ → Actor → Type 0) → Moves (HasActor seats calls) i (becomes i A log more m) Now → Inv p words (log ++ more) Now Out) (next : has_ended m.phase ≡ true → IsNext calls i q.number m) where
-    by_end : (b : Bool) → has_ended m.phase ≡ b → Inv p words (log ++ more) (HasActor (set seats i (if b then resting q log m else going q log more m)) (if b then answered calls (q.number - 1) m.reply q.first (point_of log q.first q.point m.call m.reply) else calls)) Out
+    by_end : (b : Bool) → has_ended m.phase ≡ b → Inv p words (log ++ more) (HasActor (set seats i (if b then resting q log m else going q log more m)) (if b then answered calls (q.number - 1) m.registers.reply q.first (point_of log q.first q.point m.registers.call m.registers.reply) else calls)) Out
     by_end false e = step (HasActor (set seats i (going q log more m)) calls) (moves_seats seats calls calls i (going q log more m) (becomes i A log more m) lt (λ j ne. refl) (ap (λ (b : Bool). if b then ending i A log m else actor_going A log more m) e))
     by_end true e =
         let n = next e in
         let ended : Actor = ending i A log m in
         let is : becomes i A log more m ≡ ended = ap (λ (b : Bool). if b then ending i A log m else actor_going A log more m) e in
-        let inv = step (Instead (HasActor seats calls) i (becomes i A log more m)) (instead_moves (HasActor seats calls) i (becomes i A log more m)) in
-        rest_law words (log ++ more) (Instead (HasActor seats calls) i (becomes i A log more m)) (HasActor (set seats i (resting q log m)) (answered calls (q.number - 1) m.reply q.first (point_of log q.first q.point m.call m.reply))) Out i ended inv (inl (refl, sym is)) (phase_ended m.phase e)
-        (moves_from seats calls (answered calls (q.number - 1) m.reply q.first (point_of log q.first q.point m.call m.reply)) i (resting q log m) (rested ended) lt (agree_ended n) (own_ended n) (Instead (HasActor seats calls) i (becomes i A log more m))
+        let inv = step (Instead (HasActor seats calls) i (becomes i A log more m)) (put_moves (HasActor seats calls) i (becomes i A log more m)) in
+        rest_law words (log ++ more) (Instead (HasActor seats calls) i (becomes i A log more m)) (HasActor (set seats i (resting q log m)) (answered calls (q.number - 1) m.registers.reply q.first (point_of log q.first q.point m.registers.call m.registers.reply))) Out i ended inv (inl (refl, sym is)) (phase_ended m.phase e)
+        (moves_from seats calls (answered calls (q.number - 1) m.registers.reply q.first (point_of log q.first q.point m.registers.call m.registers.reply)) i (resting q log m) (rested ended) lt (agree_ended n) (own_ended n) (Instead (HasActor seats calls) i (becomes i A log more m))
         (λ j b ne h. elim h [ inl k ↦ absurd (ne k.0) | inr k ↦ k.1 ]) (λ j b ne h. inr (ne, h)))
 
     pub settled_keeps : Inv p words (log ++ more) (HasActor (set seats i (place_after q log more m)) (calls_after calls q log m)) Out

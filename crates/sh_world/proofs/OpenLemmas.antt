@@ -2,19 +2,21 @@
 use Rattle.std.proofs.Common.{◌≡◌, ℕ, zero, suc, ◌+◌, ◌*◌, ◌<◌, ◌≤◌, List, [], ◌∷◌, ◌++◌, length, get_or, take, replicate, Option, Some, None, refl, sym, ap, ◌∙◌, subst, arith, inr, append-nil}
 use Rattle.std.specs.Prelude.{slice_get}
 use Rattle.std.proofs.lemmas.List.{length-replicate, length-take-le, take_more}
+use Rattle.sh_logic.proofs.Options.{none_some}
 use Rattle.sh_base.specs.declared.config.ConfigParts.{ConfigParts}
 use Rattle.sh_base.specs.Setting.{all_locks, all_seats, IsSetting}
 use Rattle.sh_map.specs.declared.call.Reply.{Reply}
 use Rattle.sh_map.specs.declared.book.Done.{Done}
-use Rattle.sh_own.specs.Laid.{AreLaid}
+use Rattle.sh_image.specs.Laid.{AreLaid}
 use Rattle.sh_client.specs.Machine.{Machine, fresh_machine}
 use Rattle.sh_core.specs.Actors.{Actor}
 use Rattle.sh_core.specs.Opening.{entered}
-use Rattle.sh_core.proofs.Opening.{laid_keeps}
+use Rattle.sh_core_turns.proofs.Opening.{laid_keeps}
 use Rattle.sh_world.specs.declared.state.Given.{Given}
 use Rattle.sh_world.specs.declared.state.Line.{Line}
 use Rattle.sh_world.specs.States.{Place, State, done_in, dones_of, free_line, fresh_from, fresh_place, fresh_state, HasActor, IsLeft}
-use Rattle.sh_world.specs.Lines.{stand_of, IsIn, IsLine, StandsIn}
+use Rattle.sh_world.specs.Lines.{IsLine, StandsIn}
+use Rattle.sh_client.specs.InLine.{stand_of, IsIn}
 use Rattle.sh_world.specs.Running.{IsPlace, IsRunning, IsWorld}
 use Rattle.sh_world.proofs.DoneLemmas.{dones_snoc}
 
@@ -58,9 +60,6 @@ free_at : (n i : ℕ) (l : Line) → slice_get (replicate n free_line) i ≡ Som
 free_at zero i l e = cc
 free_at (suc n) zero l e = cc
 free_at (suc n) (suc i) l e = free_at n i l e
-
-none_some : {d : ℕ} → None ≡ Some d → ⊥
-none_some e = cc
 
 module _ (p : ConfigParts) (ok : IsSetting p) (words : List ℕ) (laid : AreLaid p words) where
   abbrev S : List Place

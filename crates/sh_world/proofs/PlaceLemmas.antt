@@ -4,22 +4,20 @@ use Rattle.std.specs.Prelude.{◌==◌, if◌then◌else◌, slice_get}
 use Rattle.std.proofs.lemmas.Bool.{cases_eq}
 use Rattle.std.proofs.lemmas.Option.{slice_get_within}
 use Rattle.std.proofs.lemmas.List.{length_push}
+use Rattle.sh_logic.proofs.Options.{some_is}
 use Rattle.sh_map.specs.declared.call.Reply.{Reply}
 use Rattle.sh_map.specs.declared.log.Entry.{Entry}
 use Rattle.sh_client.specs.declared.state.Phase.{Phase}
 use Rattle.sh_client.specs.declared.state.Phase.TheVariants.{Idle, Ended}
 use Rattle.sh_client.specs.Machine.{Machine}
-use Rattle.sh_client.specs.Rests.{is_resting, rests}
-use Rattle.sh_core.specs.Actors.{has_ended, point_of}
+use Rattle.sh_client.specs.Rests.{has_ended, is_resting, rests}
+use Rattle.sh_map.specs.Points.{point_of}
 use Rattle.sh_world.specs.declared.state.Given.{Given}
 use Rattle.sh_world.specs.States.{Place, answered, dones_by, dones_of}
 use Rattle.sh_world.specs.Turning.{calls_after, going, place_after, resting, started}
 use Rattle.sh_world.specs.Running.{numbers_from, IsPlace}
 use Rattle.sh_world.proofs.DoneLemmas.{by_own, told}
 use Rattle.sh_world.proofs.MoveLemmas.{AgreeBut, IsNext}
-
-some_is : {X : Type 0} {x y : X} → Some x ≡ Some y → x ≡ y
-some_is e = cc
 
 -- a number is that of a call of the seat
 pub record IsNumber (calls : List Given) (seat n m : ℕ) : Type 0 where
@@ -85,7 +83,7 @@ get_answered (y ∷ calls) (suc k) r f p (suc j) x e = elim (get_answered calls 
 ]
 
 -- the next call of a busy seat
-pub next_is : (calls : List Given) (i : ℕ) (q : Place) (m : Machine) → IsPlace calls i q → is_resting q.client ≡ false → m.call ≡ q.client.call → IsNext calls i q.number m
+pub next_is : (calls : List Given) (i : ℕ) (q : Place) (m : Machine) → IsPlace calls i q → is_resting q.client ≡ false → m.registers.call ≡ q.client.registers.call → IsNext calls i q.number m
 next_is calls i q m h busy same =
     let n = number_in i 1 calls q.ended q.number (ap (λ (ns : List ℕ). slice_get ns q.ended) (sym h.numbers) ∙ h.busy busy) in
     record { given = n.given; real = n.low; here = n.here; seat_is = n.seat_is; call_is = h.call n.given busy n.here ∙ sym same; later = λ j x le at own. h.waiting q.number j x (h.busy busy) (omega (arith, le)) at own }
@@ -95,26 +93,26 @@ idle_phase Idle a b = refl
 idle_phase Ended a b = cc
 idle_phase ph a b = cc
 
-module _ (calls : List Given) (i : ℕ) (q : Place) (log more : List Entry) (m : Machine) (h : IsPlace calls i q) (busy : is_resting q.client ≡ false) (same : m.call ≡ q.client.call) where
+module _ (calls : List Given) (i : ℕ) (q : Place) (log more : List Entry) (m : Machine) (h : IsPlace calls i q) (busy : is_resting q.client ≡ false) (same : m.registers.call ≡ q.client.registers.call) where
   place_going : has_ended m.phase ≡ false → IsPlace calls i (going q log more m)
   place_going e = record { numbers = h.numbers; ended = h.ended; count = h.count; waiting = h.waiting; rests = λ r. idle_phase m.phase r e; busy = λ b. h.busy busy; call = λ g b at. h.call g busy at ∙ sym same }
 
   abbrev N : List Given
-  N = answered calls (q.number - 1) m.reply q.first (point_of log q.first q.point m.call m.reply)
+  N = answered calls (q.number - 1) m.registers.reply q.first (point_of log q.first q.point m.registers.call m.registers.reply)
 
   place_ended : IsPlace N i (resting q log m)
   place_ended =
       let n = next_is calls i q m h busy same in
       let inside = slice_get_within q.numbers q.ended q.number (h.busy busy) in
-      let numbers = numbers_answered i 1 calls (q.number - 1) m.reply q.first (point_of log q.first q.point m.call m.reply) in
+      let numbers = numbers_answered i 1 calls (q.number - 1) m.registers.reply q.first (point_of log q.first q.point m.registers.call m.registers.reply) in
       record {
         numbers = h.numbers ∙ sym numbers;
         ended = omega (arith, inside);
-        count = ap length (by_own i 1 calls (q.number - 1) m.reply q.first (point_of log q.first q.point m.call m.reply) n.given n.here n.seat_is n.later) ∙ length_push (dones_by i (dones_of calls)) _ ∙ ap (λ (c : ℕ). c + 1) h.count;
+        count = ap length (by_own i 1 calls (q.number - 1) m.registers.reply q.first (point_of log q.first q.point m.registers.call m.registers.reply) n.given n.here n.seat_is n.later) ∙ length_push (dones_by i (dones_of calls)) _ ∙ ap (λ (c : ℕ). c + 1) h.count;
         waiting = λ next place g at le here own.
             let more_one : q.ended + 1 ≡ suc q.ended = omega arith in
             let lt = rising i 1 calls q.ended q.number next (ap (λ (ns : List ℕ). slice_get ns q.ended) (sym h.numbers) ∙ h.busy busy) (ap (λ (ns : List ℕ). slice_get ns (suc q.ended)) (sym h.numbers) ∙ ap (slice_get q.numbers) (sym more_one) ∙ at) in
-            elim (get_answered calls (q.number - 1) m.reply q.first (point_of log q.first q.point m.call m.reply) place g here) [
+            elim (get_answered calls (q.number - 1) m.registers.reply q.first (point_of log q.first q.point m.registers.call m.registers.reply) place g here) [
               | inl was ↦ h.waiting q.number place g (h.busy busy) (omega (arith, lt, le)) was own
               | inr k ↦ absurd (omega (arith, lt, le, k.0, n.real))
             ];
@@ -135,16 +133,16 @@ module _ (calls : List Given) (i : ℕ) (q : Place) (log more : List Entry) (m :
   place_other_ended j r ne agree k =
       let n = next_is calls i q m h busy same in
       record {
-        numbers = k.numbers ∙ sym (numbers_answered j 1 calls (q.number - 1) m.reply q.first (point_of log q.first q.point m.call m.reply));
+        numbers = k.numbers ∙ sym (numbers_answered j 1 calls (q.number - 1) m.registers.reply q.first (point_of log q.first q.point m.registers.call m.registers.reply));
         ended = k.ended;
         count = ap length agree ∙ k.count;
-        waiting = λ next place g at le here own. elim (get_answered calls (q.number - 1) m.reply q.first (point_of log q.first q.point m.call m.reply) place g here) [
+        waiting = λ next place g at le here own. elim (get_answered calls (q.number - 1) m.registers.reply q.first (point_of log q.first q.point m.registers.call m.registers.reply) place g here) [
           | inl was ↦ k.waiting next place g at le was own
           | inr w ↦ absurd (ne (sym own ∙ ap (λ (x : Given). x.seat) w.3 ∙ ap (λ (x : Given). x.seat) (some_is (sym w.2 ∙ n.here)) ∙ n.seat_is))
         ];
         rests = k.rests;
         busy = k.busy;
-        call = λ g b here. elim (get_answered calls (q.number - 1) m.reply q.first (point_of log q.first q.point m.call m.reply) (r.number - 1) g here) [
+        call = λ g b here. elim (get_answered calls (q.number - 1) m.registers.reply q.first (point_of log q.first q.point m.registers.call m.registers.reply) (r.number - 1) g here) [
           | inl was ↦ k.call g b was
           | inr w ↦ ap (λ (x : Given). x.call) w.3 ∙ k.call w.1 b (ap (slice_get calls) w.0 ∙ w.2)
         ];

@@ -3,12 +3,11 @@ use Rattle.std.proofs.Common.{◌≡◌, ◌≢◌, ℕ, ◌+◌, ◌<◌, ◌�
 use Rattle.std.proofs.lemmas.Bool.{cases_eq, cases_lt}
 use Rattle.sh_map.specs.declared.log.Entry.{Entry}
 use Rattle.sh_map.specs.Map.{get}
-use Rattle.sh_map.specs.Log.{key_of, changed, map_at, IsLegal}
-use Rattle.sh_map.specs.Points.{IsLeastPoint}
+use Rattle.sh_map.specs.Log.{change_key, changed, map_at, IsLegal}
+use Rattle.sh_map.specs.Points.{IsLeastPoint, least_point}
 use Rattle.std.proofs.lemmas.Option.{slice_get_read}
 use Rattle.sh_map.proofs.LogLemmas.{changed_other, map_more, IsLegal-at}
-use Rattle.sh_core.specs.Actors.{least_point}
-use Rattle.sh_core.proofs.Logs.{least_is}
+use Rattle.sh_map.proofs.LeastLemmas.{least_is}
 use Rattle.sh_world.specs.Running.{HadAt}
 
 -- from first on, none before start has it, and from start up to here the map has the same at the key
@@ -39,7 +38,7 @@ module _ (log : List Entry) (first key : ℕ) (had : Option (List ℕ)) where
     next = map_more log at e lt ∙ ap (λ (x : Entry). changed (map_at log at) x.change) (sym read)
 
     -- an entry of another key
-    pub other : key ≢ key_of e.change → IsWalked log first key had start (at + 1)
+    pub other : key ≢ change_key e.change → IsWalked log first key had start (at + 1)
     other ne = record {
       from = w.from;
       upto = omega (arith, w.upto);
@@ -52,10 +51,10 @@ module _ (log : List Entry) (first key : ℕ) (had : Option (List ℕ)) where
     }
 
     -- an entry of the key tells what the map had
-    tells : key ≡ key_of e.change → e.old ≡ get (map_at log start) key
+    tells : key ≡ change_key e.change → e.old ≡ get (map_at log start) key
     tells is = (IsLegal-at log at e legal (slice_get_read log (length log) at e refl lt read)).0 ∙ ap (get (map_at log at)) (sym is) ∙ w.since at w.upto (omega arith)
 
-    pub passes : key ≡ key_of e.change → e.old ≢ had → IsWalked log first key had (at + 1) (at + 1)
+    pub passes : key ≡ change_key e.change → e.old ≢ had → IsWalked log first key had (at + 1) (at + 1)
     passes is not = record {
       from = omega (arith, w.from, w.upto);
       upto = omega arith;
@@ -67,7 +66,7 @@ module _ (log : List Entry) (first key : ℕ) (had : Option (List ℕ)) where
       since = λ q a b. let e : q ≡ at + 1 = omega (arith, a, b) in ap (λ (n : ℕ). get (map_at log n) key) e;
     }
 
-    pub finds : key ≡ key_of e.change → e.old ≡ had → start ≡ least_point log first key had
+    pub finds : key ≡ change_key e.change → e.old ≡ had → start ≡ least_point log first key had
     finds is same = unique start (record { from = w.from; within = omega (arith, w.upto, lt); here = sym (tells is) ∙ same; least = w.before })
 
   pub ends : (start at : ℕ) → IsWalked log first key had start at → length log ≤ at → HadAt log first key had → start ≡ least_point log first key had

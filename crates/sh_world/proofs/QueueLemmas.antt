@@ -3,19 +3,18 @@ use Rattle.std.proofs.Common.{◌≡◌, ◌≢◌, ◌⊎◌, ℕ, suc, ◌+◌
 use Rattle.std.specs.Prelude.{slice_get}
 use Rattle.std.proofs.lemmas.Bool.{cases_eq, cases_lt}
 use Rattle.std.proofs.lemmas.Option.{slice_get_within}
+use Rattle.sh_logic.proofs.Lists.{set_here, set_else}
+use Rattle.sh_logic.proofs.Options.{some_is}
+use Rattle.sh_logic.proofs.Pigeons.{at_most}
 use Rattle.sh_base.specs.declared.config.ConfigParts.{ConfigParts}
 use Rattle.sh_base.specs.Setting.{all_seats, IsSetting}
 use Rattle.sh_base.specs.Layout.{compute_of}
-use Rattle.sh_scene.proofs.Pigeons.{at_most}
 use Rattle.sh_world.specs.declared.state.Line.{Line}
 use Rattle.sh_world.specs.States.{Place}
 use Rattle.sh_world.specs.Turning.{drawn, left_line, minus, next_ticket}
-use Rattle.sh_world.specs.Lines.{Stand, Away, Waits, Served, is_some, stand_of, IsIn, HasTurn, WillHand, StandsIn, IsLine}
+use Rattle.sh_world.specs.Lines.{StandsIn, IsLine}
+use Rattle.sh_client.specs.InLine.{Stand, Away, Waits, Served, is_some, stand_of, IsIn, HasTurn, WillHand}
 use Rattle.sh_world.proofs.LineLemmas.{count_down, count_up, minus_self, minus_zero, next_small}
-use Rattle.sh_world.proofs.MoveLemmas.{set_here, set_else}
-
-some_is : {X : Type 0} {x y : X} → Some x ≡ Some y → x ≡ y
-some_is e = cc
 
 pub turn_in : (lock : ℕ) (k : Stand) → HasTurn lock k → IsIn lock k
 turn_in lock Away e = elim e [ ]

@@ -4,6 +4,8 @@ use Rattle.std.specs.Prelude.{if◌then◌else◌, slice_get}
 use Rattle.std.proofs.lemmas.Bool.{cases_eq}
 use Rattle.std.proofs.lemmas.Option.{slice_get_within}
 use Rattle.std.proofs.lemmas.List.{length-append, length-set}
+use Rattle.sh_logic.proofs.Lists.{set_here, set_else}
+use Rattle.sh_logic.proofs.Options.{some_is}
 use Rattle.sh_base.specs.declared.config.ConfigParts.{ConfigParts}
 use Rattle.sh_base.specs.Setting.{all_seats}
 use Rattle.sh_map.specs.declared.call.Call.{Call}
@@ -14,27 +16,27 @@ use Rattle.sh_map.specs.declared.log.Entry.{Entry}
 use Rattle.sh_map.specs.declared.book.Done.{Done}
 use Rattle.sh_map.specs.Log.{IsLegal}
 use Rattle.sh_client.specs.Machine.{Machine}
-use Rattle.sh_client.specs.Rests.{is_resting}
-use Rattle.sh_core.specs.Actors.{Actor, becomes, done_of, ending, going as actor_going, has_ended, point_of, point_after, AreAnswered, IsAnswered, IsLeast, made_by, updates}
-use Rattle.sh_core.specs.Keeps.{Keeps, pending}
+use Rattle.sh_client.specs.Rests.{has_ended, is_resting}
+use Rattle.sh_map.specs.Points.{point_of}
+use Rattle.sh_core.specs.Actors.{Actor, becomes, done_of, ending, actor_going, point_after, AreAnswered, IsAnswered, IsLeast, made_by, updates}
+use Rattle.sh_core.specs.Keeps.{KeepsActor, pending}
 use Rattle.sh_core.specs.Core.{Inv, Moves}
-use Rattle.sh_core.proofs.Calls.{rest_keeps}
-use Rattle.sh_core_books.proofs.Pending.{pending_stands}
+use Rattle.sh_core_turns.proofs.Calls.{rest_keeps}
+use Rattle.sh_core_says.proofs.Pending.{pending_stands}
 use Rattle.sh_world.specs.declared.state.Given.{Given}
 use Rattle.sh_world.specs.declared.state.Line.{Line}
 use Rattle.sh_world.specs.States.{Place, State, actor_of, answered, dones_by, dones_of, HasActor, IsLeft}
-use Rattle.sh_world.specs.Turning.{calls_after, going, place_after, resting, with_ticket}
+use Rattle.sh_world.specs.Turning.{calls_after, going, place_after, resting}
 use Rattle.sh_world.specs.Lines.{AreLines}
 use Rattle.sh_world.specs.Running.{HasPoint, IsGiven, IsPlace, IsRunning, numbers_from}
 use Rattle.sh_world.specs.Seats.{CanEnd}
 use Rattle.sh_world.proofs.CountLemmas.{call_sum, log_sum, numbers_few, pending_none, pending_one, sum_less, updates_few}
 use Rattle.sh_world.proofs.DoneLemmas.{length_answered}
 use Rattle.sh_world.proofs.WideLemmas.{in_by, in_from, own_entry, reply_wide, wide_append, wide_by, wide_none, wide_updates, AreWide}
-use Rattle.sh_world.proofs.MoveLemmas.{agree_ended, set_else, set_here, settled_keeps, instead_moves, AgreeBut, Instead, IsNext}
+use Rattle.sh_core.specs.Core.{Instead}
+use Rattle.sh_core.proofs.Moves.{put_moves}
+use Rattle.sh_world.proofs.MoveLemmas.{agree_ended, settled_keeps, AgreeBut, IsNext}
 use Rattle.sh_world.proofs.PlaceLemmas.{get_answered, next_is, place_other, place_own}
-
-some_is : {X : Type 0} {x y : X} → Some x ≡ Some y → x ≡ y
-some_is e = cc
 
 slice_get-append : {X : Type 0} (xs ys : List X) (k : ℕ) (x : X) → slice_get (xs ++ ys) k ≡ Some x → (slice_get xs k ≡ Some x) ⊎ ((j : ℕ) × (slice_get ys j ≡ Some x))
 slice_get-append [] ys k x e = inr (k, e)
@@ -52,14 +54,14 @@ module _ (s : State) (run : IsRunning s) where
   one_seat j q at =
       let k = run.inv.kept j (actor_of s.calls j q) (record { place = q; here = at; actor_is = refl }) in
       let h = run.places j q at in
-      let mine : length (made_by j s.log) ≡ length (updates (dones_by j (dones_of s.calls))) + length (pending j q.client q.client.phase) = ap (λ (es : List Entry). length (made_by j es)) (sym run.inv.log_is) ∙ ap length k.mine ∙ length-append (updates (dones_by j (dones_of s.calls))) (pending j q.client q.client.phase) in
+      let mine : length (made_by j s.log) ≡ length (updates (dones_by j (dones_of s.calls))) + length (pending j q.client.registers q.client.phase) = ap (λ (es : List Entry). length (made_by j es)) (sym run.inv.log_is) ∙ ap length k.mine ∙ length-append (updates (dones_by j (dones_of s.calls))) (pending j q.client.registers q.client.phase) in
       let few = updates_few (dones_by j (dones_of s.calls)) in
       let all : length (numbers_from j 1 s.calls) ≡ length q.numbers = ap length (sym h.numbers) in
       by_rest (is_resting q.client) refl mine few h all where
-        by_rest : (b : Bool) → is_resting q.client ≡ b → length (made_by j s.log) ≡ length (updates (dones_by j (dones_of s.calls))) + length (pending j q.client q.client.phase) → length (updates (dones_by j (dones_of s.calls))) ≤ length (dones_by j (dones_of s.calls)) → IsPlace s.calls j q
+        by_rest : (b : Bool) → is_resting q.client ≡ b → length (made_by j s.log) ≡ length (updates (dones_by j (dones_of s.calls))) + length (pending j q.client.registers q.client.phase) → length (updates (dones_by j (dones_of s.calls))) ≤ length (dones_by j (dones_of s.calls)) → IsPlace s.calls j q
             → length (numbers_from j 1 s.calls) ≡ length q.numbers → length (made_by j s.log) ≤ length (numbers_from j 1 s.calls)
-        by_rest true e mine few h all = omega (arith, mine, few, h.count, h.ended, all, pending_none j q.client q.client.phase e)
-        by_rest false e mine few h all = omega (arith, mine, few, h.count, all, pending_one j q.client q.client.phase, slice_get_within q.numbers q.ended q.number (h.busy e))
+        by_rest true e mine few h all = omega (arith, mine, few, h.count, h.ended, all, pending_none j q.client.registers q.client.phase e)
+        by_rest false e mine few h all = omega (arith, mine, few, h.count, all, pending_one j q.client.registers q.client.phase, slice_get_within q.numbers q.ended q.number (h.busy e))
 
   pub seat_at : (j : ℕ) → j < length s.seats → (q : Place) × (slice_get s.seats j ≡ Some q)
   seat_at j lt = there s.seats j lt where
@@ -82,14 +84,14 @@ module _ (s : State) (run : IsRunning s) where
       let q = seat_at e.seat (omega (arith, lt, run.seats)) in
       let a = run.inv.kept e.seat (actor_of s.calls e.seat q.0) (record { place = q.0; here = q.1; actor_is = refl }) in
       let ds = dones_by e.seat (dones_of s.calls) in
-      let mine : made_by e.seat s.log ≡ updates ds ++ pending e.seat q.0.client q.0.client.phase = ap (λ (es : List Entry). made_by e.seat es) (sym run.inv.log_is) ∙ a.mine in
+      let mine : made_by e.seat s.log ≡ updates ds ++ pending e.seat q.0.client.registers q.0.client.phase = ap (λ (es : List Entry). made_by e.seat es) (sym run.inv.log_is) ∙ a.mine in
       let ended : AreWide p.value_words (updates ds) = wide_updates p ds (in_by p e.seat (dones_of s.calls) (in_from p 1 s.calls (λ j g here. (run.given j g here).in_range))) in
-      let under : AreWide p.value_words (pending e.seat q.0.client q.0.client.phase) = elim (pending_stands p run.inv.scene e.seat q.0.first q.0.point q.0.seen q.0.client a.work.duty q.0.client.phase a.work.fits a.work.owes) [
+      let under : AreWide p.value_words (pending e.seat q.0.client.registers q.0.client.phase) = elim (pending_stands p run.inv.scene e.seat q.0.first q.0.point q.0.seen q.0.client.registers a.work.duty a.work.owes q.0.client.phase a.work.fits) [
         | inl none ↦ subst (AreWide p.value_words) (sym none) (wide_none p.value_words)
-        | inr own ↦ subst (AreWide p.value_words) (sym own.0) (wide_by p e.seat q.0.client.call q.0.client.reply a.work.seated.in_range)
+        | inr own ↦ subst (AreWide p.value_words) (sym own.0) (wide_by p e.seat q.0.client.registers.call q.0.client.registers.reply a.work.seated.in_range)
       ] in
       let there = own_entry s.log k e h in
-      wide_append p.value_words (updates ds) (pending e.seat q.0.client q.0.client.phase) ended under there.0 e (ap (λ (es : List Entry). slice_get es there.0) (sym mine) ∙ there.1)
+      wide_append p.value_words (updates ds) (pending e.seat q.0.client.registers q.0.client.phase) ended under there.0 e (ap (λ (es : List Entry). slice_get es there.0) (sym mine) ∙ there.1)
 
 -- ---- what an ended call was answered
 
@@ -113,13 +115,13 @@ module _ (s : State) (run : IsRunning s) (i : ℕ) (q : Place) (at : slice_get s
   pub has : HasActor s.seats s.calls i A
   has = record { place = q; here = at; actor_is = refl }
 
-  pub keeps : Keeps P run.inv.scene i A
+  pub keeps : KeepsActor P run.inv.scene i A
   keeps = run.inv.kept i A has
 
   pub seat_seen : q.seen ≤ length s.log
   seat_seen = let e = ap length run.inv.log_is in let k = keeps.seen in omega (arith, e, k)
 
-  module _ (words : List ℕ) (Out : ℕ → ℕ → ℕ → Type 0) (more : List Entry) (m : Machine) (same : m.call ≡ q.client.call)
+  module _ (words : List ℕ) (Out : ℕ → ℕ → ℕ → Type 0) (more : List Entry) (m : Machine) (same : m.registers.call ≡ q.client.registers.call)
       (step : (Now : ℕ → Actor → Type 0) → Moves (HasActor s.seats s.calls) i (becomes i A s.log more m) Now → Inv P words (s.log ++ more) Now Out) where
     next : IsNext s.calls i q.number m
     next = next_is s.calls i q m (run.places i q at) busy same
@@ -127,7 +129,7 @@ module _ (s : State) (run : IsRunning s) (i : ℕ) (q : Place) (at : slice_get s
     -- a call that has ended can be answered
     pub can_end : has_ended m.phase ≡ true → more ≡ [] → CanEnd s.log s.setting.value_words s.calls q m
     can_end e none =
-        let inv = step (Instead (HasActor s.seats s.calls) i (becomes i A s.log more m)) (instead_moves (HasActor s.seats s.calls) i (becomes i A s.log more m)) in
+        let inv = step (Instead (HasActor s.seats s.calls) i (becomes i A s.log more m)) (put_moves (HasActor s.seats s.calls) i (becomes i A s.log more m)) in
         let is : becomes i A s.log more m ≡ ending i A s.log m = ap (λ (b : Bool). if b then ending i A s.log m else actor_going A s.log more m) e in
         let k = inv.kept i (ending i A s.log m) (inl (refl, sym is)) in
         let log : inv.scene.log ≡ s.log = inv.log_is ∙ ap (λ (es : List Entry). s.log ++ es) none ∙ append-nil s.log in
@@ -144,8 +146,8 @@ module _ (s : State) (run : IsRunning s) (i : ℕ) (q : Place) (at : slice_get s
           legal = subst IsLegal run.inv.log_is run.inv.ground.legal;
           real = (n.real, omega (arith, below));
           call = λ g here. let one : g ≡ n.given = some_is (sym here ∙ n.here) in ap (λ (x : Given). x.call) one ∙ n.call_is;
-          point = has_point s.log (done_of i A s.log m) m.call m.reply last.least;
-          wide = reply_wide P.value_words s.log (subst IsLegal run.inv.log_is run.inv.ground.legal) (log_wide s run) (done_of i A s.log m) m.call m.reply last.answers.row;
+          point = has_point s.log (done_of i A s.log m) m.registers.call m.registers.reply last.least;
+          wide = reply_wide P.value_words s.log (subst IsLegal run.inv.log_is run.inv.ground.legal) (log_wide s run) (done_of i A s.log m) m.registers.call m.registers.reply last.answers.row;
           first = omega (arith, e1, seen, few, run.few);
           place = omega (arith, run.points i q at, few, run.few);
           few = omega (arith, few, run.few);
@@ -153,7 +155,7 @@ module _ (s : State) (run : IsRunning s) (i : ℕ) (q : Place) (at : slice_get s
         }
 
     -- the agreement of the others
-    agree : AgreeBut i s.calls (answered s.calls (q.number - 1) m.reply q.first (point_of s.log q.first q.point m.call m.reply))
+    agree : AgreeBut i s.calls (answered s.calls (q.number - 1) m.registers.reply q.first (point_of s.log q.first q.point m.registers.call m.registers.reply))
     agree = agree_ended P s.seats s.calls i q (slice_get_within s.seats i q at) s.log more m next
 
     abbrev Q : Place
@@ -168,15 +170,15 @@ module _ (s : State) (run : IsRunning s) (i : ℕ) (q : Place) (at : slice_get s
       | inr ne ↦ inr (ne, sym (set_else s.seats i j Q ne) ∙ e)
     ]
 
-    given_ended : (b : Bool) (k : ℕ) (g : Given) → slice_get (if b then answered s.calls (q.number - 1) m.reply q.first (point_of s.log q.first q.point m.call m.reply) else s.calls) k ≡ Some g → IsGiven P g
+    given_ended : (b : Bool) (k : ℕ) (g : Given) → slice_get (if b then answered s.calls (q.number - 1) m.registers.reply q.first (point_of s.log q.first q.point m.registers.call m.registers.reply) else s.calls) k ≡ Some g → IsGiven P g
     given_ended false k g e = run.given k g e
-    given_ended true k g e = elim (get_answered s.calls (q.number - 1) m.reply q.first (point_of s.log q.first q.point m.call m.reply) k g e) [
+    given_ended true k g e = elim (get_answered s.calls (q.number - 1) m.registers.reply q.first (point_of s.log q.first q.point m.registers.call m.registers.reply) k g e) [
       | inl was ↦ run.given k g was
       | inr w ↦ let h = run.given (q.number - 1) w.1 w.2 in subst (IsGiven P) (sym w.3) (record { seat_is = h.seat_is; in_range = h.in_range; point = h.point })
     ]
 
-    calls_long : (b : Bool) → length (if b then answered s.calls (q.number - 1) m.reply q.first (point_of s.log q.first q.point m.call m.reply) else s.calls) ≡ length s.calls
-    calls_long true = length_answered s.calls (q.number - 1) m.reply q.first (point_of s.log q.first q.point m.call m.reply)
+    calls_long : (b : Bool) → length (if b then answered s.calls (q.number - 1) m.registers.reply q.first (point_of s.log q.first q.point m.registers.call m.registers.reply) else s.calls) ≡ length s.calls
+    calls_long true = length_answered s.calls (q.number - 1) m.registers.reply q.first (point_of s.log q.first q.point m.registers.call m.registers.reply)
     calls_long false = refl
 
     point_more : (es : List Entry) → point_after es q.point (length s.log) ≤ length (s.log ++ es)
@@ -215,7 +217,7 @@ module _ (s : State) (run : IsRunning s) (i : ℕ) (q : Place) (at : slice_get s
     }
 
 -- the ticket says nothing of a seat's calls
-pub ticket_place : (calls : List Given) (i : ℕ) (q : Place) (t : ℕ) → IsPlace calls i q → IsPlace calls i (with_ticket q t)
+pub ticket_place : (calls : List Given) (i : ℕ) (q : Place) (t : ℕ) → IsPlace calls i q → IsPlace calls i (record q { ticket = t })
 ticket_place calls i q t h = record { numbers = h.numbers; ended = h.ended; count = h.count; waiting = h.waiting; rests = h.rests; busy = h.busy; call = h.call }
 
 -- a seat is at another place, and all else stays

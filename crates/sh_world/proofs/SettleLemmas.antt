@@ -8,56 +8,17 @@ use Rattle.sh_map.specs.declared.call.Reply.{Reply}
 use Rattle.sh_map.specs.declared.call.Reply.TheVariants as reply
 use Rattle.sh_map.specs.declared.log.Entry.{Entry}
 use Rattle.sh_client.specs.declared.state.Phase.{Phase}
-use Rattle.sh_client.specs.declared.state.Phase.TheVariants.{Idle, Root, Read, Draw, Look, Grab, Hold, Seek, Fill, Waiting, Body, Unlock, Leave, Top, Raise, Swap, Ended}
+use Rattle.sh_client.specs.declared.state.Phase.TheVariants.{Idle, Root, Read, Draw, Look, Grab, ReadLocked, Seek, Fill, Waiting, Body, Unlock, Leave, Swap, Ended}
 use Rattle.sh_client.specs.Machine.{Machine}
-use Rattle.sh_client.specs.Rests.{reply_in}
-use Rattle.sh_core.specs.Actors.{has_ended, point_after, point_of, seen_after}
-use Rattle.sh_core.proofs.Logs.{least_is}
+use Rattle.sh_client.specs.Rests.{has_ended, reply_in}
+use Rattle.sh_map.specs.Points.{point_of}
+use Rattle.sh_core.specs.Actors.{point_after, seen_after}
+use Rattle.sh_map.proofs.LeastLemmas.{least_is}
 use Rattle.sh_world.specs.declared.state.Given.{Given}
 use Rattle.sh_world.specs.States.{Place}
 use Rattle.sh_world.specs.Turning.{going, place_after, resting}
 use Rattle.sh_world.specs.Running.{HasPoint}
 use Rattle.sh_world.specs.Seats.{CanEnd, CanSettle}
-
--- a reply is there where the call has ended
-pub ended_in : (m : Machine) (r : Reply) (ph : Phase) → reply_in m ph ≡ Some r → (has_ended ph ≡ true) × (r ≡ m.reply)
-ended_in m r Ended e = (refl, cc)
-ended_in m r Idle e = cc
-ended_in m r (Root aim) e = cc
-ended_in m r (Read aim top) e = cc
-ended_in m r (Draw aim n) e = cc
-ended_in m r (Look aim n) e = cc
-ended_in m r (Grab aim n) e = cc
-ended_in m r (Hold aim d) e = cc
-ended_in m r (Seek aim d) e = cc
-ended_in m r (Fill n d fresh done write after) e = cc
-ended_in m r (Waiting n d write after) e = cc
-ended_in m r (Body n carry done write after) e = cc
-ended_in m r (Unlock n after) e = cc
-ended_in m r (Leave n carry after) e = cc
-ended_in m r (Top post root) e = cc
-ended_in m r (Raise post root fresh done) e = cc
-ended_in m r (Swap post root fresh) e = cc
-
--- no reply is there while it goes on
-pub going_in : (m : Machine) (ph : Phase) → reply_in m ph ≡ None → has_ended ph ≡ false
-going_in m Ended e = cc
-going_in m Idle e = refl
-going_in m (Root aim) e = refl
-going_in m (Read aim top) e = refl
-going_in m (Draw aim n) e = refl
-going_in m (Look aim n) e = refl
-going_in m (Grab aim n) e = refl
-going_in m (Hold aim d) e = refl
-going_in m (Seek aim d) e = refl
-going_in m (Fill n d fresh done write after) e = refl
-going_in m (Waiting n d write after) e = refl
-going_in m (Body n carry done write after) e = refl
-going_in m (Unlock n after) e = refl
-going_in m (Leave n carry after) e = refl
-going_in m (Top post root) e = refl
-going_in m (Raise post root fresh done) e = refl
-going_in m (Swap post root fresh) e = refl
 
 -- an ended call can end, and is answered
 pub can_end : (log : List Entry) (width : ℕ) (calls : List Given) (x y : Place) → x ≡ y → CanSettle log width calls y y.client → has_ended x.client.phase ≡ true → CanEnd log width calls x x.client

@@ -2,50 +2,48 @@
 use Rattle.std.proofs.Common.{◌≡◌, ◌≢◌, ℕ, ◌+◌, ◌-◌, ◌<◌, inr, Bool, true, false, List, [], length, set, Option, Some, None, refl, sym, ap, ◌∙◌, subst, arith}
 use Rattle.std.specs.Prelude.{◌==◌, if◌then◌else◌, nat_lt, slice_get}
 use Rattle.std.proofs.lemmas.Option.{slice_get_within}
+use Rattle.sh_logic.proofs.Tests.{less_test}
+use Rattle.sh_logic.proofs.Lists.{set_same}
 use Rattle.sh_base.specs.declared.config.ConfigParts.{ConfigParts}
 use Rattle.sh_base.specs.declared.event.Event.{Event}
 use Rattle.sh_base.specs.Setting.{all_locks, node_size}
 use Rattle.sh_base.specs.Layout.{node_word}
 use Rattle.sh_base.specs.Memory.{apply, found_by}
-use Rattle.sh_edit.proofs.PairLemmas.{less_test}
 use Rattle.sh_map.specs.Calls.{IsInRange}
 use Rattle.sh_alloc.specs.declared.state.ChunkWant.{ChunkWant}
 use Rattle.sh_alloc.specs.declared.state.ChunkWant.TheVariants as chunk
 use Rattle.sh_alloc.specs.Chunks.{WantsEvent}
-use Rattle.sh_alloc.specs.Walks.{want_of as walk_wants}
+use Rattle.sh_alloc.specs.Walks.{walk_wants}
 use Rattle.sh_read.specs.Reads.{Reads, wanted}
-use Rattle.sh_scene.specs.Scene.{Scene}
-use Rattle.sh_decide.specs.declared.state.Post.{Post}
+use Rattle.sh_state.specs.TreeState.{TreeState}
+use Rattle.sh_decide.specs.declared.state.Posting.{Posting}
 use Rattle.sh_client.specs.declared.state.Then.{Then}
 use Rattle.sh_client.specs.declared.state.Phase.{Phase}
-use Rattle.sh_client.specs.declared.state.Phase.TheVariants.{Idle, Read, Hold, Seek, Body, Top, Ended}
+use Rattle.sh_client.specs.declared.state.Phase.TheVariants.{Idle, Read, ReadLocked, Seek, Body, Ended}
 use Rattle.sh_client.specs.declared.state.Want.{Want}
 use Rattle.sh_client.specs.declared.state.Want.TheVariants as want
 use Rattle.sh_client.specs.declared.state.Write.{Write}
 use Rattle.sh_client.specs.Machine.{Machine, to}
 use Rattle.sh_client.specs.Feeds.{fed_by, fed_in}
 use Rattle.sh_client.specs.Giving.{counted, made_in, makes, released}
-use Rattle.sh_client.specs.Rests.{is_resting, rests}
+use Rattle.sh_client.specs.Rests.{has_ended, is_resting, rests}
 use Rattle.sh_client.specs.Wants.{count_of, load_of, want_in, want_of}
-use Rattle.sh_core.specs.Actors.{Actor, begun, has_ended}
+use Rattle.sh_core.specs.Actors.{Actor, actor_begun}
 use Rattle.sh_core.specs.Fits.{Fits}
-use Rattle.sh_core.specs.Keeps.{Keeps}
-use Rattle.sh_core.proofs.Calls.{begin_keeps}
+use Rattle.sh_core.specs.Keeps.{KeepsActor}
+use Rattle.sh_core_turns.proofs.Calls.{begin_keeps}
 use Rattle.sh_client.proofs.KeptLemmas.{fed_keeps}
 use Rattle.sh_world.specs.declared.state.Given.{Given}
 use Rattle.sh_world.specs.States.{Place, State, actor_of, HasActor, IsLeft}
 use Rattle.sh_world.specs.Turning.{asked, asked_in, started, starts, starts_next}
-use Rattle.sh_world.specs.Lines.{stand_in}
+use Rattle.sh_client.specs.InLine.{stand_in}
 use Rattle.sh_world.specs.Running.{IsRunning}
 use Rattle.sh_world.specs.Seats.{CanAsk, CanSettle}
-use Rattle.sh_world.proofs.MoveLemmas.{moves_seats, set_same}
+use Rattle.sh_world.proofs.MoveLemmas.{moves_seats}
 use Rattle.sh_world.proofs.PlaceLemmas.{number_in, place_started}
 use Rattle.sh_world.proofs.RunLemmas.{can_end, placed}
 use Rattle.sh_world.proofs.WantLemmas.{lines_still}
 use Rattle.sh_world.proofs.TurnLemmas.{event_busy, event_step, leave_busy, leave_step, put_place}
-
-some_is : {X : Type 0} {x y : X} → Some x ≡ Some y → x ≡ y
-some_is e = cc
 
 -- ---- a client that wants nothing is at rest
 
@@ -60,13 +58,12 @@ count_some (chunk.Event e) h x = cc
 count_some (chunk.Got server c) h x = absurd h
 count_some chunk.AllSpent h x = absurd h
 
-done_in : (p : ConfigParts) (s : Scene) (i f q e : ℕ) (m : Machine) (duty : Option Post) (ph : Phase) → m.setting ≡ p → Fits p s i f q e m duty ph → want_in m ph ≡ want.Done → rests ph ≡ true
+done_in : (p : ConfigParts) (s : TreeState) (i f q e : ℕ) (m : Machine) (duty : Option Posting) (ph : Phase) → m.setting ≡ p → Fits p s i f q e m.registers duty ph → want_in m ph ≡ want.Done → rests ph ≡ true
 done_in p s i f q e m duty Idle is h w = refl
 done_in p s i f q e m duty Ended is h w = refl
-done_in p s i f q e m duty (Read aim top) is h w = absurd (load_some p m.reads h.1.left (ap (λ (z : ConfigParts). load_of (wanted z m.reads)) (sym is) ∙ w))
-done_in p s i f q e m duty (Hold aim depth) is h w = absurd (load_some p m.reads h.3.left (ap (λ (z : ConfigParts). load_of (wanted z m.reads)) (sym is) ∙ w))
-done_in p s i f q e m duty (Seek aim depth) is h w = absurd (count_some (walk_wants p m.walk) h.4.wants (ap (λ (z : ConfigParts). count_of (walk_wants z m.walk)) (sym is) ∙ w))
-done_in p s i f q e m duty (Top post root) is h w = absurd (count_some (walk_wants p m.walk) h.2.wants (ap (λ (z : ConfigParts). count_of (walk_wants z m.walk)) (sym is) ∙ w))
+done_in p s i f q e m duty (Read aim top) is h w = absurd (load_some p m.registers.reads h.on_way.left (ap (λ (z : ConfigParts). load_of (wanted z m.registers.reads)) (sym is) ∙ w))
+done_in p s i f q e m duty (ReadLocked aim depth) is h w = absurd (load_some p m.registers.reads h.reading.left (ap (λ (z : ConfigParts). load_of (wanted z m.registers.reads)) (sym is) ∙ w))
+done_in p s i f q e m duty (Seek need) is h w = absurd (count_some (walk_wants p m.registers.walk) h.seeking.wants (ap (λ (z : ConfigParts). count_of (walk_wants z m.registers.walk)) (sym is) ∙ w))
 done_in p s i f q e m duty ph is h w = cc
 
 module _ (s : State) (run : IsRunning s) (i : ℕ) (q : Place) (at : slice_get s.seats i ≡ Some q) where
@@ -79,7 +76,7 @@ module _ (s : State) (run : IsRunning s) (i : ℕ) (q : Place) (at : slice_get s
   h : HasActor s.seats s.calls i A
   h = record { place = q; here = at; actor_is = refl }
 
-  k : Keeps P run.inv.scene i A
+  k : KeepsActor P run.inv.scene i A
   k = run.inv.kept i A h
 
   pub rests_done : want_of q.client ≡ want.Done → is_resting q.client ≡ true
@@ -106,9 +103,9 @@ module _ (s : State) (run : IsRunning s) (i : ℕ) (q : Place) (at : slice_get s
       let q1 : Place = started q n g.call (length s.log) in
       placed s run i q at q1
       (begin_keeps P run.setting s.words s.log (HasActor s.seats s.calls) (HasActor (set s.seats i q1) s.calls) (IsLeft P s.lines) i n (length s.log) A g.call run.inv h rest (run.given (n - 1) g here).in_range (omega (arith, e, seen)) (omega arith)
-      (moves_seats s.seats s.calls s.calls i q1 (begun A n g.call (length s.log)) (slice_get_within s.seats i q at) (λ j ne. refl) refl))
+      (moves_seats s.seats s.calls s.calls i q1 (actor_begun A n g.call (length s.log)) (slice_get_within s.seats i q at) (λ j ne. refl) refl))
       (place_started s.calls i q n (length s.log) g (run.places i q at) next here) (omega arith)
-      (lines_still P run.setting s.lines s.seats i q q1 at run.lines (ap (stand_in q.client.setting q.client) idle) (inr refl))
+      (lines_still P run.setting s.lines s.seats i q q1 at run.lines (ap (stand_in q.client.setting q.client.registers) idle) (inr refl))
 
   same_runs : IsRunning (put_place s i q)
   same_runs = subst (λ (xs : List Place). IsRunning (record s { seats = xs })) (sym (set_same s.seats i q at)) run
@@ -123,11 +120,7 @@ module _ (s : State) (run : IsRunning s) (i : ℕ) (q : Place) (at : slice_get s
 
   asked_by : (w : Want) → want_of q.client ≡ w → IsRunning (put_place s i (asked_in s.calls q (length s.log) w))
   asked_by want.Done e = asked_next e (slice_get q.numbers q.ended) refl
-  asked_by (want.Event x) e = same_runs
-  asked_by (want.Draw lock) e = same_runs
-  asked_by (want.Look lock) e = same_runs
-  asked_by (want.Waiting lock) e = same_runs
-  asked_by (want.Leave lock carry) e = same_runs
+  asked_by w e = same_runs
 
   -- the world with the seat that was asked
   pub asked_runs : IsRunning (put_place s i (asked s.calls q (length s.log)))
@@ -148,7 +141,7 @@ true_false b x y = cc
 
 -- a turn that ends a call makes no entry
 ended_makes : (m : Machine) (word : ℕ) (ph : Phase) → has_ended (fed_in m word ph).phase ≡ true → made_in m ph ≡ []
-ended_makes m word (Body n carry done write after) e = absurd (true_false (has_ended (fed_in m word (Body n carry done write after)).phase) e (not_counted m n carry write after (done + 1 == length m.body) (to m (Body n carry (done + 1) write after)) refl))
+ended_makes m word (Body carry done giving) e = absurd (true_false (has_ended (fed_in m word (Body carry done giving)).phase) e (not_counted m giving.node carry giving.write giving.after (done + 1 == length m.registers.body) (to m (Body carry (done + 1) giving)) refl))
 ended_makes m word ph e = refl
 
 module _ (s : State) (run : IsRunning s) (i : ℕ) (q : Place) (at : slice_get s.seats i ≡ Some q) where

@@ -8,43 +8,25 @@ use Rattle.sh_base.specs.Layout.{compute_of}
 use Rattle.sh_base.specs.Memory.{found_by}
 use Rattle.sh_base.specs.Setting.{all_locks}
 use Rattle.sh_client.specs.declared.state.Phase.{Phase}
-use Rattle.sh_client.specs.declared.state.Phase.TheVariants.{Idle, Root, Read, Draw, Look, Grab, Hold, Seek, Fill, Waiting, Body, Unlock, Leave, Top, Raise, Swap, Ended}
+use Rattle.sh_client.specs.declared.state.Phase.TheVariants.{Look, Ended}
 use Rattle.sh_client.specs.declared.state.Step.{Step}
 use Rattle.sh_client.specs.declared.state.Want.TheVariants as want
 use Rattle.sh_client.specs.Feeds.{fed_by, fed_in, turned_by}
 use Rattle.sh_client.specs.Giving.{makes}
 use Rattle.sh_client.specs.Machine.{Machine}
-use Rattle.sh_client.specs.Rests.{rests}
+use Rattle.sh_client.specs.Rests.{has_ended, rests}
 use Rattle.sh_client.specs.Steps.{looks_in, looks_of, IsStep}
 use Rattle.sh_client.specs.Wants.{want_in}
 use Rattle.sh_map.specs.declared.log.Entry.{Entry}
-use Rattle.sh_core.specs.Actors.{has_ended, point_of}
+use Rattle.sh_map.specs.Points.{point_of}
+use Rattle.sh_client.proofs.Wanting.{goes_on, look_busy, look_stays, look_wants}
 use Rattle.sh_world.specs.declared.state.Given.{Given}
 use Rattle.sh_world.specs.declared.state.Line.{Line}
 use Rattle.sh_world.specs.States.{Place, State, actor_of, answered, line_at}
-use Rattle.sh_world.specs.Turning.{asked_in, calls_after, going, looked_client, looked_line, place_after, resting, stepped, took}
+use Rattle.sh_world.specs.Turning.{asked_in, calls_after, going, looked_client, looked_line, place_after, resting, place_stepped, took, IsTurn}
+use Rattle.sh_world.specs.declared.turn.Turn.{Turn}
 use Rattle.sh_world.specs.Running.{IsWorld}
-use Rattle.sh_world.proofs.WorldLemmas.{event_world, is_asked, line_read, look_world, running, IsAsked}
-
--- a client that isn't at rest has no ended call
-goes_on : (ph : Phase) → rests ph ≡ false → has_ended ph ≡ false
-goes_on Ended e = cc
-goes_on Idle e = refl
-goes_on (Root aim) e = refl
-goes_on (Read aim top) e = refl
-goes_on (Draw aim node) e = refl
-goes_on (Look aim node) e = refl
-goes_on (Grab aim node) e = refl
-goes_on (Hold aim depth) e = refl
-goes_on (Seek aim depth) e = refl
-goes_on (Fill n d f done write after) e = refl
-goes_on (Waiting n d write after) e = refl
-goes_on (Body n carry done write after) e = refl
-goes_on (Unlock n after) e = refl
-goes_on (Leave n carry after) e = refl
-goes_on (Top post root) e = refl
-goes_on (Raise post root fresh done) e = refl
-goes_on (Swap post root fresh) e = refl
+use Rattle.sh_world.proofs.WorldLemmas.{called_world, event_world, is_asked, running, IsAsked}
 
 -- the setting of a seat's client is the world's
 pub seat_setting : (s t : State) (room width i : ℕ) (q : Place) → s ≡ t → IsWorld s room width → i < length t.seats → q ≡ get_or s.seats i q → q.client.setting ≡ s.setting
@@ -67,10 +49,10 @@ module _ (q : Place) (m : Machine) (before after : List ℕ) (st : Step) (step :
       ∙ ap (λ (b : Bool). if b then resting q log m else going q log [] m) not_ended)
 
   step_calls : (cs : List Given) (log : List Entry) → cs ≡ calls_after cs q log m
-  step_calls cs log = sym (ap (λ (b : Bool). if b then answered cs (q.number - 1) m.reply q.first (point_of log q.first q.point m.call m.reply) else cs) not_ended)
+  step_calls cs log = sym (ap (λ (b : Bool). if b then answered cs (q.number - 1) m.registers.reply q.first (point_of log q.first q.point m.registers.call m.registers.reply) else cs) not_ended)
 
 -- the world after it
-pub step_world : (s : State) (i : ℕ) (q R x : Place) (m : Machine) (before after rest : List ℕ) (nw seen : ℕ) (st : Step) → q ≡ R → IsStep before after q.client m st → before ≡ s.words → length s.words ≡ nw → seen ≡ length s.log → x ≡ stepped q m seen (Some st)
+pub step_world : (s : State) (i : ℕ) (q R x : Place) (m : Machine) (before after rest : List ℕ) (nw seen : ℕ) (st : Step) → q ≡ R → IsStep before after q.client m st → before ≡ s.words → length s.words ≡ nw → seen ≡ length s.log → x ≡ place_stepped q m seen (Some st)
     → record { setting = s.setting; words = take nw (after ++ rest); log = s.log; seats = set s.seats i x; calls = s.calls; lines = s.lines } ≡ took s i R (want.Event st.event)
 step_world s i q R x m before after rest nw seen st R_is step before_is nw_is seen_is x_is =
     let fed : m ≡ fed_by q.client (found_by before st.event) = step.fed ∙ ap (fed_by q.client) step.found in
@@ -87,19 +69,11 @@ still_is s t i q x before after rest nw e read same words before_is nw_is =
     let p : set s.seats i x ≡ s.seats = ap (set s.seats i) (same ∙ read) ∙ set-get_or s.seats i q in
     (λ z. record { setting = s.setting; words = w z; log = s.log; seats = p z; calls = s.calls; lines = s.lines }) ∙ e
 
+-- and a turn of it is one of the world before
+pub still_turns : (u t new : State) (i : ℕ) (told : Turn) → u ≡ t → IsTurn u i new told → IsTurn t i new told
+still_turns u t new i told e h = subst (λ (x : State). IsTurn x i new told) e h
+
 -- ---- a look at a ticket that isn't served
-
-look_wants : (m : Machine) (ph : Phase) (lock : ℕ) → looks_in m ph ≡ Some lock → want_in m ph ≡ want.Look lock
-look_wants m (Look aim node) lock e = cc
-look_wants m ph lock e = cc
-
-look_stays : (m : Machine) (ph : Phase) (lock word : ℕ) → looks_in m ph ≡ Some lock → fed_in m word ph ≡ m
-look_stays m (Look aim node) lock word e = refl
-look_stays m ph lock word e = cc
-
-look_busy : (m : Machine) (ph : Phase) (lock : ℕ) → looks_in m ph ≡ Some lock → has_ended ph ≡ false
-look_busy m (Look aim node) lock e = refl
-look_busy m ph lock e = cc
 
 -- of the seat as it was seen
 pub looks_seen : (x q : Place) (lock : ℕ) → x ≡ q → Some lock ≡ looks_of x.client → looks_of q.client ≡ Some lock
@@ -133,7 +107,7 @@ module _ (q : Place) (l : Line) (lock : ℕ) (looks : looks_of q.client ≡ Some
   look_place log = sym (ap (place_after q log []) still_client ∙ ap (λ (b : Bool). if b then resting q log q.client else going q log [] q.client) still_goes)
 
   look_calls : (cs : List Given) (log : List Entry) → cs ≡ calls_after cs q log (looked_client q l)
-  look_calls cs log = sym (ap (calls_after cs q log) still_client ∙ ap (λ (b : Bool). if b then answered cs (q.number - 1) q.client.reply q.first (point_of log q.first q.point q.client.call q.client.reply) else cs) still_goes)
+  look_calls cs log = sym (ap (calls_after cs q log) still_client ∙ ap (λ (b : Bool). if b then answered cs (q.number - 1) q.client.registers.reply q.first (point_of log q.first q.point q.client.registers.call q.client.registers.reply) else cs) still_goes)
 
 -- the world after it
 pub wait_world : (s : State) (i : ℕ) (q R x : Place) (lock k : ℕ) (l : Line) (seen : ℕ) → q ≡ R → looks_of q.client ≡ Some lock → true ≡ not (l.served == q.ticket) → k ≡ line_at s.setting lock (compute_of s.setting i) → k < length s.lines → l ≡ get_or s.lines k l → seen ≡ length s.log → x ≡ record q { seen = seen }
@@ -142,12 +116,12 @@ wait_world s i q R x lock k l seen R_is looks waits k_is lt read seen_is x_is =
     let place = x_is ∙ ap (λ n. record q { seen = n }) seen_is ∙ look_place q l lock looks waits s.log in
     let lines : s.lines ≡ set s.lines k (looked_line q l) = sym (set-get_or s.lines k l) ∙ ap (set s.lines k) (sym read ∙ sym (still_line q l lock looks waits)) in
     (λ z. record { setting = s.setting; words = s.words; log = s.log; seats = set s.seats i x; calls = s.calls; lines = lines z })
-    ∙ look_world s i q R R_is lock k l s.log s.calls s.calls x refl refl k_is (line_read s i lock k l k_is lt read) (looked_line q l) refl place (look_calls q l lock looks waits s.calls s.log)
+    ∙ called_world s i q R R_is lock k (want.Look lock) l (looked_line q l) s.log s.calls s.calls x refl refl k_is lt read refl refl place (look_calls q l lock looks waits s.calls s.log)
 
 -- ---- a load inside a READ
 
 -- the world after it
-pub load_world : (s : State) (i : ℕ) (q R x : Place) (m : Machine) (words : List ℕ) (seen : ℕ) (st : Step) → q ≡ R → IsStep words words q.client m st → words ≡ s.words → seen ≡ length s.log → x ≡ stepped q m seen (Some st)
+pub load_world : (s : State) (i : ℕ) (q R x : Place) (m : Machine) (words : List ℕ) (seen : ℕ) (st : Step) → q ≡ R → IsStep words words q.client m st → words ≡ s.words → seen ≡ length s.log → x ≡ place_stepped q m seen (Some st)
     → record { setting = s.setting; words = s.words; log = s.log; seats = set s.seats i x; calls = s.calls; lines = s.lines } ≡ took s i R (want.Event st.event)
 load_world s i q R x m words seen st R_is step words_is seen_is x_is =
     (λ z. record { setting = s.setting; words = sym (take_at words [] (length s.words) (ap length words_is) ∙ words_is) z; log = s.log; seats = set s.seats i x; calls = s.calls; lines = s.lines })

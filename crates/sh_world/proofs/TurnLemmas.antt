@@ -3,13 +3,15 @@ use Rattle.std.proofs.Common.{◌≡◌, ℕ, zero, suc, ◌<◌, ◌≤◌, inl
 use Rattle.std.specs.Prelude.{◌==◌, if◌then◌else◌, slice_get}
 use Rattle.std.proofs.lemmas.Bool.{cases_eq, eqb-true}
 use Rattle.std.proofs.lemmas.Option.{slice_get_within, slice_get-get_or}
+use Rattle.sh_logic.proofs.Lists.{set_here, set_else, set_same}
+use Rattle.sh_logic.proofs.Options.{some_is, none_some}
 use Rattle.sh_base.specs.declared.config.ConfigParts.{ConfigParts}
 use Rattle.sh_base.specs.declared.event.Event.{Event}
 use Rattle.sh_base.specs.Setting.{all_locks, all_seats, IsSetting}
 use Rattle.sh_base.specs.Layout.{compute_of, lock_of}
 use Rattle.sh_base.specs.Memory.{apply, found_by}
 use Rattle.sh_map.specs.declared.log.Entry.{Entry}
-use Rattle.sh_scene.specs.Scene.{Right, Held}
+use Rattle.sh_state.specs.TreeState.{Grant, Held}
 use Rattle.sh_client.specs.declared.state.Phase.TheVariants.{Leave}
 use Rattle.sh_client.specs.declared.state.Want.TheVariants as want
 use Rattle.sh_client.specs.Machine.{Machine}
@@ -18,31 +20,27 @@ use Rattle.sh_client.specs.Giving.{makes}
 use Rattle.sh_client.specs.Rests.{is_resting}
 use Rattle.sh_client.specs.Wants.{want_of}
 use Rattle.sh_client.proofs.KeptLemmas.{fed_keeps, turned_keeps}
-use Rattle.sh_core.specs.Actors.{Actor, becomes, stepped, turned}
+use Rattle.sh_core.specs.Actors.{Actor, becomes, actor_stepped, actor_turned}
 use Rattle.sh_core.specs.Fits.{Fits}
-use Rattle.sh_core.specs.Keeps.{Keeps}
+use Rattle.sh_core.specs.Keeps.{KeepsActor}
 use Rattle.sh_core.specs.Core.{Inv, Moves, IsLocal, HasSeen, AreSame}
 use Rattle.sh_core_turns.proofs.Turns.{turn_keeps}
-use Rattle.sh_core.proofs.LocalLaws.{local_keeps, look_keeps, take_keeps, part_keeps}
-use Rattle.sh_core.proofs.Calls.{same_keeps}
+use Rattle.sh_core_turns.proofs.LocalLaws.{local_keeps, look_keeps, take_keeps, part_keeps}
+use Rattle.sh_core.proofs.Moves.{same_keeps}
 use Rattle.sh_world.specs.declared.state.Line.{Line}
 use Rattle.sh_world.specs.States.{Place, State, actor_of, line_at, HasActor, IsLeft}
-use Rattle.sh_world.specs.Turning.{behind, calls_after, counted, drawn, drew, left, left_line, line_of, looked, looked_client, looked_line, made, minus, or_free, place_after, with_ticket}
-use Rattle.sh_world.specs.Lines.{Stand, Away, Waits, Served, is_some, stand_of, IsIn, HasTurn, WillHand, IsLine, AreLines}
+use Rattle.sh_world.specs.Turning.{behind, called, calls_after, drawn, left_line, line_of, looked_client, looked_line, made, minus, or_free, place_after}
+use Rattle.sh_world.specs.Lines.{IsLine, AreLines}
+use Rattle.sh_client.specs.InLine.{MayHand, Stand, Away, Waits, Served, is_some, stand_of, IsIn, HasTurn, WillHand}
 use Rattle.sh_world.specs.Running.{IsRunning}
 use Rattle.sh_world.proofs.CountLemmas.{made_of_seat}
 use Rattle.sh_world.proofs.LineLemmas.{compute_within, line_apart, line_within, minus_one, minus_small}
-use Rattle.sh_world.proofs.MoveLemmas.{set_again, set_else, set_here, set_same}
+use Rattle.sh_world.proofs.MoveLemmas.{set_again}
 use Rattle.sh_world.proofs.QueueLemmas.{line_drawn, line_left, line_turned}
-use Rattle.sh_world.proofs.StandLemmas.{count_stands, draw_stands, fed_stands, leave_stands, look_stands, IsEvent, MayHand}
+use Rattle.sh_client.proofs.InLineLemmas.{count_stands, draw_stands, fed_stands, leave_stands, look_stands, IsEvent}
 use Rattle.sh_world.proofs.RunLemmas.{placed, settled_runs, ticket_place}
-use Rattle.sh_world.proofs.WantLemmas.{elsewhere_back, elsewhere_on, leaving, left_back, line_makes, left_new, left_old, left_on, lines_one, lines_still, looking, mine, out_same, place_stand, place_ticket, wants_busy}
-
-some_is : {X : Type 0} {x y : X} → Some x ≡ Some y → x ≡ y
-some_is e = cc
-
-none_some : {b : ℕ} → None ≡ Some b → ⊥
-none_some x = cc
+use Rattle.sh_world.proofs.WantLemmas.{elsewhere_back, elsewhere_on, left_back, left_new, left_old, left_on, lines_one, lines_still, mine, out_same, place_stand, place_ticket}
+use Rattle.sh_client.proofs.Wanting.{leaving, line_makes, looking, wants_busy}
 
 -- the state with another place at the seat
 abbrev pub put_place : State → (seat : ℕ) → Place → State
@@ -64,7 +62,7 @@ module _ (s : State) (run : IsRunning s) (i : ℕ) (q : Place) (at : slice_get s
   abbrev Out : ℕ → ℕ → ℕ → Type 0
   Out = IsLeft P s.lines
 
-  k : Keeps P run.inv.scene i A
+  k : KeepsActor P run.inv.scene i A
   k = run.inv.kept i A (record { place = q; here = at; actor_is = refl })
 
   h : Has i A
@@ -89,7 +87,7 @@ module _ (s : State) (run : IsRunning s) (i : ℕ) (q : Place) (at : slice_get s
   none_made k e x = cc
 
   -- a turn of a line makes no entry
-  as_stepped : (Now : ℕ → Actor → Type 0) (Old : ℕ → Actor → Type 0) (a : Actor) (word : ℕ) → makes a.client ≡ [] → Moves Old i (becomes i a s.log [] (fed_by a.client word)) Now → Moves Old i (stepped i a s.log word) Now
+  as_stepped : (Now : ℕ → Actor → Type 0) (Old : ℕ → Actor → Type 0) (a : Actor) (word : ℕ) → makes a.client ≡ [] → Moves Old i (becomes i a s.log [] (fed_by a.client word)) Now → Moves Old i (actor_stepped i a s.log word) Now
   as_stepped Now Old a word none mv = subst (λ (es : List Entry). Moves Old i (becomes i a s.log es (fed_by a.client word)) Now) (sym none) mv
 
   -- ---- events
@@ -143,7 +141,7 @@ module _ (s : State) (run : IsRunning s) (i : ℕ) (q : Place) (at : slice_get s
     -- a ticket is drawn
     module _ (w : want_of q.client ≡ want.Draw lock) where
       abbrev T : Place
-      T = with_ticket q X.next
+      T = record q { ticket = X.next }
 
       abbrev DM : Machine
       DM = fed_by q.client X.next
@@ -184,13 +182,13 @@ module _ (s : State) (run : IsRunning s) (i : ℕ) (q : Place) (at : slice_get s
       }
 
       run1 : IsRunning S1
-      run1 = placed s run i q at T (same_keeps P ok s.words s.log Has (HasActor (set s.seats i T) s.calls) Out run.inv same_actors) (ticket_place s.calls i q X.next (run.places i q at)) (run.points i q at)
+      run1 = placed s run i q at T (same_keeps P s.words s.log Has (HasActor (set s.seats i T) s.calls) Out Out run.inv same_actors (record { on = λ l c d o. o; back = λ l c d o. o })) (ticket_place s.calls i q X.next (run.places i q at)) (run.points i q at)
           (lines_still P ok s.lines s.seats i q T at run.lines refl (inl away))
 
       draw_step : (Now : ℕ → Actor → Type 0) → Moves (HasActor (set s.seats i T) s.calls) i (becomes i (actor_of s.calls i T) s.log [] DM) Now → Inv P s.words (s.log ++ []) Now Out
       draw_step Now mv = no_more Now Out (local_keeps P ok s.words s.log s.log (HasActor (set s.seats i T) s.calls) Now Out i X.next (actor_of s.calls i T) run1.inv (record { place = T; here = at1; actor_is = refl }) (subst IsLocal (sym w) tt) saw (as_stepped Now (HasActor (set s.seats i T) s.calls) (actor_of s.calls i T) X.next (line_makes q.client (want.Draw lock) w (λ x. x)) mv))
 
-      pub draw_runs : IsRunning (drew s i lock q X)
+      pub draw_runs : IsRunning (called s i lock q X (want.Draw lock))
       draw_runs = subst (λ (xs : List Place). IsRunning (record { setting = P; words = s.words; log = s.log ++ []; seats = xs; calls = calls_after s.calls T s.log DM; lines = set s.lines K (drawn X) })) (set_again s.seats i T DQ)
           (settled_runs S1 run1 i T at1 draw_busy s.words Out [] DM (fed_keeps q.client X.next).2 draw_step (set s.lines K (drawn X))
           (λ Now inv. out_same P s.words (s.log ++ []) Now Out (IsLeft P (set s.lines K (drawn X))) (left_on P ok s.lines lock D lock_ok compute_small X (drawn X) at_line refl) (left_back P ok s.lines lock D lock_ok compute_small X (drawn X) at_line refl) inv)
@@ -241,8 +239,8 @@ module _ (s : State) (run : IsRunning s) (i : ℕ) (q : Place) (at : slice_get s
       count_lines = subst (AreLines P (set s.seats i CQ)) (set_same s.lines K X at_line)
           (lines_one P ok s.lines lock D lock_ok compute_small X X at_line s.seats i q CQ at refl run.lines (may_in N (stand_of CQ.client) count_now).1 (in_served (stand_of q.client) false count_was) count_line)
 
-      pub count_runs : IsRunning (counted s i q X)
-      count_runs = settled_runs s run i q at count_busy s.words Out [] CM (fed_keeps q.client N).2 (λ Now mv. no_more Now Out (local_keeps P ok s.words s.log s.log Has Now Out i N A run.inv h (subst IsLocal (sym w) tt) saw (as_stepped Now Has A N (line_makes q.client (want.Waiting lock) w (λ x. x)) mv))) s.lines (λ Now x. x) count_lines none_made
+      pub count_runs : IsRunning (called s i lock q X (want.Waiting lock))
+      count_runs = subst (λ (ls : List Line). IsRunning (record { setting = P; words = s.words; log = s.log ++ []; seats = set s.seats i CQ; calls = calls_after s.calls q s.log CM; lines = ls })) (sym (set_same s.lines K X at_line)) (settled_runs s run i q at count_busy s.words Out [] CM (fed_keeps q.client N).2 (λ Now mv. no_more Now Out (local_keeps P ok s.words s.log s.log Has Now Out i N A run.inv h (subst IsLocal (sym w) tt) saw (as_stepped Now Has A N (line_makes q.client (want.Waiting lock) w (λ x. x)) mv))) s.lines (λ Now x. x) count_lines none_made)
 
     -- a look
     module _ (w : want_of q.client ≡ want.Look lock) where
@@ -266,8 +264,8 @@ module _ (s : State) (run : IsRunning s) (i : ℕ) (q : Place) (at : slice_get s
         client_waits : LM ≡ q.client
         client_waits = ap (λ (b : Bool). if b then turned_by q.client X.left else fed_by q.client X.served) no ∙ (look_stands q.client X.served lock None q.client.phase w).1
 
-        wait_call : LM.call ≡ q.client.call
-        wait_call = ap (λ (m : Machine). m.call) client_waits
+        wait_call : LM.registers.call ≡ q.client.registers.call
+        wait_call = ap (λ (m : Machine). m.registers.call) client_waits
 
         line_same : LL ≡ s.lines
         line_same = ap (λ (b : Bool). set s.lines K (if b then record X { left = None } else X)) no ∙ set_same s.lines K X at_line
@@ -280,7 +278,7 @@ module _ (s : State) (run : IsRunning s) (i : ℕ) (q : Place) (at : slice_get s
             let fed : LM ≡ fed_by q.client X.served = ap (λ (b : Bool). if b then turned_by q.client X.left else fed_by q.client X.served) no in
             no_more Now Out (local_keeps P ok s.words s.log s.log Has Now Out i X.served A run.inv h (subst IsLocal (sym w) tt) saw (as_stepped Now Has A X.served (line_makes q.client (want.Look lock) w (λ x. x)) (subst (λ (m : Machine). Moves Has i (becomes i A s.log [] m) Now) fed mv)))
 
-        wait_runs : IsRunning (looked s i lock q X)
+        wait_runs : IsRunning (called s i lock q X (want.Look lock))
         wait_runs = settled_runs s run i q at look_busy s.words Out [] LM wait_call wait_step LL
             (λ Now inv. subst (λ (ls : List Line). Inv P s.words (s.log ++ []) Now (IsLeft P ls)) (sym line_same) inv) wait_lines none_made
 
@@ -289,8 +287,8 @@ module _ (s : State) (run : IsRunning s) (i : ℕ) (q : Place) (at : slice_get s
         client_turned : LM ≡ turned_by q.client X.left
         client_turned = ap (λ (b : Bool). if b then turned_by q.client X.left else fed_by q.client X.served) yes_is
 
-        turn_call : LM.call ≡ q.client.call
-        turn_call = ap (λ (m : Machine). m.call) client_turned ∙ (turned_keeps q.client X.left).2
+        turn_call : LM.registers.call ≡ q.client.registers.call
+        turn_call = ap (λ (m : Machine). m.registers.call) client_turned ∙ (turned_keeps q.client X.left).2
 
         abbrev taken : Line
         taken = record X { left = None }
@@ -320,7 +318,7 @@ module _ (s : State) (run : IsRunning s) (i : ℕ) (q : Place) (at : slice_get s
             let here = run.inv.out l c e o in
             let same = right_is (sym here ∙ ap run.inv.scene.hold l_is ∙ there) in
             (λ z. line_at P (l_is z) (same z)) where
-              right_is : {a b m n : ℕ} → Held (Right a) m ≡ Held (Right b) n → a ≡ b
+              right_is : {a b m n : ℕ} → Held (Grant a) m ≡ Held (Grant b) n → a ≡ b
               right_is x = cc
 
         gone : (l c e : ℕ) → line_at P l c ≡ K → IsLeft P (set s.lines K taken) l c e → ⊥
@@ -329,13 +327,13 @@ module _ (s : State) (run : IsRunning s) (i : ℕ) (q : Place) (at : slice_get s
         turn_step : (o : Option ℕ) → X.left ≡ o → (Now : ℕ → Actor → Type 0) → Moves Has i (becomes i A s.log [] LM) Now → Inv P s.words (s.log ++ []) Now (IsLeft P (set s.lines K taken))
         turn_step None left Now mv =
             let l = looking q.client lock w in
-            let mv1 : Moves Has i (turned i A s.log None) Now = subst (λ (m : Machine). Moves Has i (becomes i A s.log [] m) Now) (client_turned ∙ ap (turned_by q.client) left) mv in
+            let mv1 : Moves Has i (actor_turned i A s.log None) Now = subst (λ (m : Machine). Moves Has i (becomes i A s.log [] m) Now) (client_turned ∙ ap (turned_by q.client) left) mv in
             no_more Now (IsLeft P (set s.lines K taken)) (out_same P s.words s.log Now Out (IsLeft P (set s.lines K taken)) (left_on P ok s.lines lock D lock_ok compute_small X taken at_line (sym left)) (left_back P ok s.lines lock D lock_ok compute_small X taken at_line (sym left))
             (look_keeps P ok s.words s.log s.log Has Now Out i A l.aim l.node run.inv h l.phase_is saw mv1))
         turn_step (Some d) left Now mv =
             let l = looking q.client lock w in
             let lock_is : lock_of P l.node ≡ lock = ap (λ (p : ConfigParts). lock_of p l.node) (sym k.work.seated.setting_is) ∙ l.lock_is in
-            let mv1 : Moves Has i (turned i A s.log (Some d)) Now = subst (λ (m : Machine). Moves Has i (becomes i A s.log [] m) Now) (client_turned ∙ ap (turned_by q.client) left) mv in
+            let mv1 : Moves Has i (actor_turned i A s.log (Some d)) Now = subst (λ (m : Machine). Moves Has i (becomes i A s.log [] m) Now) (client_turned ∙ ap (turned_by q.client) left) mv in
             no_more Now (IsLeft P (set s.lines K taken)) (take_keeps P ok s.words s.log s.log Has Now Out (IsLeft P (set s.lines K taken)) i A l.aim l.node d run.inv h l.phase_is saw
             (subst (λ (n : ℕ). IsLeft P s.lines n D d) (sym lock_is) (record { line = X; lock_is = lock_ok; compute_is = compute_small; here = at_line; left = left }))
             (λ n c e o. elim (cases_eq (line_at P n c) K) [
@@ -344,15 +342,15 @@ module _ (s : State) (run : IsRunning s) (i : ℕ) (q : Place) (at : slice_get s
             ])
             (λ n c e far o. elsewhere_on P ok s.lines lock D lock_ok compute_small X taken at_line n c e (λ is. far (sym ((line_apart P ok lock D n c compute_small o.compute_is (sym is)).0) ∙ sym lock_is)) o) mv1)
 
-        turn_runs : IsRunning (looked s i lock q X)
+        turn_runs : IsRunning (called s i lock q X (want.Look lock))
         turn_runs = subst (λ (x : Line). IsRunning (record { setting = P; words = s.words; log = s.log ++ []; seats = set s.seats i LQ; calls = calls_after s.calls q s.log LM; lines = set s.lines K x })) (sym line_taken)
             (settled_runs s run i q at look_busy s.words (IsLeft P (set s.lines K taken)) [] LM turn_call (turn_step X.left refl) (set s.lines K taken) (λ Now x. x) turn_lines none_made)
 
-      look_by : (b : Bool) → (X.served == q.ticket) ≡ b → IsRunning (looked s i lock q X)
+      look_by : (b : Bool) → (X.served == q.ticket) ≡ b → IsRunning (called s i lock q X (want.Look lock))
       look_by true e = turn_runs e
       look_by false e = wait_runs e
 
-      pub look_runs : IsRunning (looked s i lock q X)
+      pub look_runs : IsRunning (called s i lock q X (want.Look lock))
       look_runs = look_by (X.served == q.ticket) refl
 
     -- the line is left
@@ -378,8 +376,8 @@ module _ (s : State) (run : IsRunning s) (i : ℕ) (q : Place) (at : slice_get s
       carry_bound : (d : ℕ) → carry ≡ Some d → d ≤ P.bound
       carry_bound d e =
           let l = leaving q.client lock carry w in
-          let f = subst (Fits P run.inv.scene i q.first q.point q.seen q.client k.work.duty) (l.phase_is ∙ ap (λ (o : Option ℕ). Leave l.node o l.after) e) k.work.fits in
-          f.0.carries.1
+          let f = subst (Fits P run.inv.scene i q.first q.point q.seen q.client.registers k.work.duty) (l.phase_is ∙ ap (λ (o : Option ℕ). Leave l.node o l.after) e) k.work.fits in
+          f.leaving.carries.within
 
       abbrev VL : List Line
       VL = set s.lines K (left_line X carry)
@@ -408,5 +406,5 @@ module _ (s : State) (run : IsRunning s) (i : ℕ) (q : Place) (at : slice_get s
           ])
           (as_stepped Now Has A 0 (line_makes q.client (want.Leave lock carry) w (λ x. x)) mv))
 
-      pub leave_runs : IsRunning (left s i lock q X carry)
+      pub leave_runs : IsRunning (called s i lock q X (want.Leave lock carry))
       leave_runs = settled_runs s run i q at leave_busy s.words (IsLeft P VL) [] VM (fed_keeps q.client 0).2 (leave_step carry refl) VL (λ Now x. x) leave_lines none_made

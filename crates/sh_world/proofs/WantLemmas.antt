@@ -4,95 +4,37 @@ use Rattle.std.specs.Prelude.{if◌then◌else◌, slice_get}
 use Rattle.std.proofs.lemmas.Bool.{cases_eq}
 use Rattle.std.proofs.lemmas.Option.{slice_get_within}
 use Rattle.std.proofs.lemmas.List.{length-set}
+use Rattle.sh_logic.proofs.Lists.{set_here, set_else}
+use Rattle.sh_logic.proofs.Options.{some_is}
 use Rattle.sh_base.specs.declared.config.ConfigParts.{ConfigParts}
 use Rattle.sh_base.specs.Setting.{all_locks, IsSetting}
 use Rattle.sh_base.specs.Layout.{compute_of, lock_of}
 use Rattle.sh_map.specs.declared.log.Entry.{Entry}
-use Rattle.sh_alloc.specs.Walks.{want_of as walk_wants}
+use Rattle.sh_alloc.specs.Walks.{walk_wants}
 use Rattle.sh_read.specs.Reads.{wanted}
 use Rattle.sh_decide.specs.declared.state.Aim.{Aim}
 use Rattle.sh_client.specs.declared.state.Then.{Then}
 use Rattle.sh_client.specs.declared.state.Phase.{Phase}
-use Rattle.sh_client.specs.declared.state.Phase.TheVariants.{Idle, Read, Look, Hold, Seek, Body, Leave, Top, Ended}
+use Rattle.sh_client.specs.declared.state.Phase.TheVariants.{Idle, Read, Look, ReadLocked, Seek, Body, Leave, Ended}
 use Rattle.sh_client.specs.declared.state.Want.{Want}
 use Rattle.sh_client.specs.declared.state.Want.TheVariants as want
 use Rattle.sh_client.specs.Machine.{Machine}
 use Rattle.sh_client.specs.Giving.{made_in, makes}
-use Rattle.sh_client.specs.Rests.{is_resting, rests}
+use Rattle.sh_client.specs.Rests.{has_ended, is_resting, rests}
 use Rattle.sh_client.specs.Wants.{count_of, load_of, want_in, want_of}
-use Rattle.sh_core.specs.Actors.{Actor, has_ended}
+use Rattle.sh_core.specs.Actors.{Actor}
 use Rattle.sh_core.specs.Core.{Inv}
 use Rattle.sh_world.specs.declared.state.Line.{Line}
 use Rattle.sh_world.specs.States.{Place, line_at, IsLeft}
 use Rattle.sh_world.specs.Turning.{going, place_after, resting}
-use Rattle.sh_world.specs.Lines.{Away, stand_in, stand_of, IsIn, IsLine, AreLines}
+use Rattle.sh_world.specs.Lines.{IsLine, AreLines}
+use Rattle.sh_client.specs.InLine.{Away, stand_in, stand_of, IsIn}
+use Rattle.sh_client.proofs.Wanting.{leaving, line_makes, looking, stand_ended, wants_busy, IsLeavingFor, IsLooking}
 use Rattle.sh_world.proofs.LineLemmas.{line_apart}
-use Rattle.sh_world.proofs.MoveLemmas.{set_else, set_here}
 use Rattle.sh_world.proofs.QueueLemmas.{line_still, IsStill}
-use Rattle.sh_world.proofs.StandLemmas.{load_is, count_is, not_elsewhere, Elsewhere}
+use Rattle.sh_client.proofs.InLineLemmas.{load_is, count_is, not_elsewhere, Elsewhere}
 
-some_is : {X : Type 0} {x y : X} → Some x ≡ Some y → x ≡ y
-some_is e = cc
-
--- ---- what a client is at, by what it wants
-
-rest_wants : (m : Machine) (ph : Phase) → rests ph ≡ true → want_in m ph ≡ want.Done
-rest_wants m Idle e = refl
-rest_wants m Ended e = refl
-rest_wants m ph e = cc
-
-pub wants_busy : (m : Machine) (w : Want) → want_of m ≡ w → w ≢ want.Done → is_resting m ≡ false
-wants_busy m w e ne = by_rest (is_resting m) refl where
-  by_rest : (b : Bool) → is_resting m ≡ b → is_resting m ≡ false
-  by_rest true r = absurd (ne (sym e ∙ rest_wants m m.phase r))
-  by_rest false r = r
-
-pub record IsLooking (m : Machine) (lock : ℕ) : Type 0 where
-  pub aim : Aim
-  pub node : ℕ
-  pub phase_is : m.phase ≡ Look aim node
-  pub lock_is : lock_of m.setting node ≡ lock
-
-looking_in : (m : Machine) (lock : ℕ) (ph : Phase) → m.phase ≡ ph → want_in m ph ≡ want.Look lock → IsLooking m lock
-looking_in m lock (Look aim node) is e = record { aim = aim; node = node; phase_is = is; lock_is = cc }
-looking_in m lock (Read aim top) is e = absurd (not_elsewhere (want.Look lock) (λ h. h) (load_of (wanted m.setting m.reads)) e (load_is (wanted m.setting m.reads)))
-looking_in m lock (Hold aim d) is e = absurd (not_elsewhere (want.Look lock) (λ h. h) (load_of (wanted m.setting m.reads)) e (load_is (wanted m.setting m.reads)))
-looking_in m lock (Seek aim d) is e = absurd (not_elsewhere (want.Look lock) (λ h. h) (count_of (walk_wants m.setting m.walk)) e (count_is (walk_wants m.setting m.walk)))
-looking_in m lock (Top post root) is e = absurd (not_elsewhere (want.Look lock) (λ h. h) (count_of (walk_wants m.setting m.walk)) e (count_is (walk_wants m.setting m.walk)))
-looking_in m lock ph is e = cc
-
-pub looking : (m : Machine) (lock : ℕ) → want_of m ≡ want.Look lock → IsLooking m lock
-looking m lock e = looking_in m lock m.phase refl e
-
-pub record IsLeavingFor (m : Machine) (lock : ℕ) (carry : Option ℕ) : Type 0 where
-  pub node : ℕ
-  pub after : Then
-  pub phase_is : m.phase ≡ Leave node carry after
-  pub lock_is : lock_of m.setting node ≡ lock
-
-leaving_in : (m : Machine) (lock : ℕ) (carry : Option ℕ) (ph : Phase) → m.phase ≡ ph → want_in m ph ≡ want.Leave lock carry → IsLeavingFor m lock carry
-leaving_in m lock carry (Leave node c after) is e = record { node = node; after = after; phase_is = let k : c ≡ carry = cc in is ∙ ap (λ (o : Option ℕ). Leave node o after) k; lock_is = cc }
-leaving_in m lock carry (Read aim top) is e = absurd (not_elsewhere (want.Leave lock carry) (λ h. h) (load_of (wanted m.setting m.reads)) e (load_is (wanted m.setting m.reads)))
-leaving_in m lock carry (Hold aim d) is e = absurd (not_elsewhere (want.Leave lock carry) (λ h. h) (load_of (wanted m.setting m.reads)) e (load_is (wanted m.setting m.reads)))
-leaving_in m lock carry (Seek aim d) is e = absurd (not_elsewhere (want.Leave lock carry) (λ h. h) (count_of (walk_wants m.setting m.walk)) e (count_is (walk_wants m.setting m.walk)))
-leaving_in m lock carry (Top post root) is e = absurd (not_elsewhere (want.Leave lock carry) (λ h. h) (count_of (walk_wants m.setting m.walk)) e (count_is (walk_wants m.setting m.walk)))
-leaving_in m lock carry ph is e = cc
-
-pub leaving : (m : Machine) (lock : ℕ) (carry : Option ℕ) → want_of m ≡ want.Leave lock carry → IsLeavingFor m lock carry
-leaving m lock carry e = leaving_in m lock carry m.phase refl e
-
--- a turn of a line makes no entry
-no_makes : (m : Machine) (ph : Phase) → (Elsewhere (want_in m ph) → ⊥) → made_in m ph ≡ []
-no_makes m (Body n carry done write after) h = absurd (h tt)
-no_makes m ph h = refl
-
-pub line_makes : (m : Machine) (w : Want) → want_of m ≡ w → (Elsewhere w → ⊥) → makes m ≡ []
-line_makes m w e h = no_makes m m.phase (λ x. h (subst Elsewhere e x))
-
--- behind a turn the seat stands where its client does
-stand_ended : (m : Machine) (ph : Phase) → has_ended ph ≡ true → stand_in m.setting m ph ≡ Away
-stand_ended m Ended e = refl
-stand_ended m ph e = cc
+-- ---- behind a turn the seat stands where its client does
 
 pub place_stand : (q : Place) (log more : List Entry) (m : Machine) → stand_of (place_after q log more m).client ≡ stand_of m
 place_stand q log more m = by_end (has_ended m.phase) refl where

@@ -1,8 +1,10 @@
 -- The world's turn as what its parts do.
-use Rattle.std.proofs.Common.{◌≡◌, ◌≢◌, ℕ, ◌-◌, ◌<◌, ◌≤◌, inl, inr, Bool, true, false, List, [], ◌++◌, length, get_or, set, take, Option, Some, None, refl, sym, ap, ◌∙◌, subst, arith}
+use Rattle.std.proofs.Common.{◌≡◌, ◌≢◌, ℕ, zero, suc, ◌-◌, ◌<◌, ◌≤◌, inl, inr, Bool, true, false, List, [], ◌++◌, length, get_or, set, take, Option, Some, None, refl, sym, ap, ◌∙◌, subst, arith}
 use Rattle.std.specs.Prelude.{◌==◌, if◌then◌else◌, slice_get, IfSome}
 use Rattle.std.proofs.lemmas.Option.{slice_get_within, slice_get_read}
 use Rattle.std.proofs.lemmas.List.{append-nil, length-set, take_at}
+use Rattle.sh_logic.proofs.Lists.{set_here}
+use Rattle.sh_logic.proofs.Options.{some_is}
 use Rattle.sh_base.specs.declared.config.ConfigParts.{ConfigParts}
 use Rattle.sh_base.specs.declared.event.Event.{Event}
 use Rattle.sh_base.specs.declared.event.Event.TheVariants.{Load, Store, Exchange, Add}
@@ -12,25 +14,28 @@ use Rattle.sh_map.specs.declared.log.Entry.{Entry}
 use Rattle.sh_client.specs.declared.state.Want.{Want}
 use Rattle.sh_client.specs.declared.state.Want.TheVariants as want
 use Rattle.sh_client.specs.Machine.{Machine}
-use Rattle.sh_client.specs.Feeds.{fed_by}
+use Rattle.sh_client.specs.Feeds.{fed_by, turned_by}
 use Rattle.sh_client.specs.Giving.{makes}
 use Rattle.sh_client.specs.Wants.{want_of, IsWithin}
-use Rattle.sh_core.specs.Actors.{has_ended, point_of}
+use Rattle.sh_map.specs.Points.{point_of}
+use Rattle.sh_client.specs.Rests.{has_ended}
 use Rattle.sh_world.specs.declared.state.Given.{Given}
 use Rattle.sh_world.specs.declared.state.Line.{Line}
 use Rattle.sh_world.specs.declared.turn.Turn.{Turn}
 use Rattle.sh_world.specs.States.{Place, State, actor_of, answered, line_at}
-use Rattle.sh_world.specs.Turning.{answer_at, answer_in, answer_of, asked, behind, calls_after, drawn, left_line, line_of, looked_client, looked_line, or_free, place_after, took, turn_at, turn_of, with_ticket}
+use Rattle.sh_world.specs.Turning.{answer_at, turn_answer_in, answer_of, asked, behind, calls_after, drawn, left_line, line_of, looked_client, looked_line, or_free, line_called, place_after, place_called, took, took_in, turn_at, turn_of, wanted_lock, IsTurn}
 use Rattle.sh_world.specs.Running.{IsRunning, IsWorld}
 use Rattle.sh_world.specs.Seats.{CanSettle}
 use Rattle.sh_world.proofs.LineLemmas.{compute_within}
 use Rattle.sh_world.proofs.DoneLemmas.{length_answered}
-use Rattle.sh_world.proofs.MoveLemmas.{set_again, set_here}
+use Rattle.sh_world.proofs.MoveLemmas.{set_again}
 use Rattle.sh_world.proofs.StartLemmas.{asked_runs, event_settles, leave_settles}
 use Rattle.sh_world.proofs.TurnLemmas.{at_line, count_runs, draw_runs, event_runs, leave_runs, look_runs, put_place}
-
-some_is : {X : Type 0} {x y : X} → Some x ≡ Some y → x ≡ y
-some_is e = cc
+use Rattle.sh_client.proofs.InLineLemmas.{count_stands, draw_stands, look_stands}
+use Rattle.sh_client.proofs.Wanting.{stand_ended}
+use Rattle.sh_client.specs.InLine.{MayHand, Stand, stand_of, IsIn}
+use Rattle.sh_world.specs.declared.turn.Turn.TheVariants as turn
+use Rattle.sh_base.specs.Setting.{all_locks}
 
 -- a world that has seats runs
 pub runs : (s : State) (room width : ℕ) → IsWorld s room width → s.seats ≢ [] → IsRunning s × (length s.calls < room) × (width ≡ s.setting.value_words)
@@ -48,8 +53,8 @@ module _ (s : State) (run : IsRunning s) (i : ℕ) (q : Place) (at : slice_get s
   pub turn_is : (w : Want) → want_of R.client ≡ w → turn_of s i ≡ took s i R w
   turn_is w e = ap (turn_at s i) at ∙ ap (took s i R) e
 
-  pub answer_is : (w : Want) → want_of R.client ≡ w → answer_of s i ≡ answer_in s.words w
-  answer_is w e = ap (answer_at s) at ∙ ap (answer_in s.words) e
+  pub answer_is : (w : Want) → want_of R.client ≡ w → answer_of s i ≡ turn_answer_in s.words w
+  answer_is w e = ap (answer_at s) at ∙ ap (turn_answer_in s.words) e
 
   pub run1 : IsRunning S1
   run1 = asked_runs s run i q at
@@ -64,9 +69,9 @@ module _ (s : State) (run : IsRunning s) (i : ℕ) (q : Place) (at : slice_get s
   took_runs : (w : Want) → want_of R.client ≡ w → IsWithin s.setting w → IsRunning (took s i R w)
   took_runs want.Done e within = run1
   took_runs (want.Event x) e within = again (apply s.words x) (s.log ++ makes R.client) (place_after R s.log (makes R.client) (fed_by R.client (found_by s.words x))) (calls_after s.calls R s.log (fed_by R.client (found_by s.words x))) s.lines (event_runs S1 run1 i R at1 x e)
-  took_runs (want.Draw lock) e within = again s.words (s.log ++ []) (place_after (with_ticket R (line_of s i lock).next) s.log [] (fed_by R.client (line_of s i lock).next)) (calls_after s.calls (with_ticket R (line_of s i lock).next) s.log (fed_by R.client (line_of s i lock).next)) (set s.lines (line_at s.setting lock (compute_of s.setting i)) (drawn (line_of s i lock))) (draw_runs S1 run1 i R at1 lock within e)
+  took_runs (want.Draw lock) e within = again s.words (s.log ++ []) (place_after (record R { ticket = (line_of s i lock).next }) s.log [] (fed_by R.client (line_of s i lock).next)) (calls_after s.calls (record R { ticket = (line_of s i lock).next }) s.log (fed_by R.client (line_of s i lock).next)) (set s.lines (line_at s.setting lock (compute_of s.setting i)) (drawn (line_of s i lock))) (draw_runs S1 run1 i R at1 lock within e)
   took_runs (want.Look lock) e within = again s.words (s.log ++ []) (place_after R s.log [] (looked_client R (line_of s i lock))) (calls_after s.calls R s.log (looked_client R (line_of s i lock))) (set s.lines (line_at s.setting lock (compute_of s.setting i)) (looked_line R (line_of s i lock))) (look_runs S1 run1 i R at1 lock within e)
-  took_runs (want.Waiting lock) e within = again s.words (s.log ++ []) _ _ s.lines (count_runs S1 run1 i R at1 lock within e)
+  took_runs (want.Waiting lock) e within = again s.words (s.log ++ []) _ _ (set s.lines (line_at s.setting lock (compute_of s.setting i)) (line_of s i lock)) (count_runs S1 run1 i R at1 lock within e)
   took_runs (want.Leave lock carry) e within = again s.words (s.log ++ []) (place_after R s.log [] (fed_by R.client 0)) (calls_after s.calls R s.log (fed_by R.client 0)) (set s.lines (line_at s.setting lock (compute_of s.setting i)) (left_line (line_of s i lock) carry)) (leave_runs S1 run1 i R at1 lock within carry e)
 
   -- a turn keeps all that holds of a world
@@ -75,29 +80,19 @@ module _ (s : State) (run : IsRunning s) (i : ℕ) (q : Place) (at : slice_get s
 
   calls_long : (m : Machine) (x : Place) → length (calls_after s.calls x s.log m) ≡ length s.calls
   calls_long m x = by_end (has_ended m.phase) where
-    by_end : (b : Bool) → length (if b then answered s.calls (x.number - 1) m.reply x.first (point_of s.log x.first x.point m.call m.reply) else s.calls) ≡ length s.calls
-    by_end true = length_answered s.calls (x.number - 1) m.reply x.first (point_of s.log x.first x.point m.call m.reply)
+    by_end : (b : Bool) → length (if b then answered s.calls (x.number - 1) m.registers.reply x.first (point_of s.log x.first x.point m.registers.call m.registers.reply) else s.calls) ≡ length s.calls
+    by_end true = length_answered s.calls (x.number - 1) m.registers.reply x.first (point_of s.log x.first x.point m.registers.call m.registers.reply)
     by_end false = refl
 
-  took_long : (w : Want) → length (took s i R w).calls ≡ length s.calls
-  took_long want.Done = refl
-  took_long (want.Event x) = calls_long (fed_by R.client (found_by s.words x)) R
-  took_long (want.Draw lock) = calls_long (fed_by R.client (line_of s i lock).next) (with_ticket R (line_of s i lock).next)
-  took_long (want.Look lock) = calls_long (looked_client R (line_of s i lock)) R
-  took_long (want.Waiting lock) = calls_long (fed_by R.client (behind (line_of s i lock) R.ticket)) R
-  took_long (want.Leave lock carry) = calls_long (fed_by R.client 0) R
-
-  took_setting : (w : Want) → (took s i R w).setting ≡ s.setting
-  took_setting want.Done = refl
-  took_setting (want.Event x) = refl
-  took_setting (want.Draw lock) = refl
-  took_setting (want.Look lock) = refl
-  took_setting (want.Waiting lock) = refl
-  took_setting (want.Leave lock carry) = refl
+  -- as many calls, in the same setting
+  took_long : (w : Want) (lock : Option ℕ) → (length (took_in s i R w lock).calls ≡ length s.calls) × ((took_in s i R w lock).setting ≡ s.setting)
+  took_long w (Some lock) = (calls_long (place_called R (line_of s i lock) w).client (place_called R (line_of s i lock) w), refl)
+  took_long (want.Event x) None = (calls_long (fed_by R.client (found_by s.words x)) R, refl)
+  took_long w None = (refl, refl)
 
   -- a world of the same parts is one, with as much room
   pub world_is : (w : Want) → want_of R.client ≡ w → IsWithin s.setting w → (t : State) (room new width : ℕ) → t ≡ took s i R w → length s.calls < room → new ≡ room → width ≡ s.setting.value_words → IsWorld t new width
-  world_is w e within t room new width is lt same wide = subst (λ (x : State). IsWorld x new width) (sym is) (let l = took_long w in inr (took_runs w e within, omega (arith, l, lt, same), wide ∙ ap (λ (p : ConfigParts). p.value_words) (sym (took_setting w))))
+  world_is w e within t room new width is lt same wide = subst (λ (x : State). IsWorld x new width) (sym is) (let l = took_long w (wanted_lock w) in inr (took_runs w e within, omega (arith, l.0, lt, same), wide ∙ ap (λ (p : ConfigParts). p.value_words) (sym l.1)))
 
 -- ---- from what a turn's parts do to the turn
 
@@ -132,40 +127,21 @@ module _ (s : State) (i : ℕ) (r R : Place) (r_is : r ≡ R) where
       let p : x ≡ place_after R s.log (makes R.client) (fed_by R.client (found_by s.words e)) = x_is ∙ (λ z. place_after (r_is z) s.log (makes (r_is z).client) (fed_by (r_is z).client (found_by (ws_is z) e))) in
       λ z. record { setting = s.setting; words = w z; log = l z; seats = set s.seats i (p z); calls = c z; lines = s.lines }
 
-  module _ (lock k : ℕ) (l : Line) (lg : List Entry) (cs calls : List Given) (x : Place) (lg_is : lg ≡ s.log) (cs_is : cs ≡ s.calls) (k_is : k ≡ line_at s.setting lock (compute_of s.setting i)) (l_is : l ≡ line_of s i lock) where
-    none : s.log ≡ s.log ++ []
-    none = sym (append-nil s.log)
+  -- a call on a line
+  module _ (lock k : ℕ) where
+    abbrev K : ℕ
+    K = line_at s.setting lock (compute_of s.setting i)
 
-    pub draw_world : (new : Line) → new ≡ drawn l → x ≡ place_after (with_ticket r l.next) lg [] (fed_by r.client l.next) → calls ≡ calls_after cs r lg (fed_by r.client l.next)
-        → record { setting = s.setting; words = s.words; log = s.log; seats = set s.seats i x; calls = calls; lines = set s.lines k new } ≡ took s i R (want.Draw lock)
-    draw_world new new_is x_is calls_is =
-        let c = calls_is ∙ (λ z. calls_after (cs_is z) (r_is z) (lg_is z) (fed_by (r_is z).client (l_is z).next)) in
-        let p = x_is ∙ (λ z. place_after (with_ticket (r_is z) (l_is z).next) (lg_is z) [] (fed_by (r_is z).client (l_is z).next)) in
-        let n = new_is ∙ ap drawn l_is in
-        λ z. record { setting = s.setting; words = s.words; log = none z; seats = set s.seats i (p z); calls = c z; lines = set s.lines (k_is z) (n z) }
-
-    pub look_world : (new : Line) → new ≡ looked_line r l → x ≡ place_after r lg [] (looked_client r l) → calls ≡ calls_after cs r lg (looked_client r l)
-        → record { setting = s.setting; words = s.words; log = s.log; seats = set s.seats i x; calls = calls; lines = set s.lines k new } ≡ took s i R (want.Look lock)
-    look_world new new_is x_is calls_is =
-        let c = calls_is ∙ (λ z. calls_after (cs_is z) (r_is z) (lg_is z) (looked_client (r_is z) (l_is z))) in
-        let p = x_is ∙ (λ z. place_after (r_is z) (lg_is z) [] (looked_client (r_is z) (l_is z))) in
-        let n = new_is ∙ (λ z. looked_line (r_is z) (l_is z)) in
-        λ z. record { setting = s.setting; words = s.words; log = none z; seats = set s.seats i (p z); calls = c z; lines = set s.lines (k_is z) (n z) }
-
-    pub count_world : x ≡ place_after r lg [] (fed_by r.client (behind l r.ticket)) → calls ≡ calls_after cs r lg (fed_by r.client (behind l r.ticket))
-        → record { setting = s.setting; words = s.words; log = s.log; seats = set s.seats i x; calls = calls; lines = s.lines } ≡ took s i R (want.Waiting lock)
-    count_world x_is calls_is =
-        let c = calls_is ∙ (λ z. calls_after (cs_is z) (r_is z) (lg_is z) (fed_by (r_is z).client (behind (l_is z) (r_is z).ticket))) in
-        let p = x_is ∙ (λ z. place_after (r_is z) (lg_is z) [] (fed_by (r_is z).client (behind (l_is z) (r_is z).ticket))) in
-        λ z. record { setting = s.setting; words = s.words; log = none z; seats = set s.seats i (p z); calls = c z; lines = s.lines }
-
-    pub leave_world : (carry : Option ℕ) (new : Line) → new ≡ left_line l carry → x ≡ place_after r lg [] (fed_by r.client 0) → calls ≡ calls_after cs r lg (fed_by r.client 0)
-        → record { setting = s.setting; words = s.words; log = s.log; seats = set s.seats i x; calls = calls; lines = set s.lines k new } ≡ took s i R (want.Leave lock carry)
-    leave_world carry new new_is x_is calls_is =
-        let c = calls_is ∙ (λ z. calls_after (cs_is z) (r_is z) (lg_is z) (fed_by (r_is z).client 0)) in
-        let p = x_is ∙ (λ z. place_after (r_is z) (lg_is z) [] (fed_by (r_is z).client 0)) in
-        let n = new_is ∙ ap (λ (y : Line). left_line y carry) l_is in
-        λ z. record { setting = s.setting; words = s.words; log = none z; seats = set s.seats i (p z); calls = c z; lines = set s.lines (k_is z) (n z) }
+    pub called_world : (w : Want) (l new : Line) (lg : List Entry) (cs calls : List Given) (x : Place) → lg ≡ s.log → cs ≡ s.calls → k ≡ K → k < length s.lines → l ≡ get_or s.lines k l → wanted_lock w ≡ Some lock
+        → new ≡ line_called r l w → x ≡ place_after (place_called r l w) lg [] (place_called r l w).client → calls ≡ calls_after cs (place_called r l w) lg (place_called r l w).client
+        → record { setting = s.setting; words = s.words; log = s.log; seats = set s.seats i x; calls = calls; lines = set s.lines k new } ≡ took s i R w
+    called_world w l new lg cs calls x lg_is cs_is k_is lt read lock_is new_is x_is calls_is =
+        let l_is = line_read s i lock k l k_is lt read in
+        let p = x_is ∙ (λ z. place_after (place_called (r_is z) (l_is z) w) (lg_is z) [] (place_called (r_is z) (l_is z) w).client) in
+        let c = calls_is ∙ (λ z. calls_after (cs_is z) (place_called (r_is z) (l_is z) w) (lg_is z) (place_called (r_is z) (l_is z) w).client) in
+        let n = new_is ∙ (λ z. line_called (r_is z) (l_is z) w) in
+        (λ z. record { setting = s.setting; words = s.words; log = sym (append-nil s.log) z; seats = set s.seats i (p z); calls = c z; lines = set s.lines (k_is z) (n z) })
+        ∙ sym (ap (took_in s i R w) lock_is)
 
 -- the seat was asked, and wants this
 pub record IsAsked (s : State) (i room width : ℕ) (r : Place) (w : Want) : Type 0 where
@@ -202,8 +178,15 @@ module _ (s : State) (i room width : ℕ) (r : Place) (w : Want) (a : IsAsked s 
   pub value_is : (t u : State) → s ≡ u → t ≡ took s i (asked s.calls a.place (length s.log)) w → t ≡ turn_of u i
   value_is t u e is = is ∙ sym (turn_is s a.run i a.place a.here w a.want_is) ∙ ap (λ (x : State). turn_of x i) e
 
-  pub told_is : (u : State) (words : List ℕ) (x : Turn) → s ≡ u → words ≡ s.words → x ≡ answer_in words w → x ≡ answer_of u i
-  told_is u words x e ws is = is ∙ ap (λ (v : List ℕ). answer_in v w) ws ∙ sym (answer_is s a.run i a.place a.here w a.want_is) ∙ ap (λ (y : State). answer_of y i) e
+  pub told_is : (u : State) (words : List ℕ) (x : Turn) → s ≡ u → words ≡ s.words → x ≡ turn_answer_in words w → x ≡ answer_of u i
+  told_is u words x e ws is = is ∙ ap (λ (v : List ℕ). turn_answer_in v w) ws ∙ sym (answer_is s a.run i a.place a.here w a.want_is) ∙ ap (λ (y : State). answer_of y i) e
+
+  -- the seat wants it now
+  pub wants : want_of r.client ≡ w
+  wants = ap (λ (x : Place). want_of x.client) a.asked_is ∙ a.want_is
+
+  pub turned : (t u : State) (words : List ℕ) (x : Turn) → s ≡ u → words ≡ s.words → t ≡ took s i (asked s.calls a.place (length s.log)) w → x ≡ turn_answer_in words w → IsTurn u i t x
+  turned t u words x e ws is told = record { world = value_is t u e is; answer = told_is u words x e ws told }
 
   pub kept_is : (t : State) (new now : ℕ) → t ≡ took s i (asked s.calls a.place (length s.log)) w → new ≡ room → now ≡ width → IsWorld t new now
   kept_is t new now is same wide = world_is s a.run i a.place a.here w a.want_is a.within t room new now is a.room_is same (wide ∙ a.wide)
@@ -216,22 +199,66 @@ event_can s i room width r e cs ws a cs_is ws_is =
     (subst (λ (v : List ℕ). CanSettle s.log s.setting.value_words cs (asked s.calls a.place (length s.log)) (fed_by (asked s.calls a.place (length s.log)).client (found_by v e))) (sym ws_is)
     (subst (λ (c : List Given). CanSettle s.log s.setting.value_words c (asked s.calls a.place (length s.log)) (fed_by (asked s.calls a.place (length s.log)).client (found_by s.words e))) (sym cs_is) h)))
 
-pub leave_can : (s : State) (i room width : ℕ) (r : Place) (lock : ℕ) (carry : Option ℕ) (cs : List Given) (lg : List Entry) → IsAsked s i room width r (want.Leave lock carry) → cs ≡ s.calls → lg ≡ s.log → CanSettle lg width cs r (fed_by r.client 0)
+-- ---- a call on a line
+
+pub lock_within : (p : ConfigParts) (w : Want) (lock : ℕ) → wanted_lock w ≡ Some lock → IsWithin p w → lock < all_locks p
+lock_within p (want.Draw n) lock e h = subst (λ (m : ℕ). m < all_locks p) (some_is e) h
+lock_within p (want.Look n) lock e h = subst (λ (m : ℕ). m < all_locks p) (some_is e) h
+lock_within p (want.Waiting n) lock e h = subst (λ (m : ℕ). m < all_locks p) (some_is e) h
+lock_within p (want.Leave n carry) lock e h = subst (λ (m : ℕ). m < all_locks p) (some_is e) h
+lock_within p w lock e h = cc
+
+-- what it answers
+pub local_told : (words : List ℕ) (w : Want) (lock : ℕ) → wanted_lock w ≡ Some lock → turn.Local ≡ turn_answer_in words w
+local_told words (want.Event e) lock x = cc
+local_told words want.Done lock x = cc
+local_told words w lock x = refl
+
+pub nothing_left : (w : Want) → wanted_lock w ≡ None → ((e : Event) → w ≢ want.Event e) → w ≡ want.Done
+nothing_left (want.Event e) none h = absurd (h e refl)
+nothing_left want.Done none h = refl
+nothing_left w none h = cc
+
+-- a client that stands in a line goes on
+in_line_goes : (m : Machine) (lock : ℕ) → IsIn lock (stand_of m) → has_ended m.phase ≡ true → ⊥
+in_line_goes m lock h e = subst (IsIn lock) (stand_ended m m.phase e) h
+
+may_be : (lock n : ℕ) (x : Stand) → MayHand lock n x → IsIn lock x
+may_be lock zero x e = subst (IsIn lock) (sym e) refl
+may_be lock (suc n) x e = elim e [ inl f ↦ subst (IsIn lock) (sym f) refl | inr f ↦ subst (IsIn lock) (sym f) refl ]
+
+looks_on : (r : Place) (l : Line) (lock : ℕ) → want_of r.client ≡ want.Look lock → (b : Bool) → IsIn lock (stand_of (if b then turned_by r.client l.left else fed_by r.client l.served))
+looks_on r l lock w true = subst (IsIn lock) (sym (look_stands r.client 0 lock l.left r.client.phase w).2) refl
+looks_on r l lock w false = let x = look_stands r.client l.served lock None r.client.phase w in subst (λ (m : Machine). IsIn lock (stand_of m)) (sym x.1) (subst (IsIn lock) (sym x.0) refl)
+
+leave_can : (s : State) (i room width : ℕ) (r : Place) (lock : ℕ) (carry : Option ℕ) (cs : List Given) (lg : List Entry) → IsAsked s i room width r (want.Leave lock carry) → cs ≡ s.calls → lg ≡ s.log → CanSettle lg width cs r (fed_by r.client 0)
 leave_can s i room width r lock carry cs lg a cs_is lg_is =
-    let h = leave_settles (put_place s i (asked s.calls a.place (length s.log))) (run1 s a.run i a.place a.here) i (asked s.calls a.place (length s.log)) (at1 s a.run i a.place a.here) lock a.within carry a.want_is in
+    let q = asked s.calls a.place (length s.log) in
+    let h = leave_settles (put_place s i q) (run1 s a.run i a.place a.here) i q (at1 s a.run i a.place a.here) lock a.within carry a.want_is in
     subst (λ (n : ℕ). CanSettle lg n cs r (fed_by r.client 0)) (sym a.wide)
     (subst (λ (x : Place). CanSettle lg s.setting.value_words cs x (fed_by x.client 0)) (sym a.asked_is)
-    (subst (λ (v : List Entry). CanSettle v s.setting.value_words cs (asked s.calls a.place (length s.log)) (fed_by (asked s.calls a.place (length s.log)).client 0)) (sym lg_is)
-    (subst (λ (c : List Given). CanSettle s.log s.setting.value_words c (asked s.calls a.place (length s.log)) (fed_by (asked s.calls a.place (length s.log)).client 0)) (sym cs_is) h)))
+    (subst (λ (v : List Entry). CanSettle v s.setting.value_words cs q (fed_by q.client 0)) (sym lg_is)
+    (subst (λ (c : List Given). CanSettle s.log s.setting.value_words c q (fed_by q.client 0)) (sym cs_is) h)))
+
+-- a call that ends with it can end
+pub call_can : (s : State) (i room width : ℕ) (r : Place) (w : Want) (lock : ℕ) (l : Line) (cs : List Given) (lg : List Entry) → IsAsked s i room width r w → wanted_lock w ≡ Some lock → cs ≡ s.calls → lg ≡ s.log → CanSettle lg width cs (place_called r l w) (place_called r l w).client
+call_can s i room width r (want.Draw n) lock l cs lg a e cs_is lg_is = λ ended. absurd (in_line_goes (fed_by r.client l.next) n (subst (IsIn n) (sym (draw_stands r.client l.next n r.client.phase (wants s i room width r _ a)).1) refl) ended)
+call_can s i room width r (want.Look n) lock l cs lg a e cs_is lg_is = λ ended. absurd (in_line_goes (looked_client r l) n (looks_on r l n (wants s i room width r _ a) (l.served == r.ticket)) ended)
+call_can s i room width r (want.Waiting n) lock l cs lg a e cs_is lg_is = λ ended. absurd (in_line_goes (fed_by r.client (behind l r.ticket)) n (may_be n (behind l r.ticket) _ (count_stands r.client (behind l r.ticket) n r.client.phase (wants s i room width r _ a)).1) ended)
+call_can s i room width r (want.Leave n carry) lock l cs lg a e cs_is lg_is = λ ended.
+    let x = leave_can s i room width r n carry cs lg a cs_is lg_is ended in
+    record { legal = x.legal; real = x.real; call = x.call; point = x.point; wide = x.wide; first = x.first; place = x.place; few = x.few; ended = x.ended }
+call_can s i room width r w lock l cs lg a e cs_is lg_is = cc
 
 -- what was left in a line is within the bound
-pub left_bound : (s : State) (i room width : ℕ) (r : Place) (lock : ℕ) (l : Line) → IsAsked s i room width r (want.Look lock) → l ≡ line_of s i lock → (d : ℕ) → l.left ≡ Some d → d ≤ r.client.setting.bound
-left_bound s i room width r lock l a l_is d e =
+pub left_bound : (s : State) (i room width : ℕ) (r : Place) (w : Want) (lock : ℕ) (l : Line) → IsAsked s i room width r w → wanted_lock w ≡ Some lock → l ≡ line_of s i lock → (d : ℕ) → l.left ≡ Some d → d ≤ r.client.setting.bound
+left_bound s i room width r w lock l a lock_is l_is d e =
+    let within = lock_within s.setting w lock lock_is a.within in
     let q = asked s.calls a.place (length s.log) in
     let r1 = run1 s a.run i a.place a.here in
     let seat = (r1.inv.kept i (actor_of s.calls i q) (record { place = q; here = at1 s a.run i a.place a.here; actor_is = refl })).work.seated.within in
     let compute = compute_within s.setting a.run.setting i seat in
-    let h = (a.run.lines.each lock (compute_of s.setting i) (line_of s i lock) a.within compute (at_line s a.run i a.place a.here lock a.within)).left d (ap (λ (x : Line). x.left) (sym l_is) ∙ e) in
+    let h = (a.run.lines.each lock (compute_of s.setting i) (line_of s i lock) within compute (at_line s a.run i a.place a.here lock within)).left d (ap (λ (x : Line). x.left) (sym l_is) ∙ e) in
     let set_is : r.client.setting ≡ s.setting = ap (λ (x : Place). x.client.setting) a.asked_is ∙ asked_setting s a.run i a.place a.here in
     let bound : r.client.setting.bound ≡ s.setting.bound = ap (λ (p : ConfigParts). p.bound) set_is in
     omega (arith, h.1, bound)

@@ -27,16 +27,16 @@ call_of Del key words = call.Del key
 call_of Range key words = call.Range key (slice_index words 0)
 
 -- as do a reply's bound and version
-abbrev pub reply_of : ReplyKind → List ℕ → Option Reply
-reply_of kind.Waiting words = None
-reply_of kind.Some words = Some (reply.Some words)
-reply_of kind.None words = Some reply.None
-reply_of kind.Rows words = Some (reply.Rows (slice_index words 0))
-reply_of kind.Full words = Some reply.Full
-reply_of kind.Worn words = Some (reply.Worn (slice_index words 0))
+abbrev pub reply_read : ReplyKind → List ℕ → Option Reply
+reply_read kind.Waiting words = None
+reply_read kind.Some words = Some (reply.Some words)
+reply_read kind.None words = Some reply.None
+reply_read kind.Rows words = Some (reply.Rows (slice_index words 0))
+reply_read kind.Full words = Some reply.Full
+reply_read kind.Worn words = Some (reply.Worn (slice_index words 0))
 
 abbrev pub given_of : Kept → (asked answer : List ℕ) → Given
-given_of k asked answer = record { seat = k.seat; call = call_of k.call k.key asked; reply = reply_of k.reply answer; first = k.first; point = k.point }
+given_of k asked answer = record { seat = k.seat; call = call_of k.call k.key asked; reply = reply_read k.reply answer; first = k.first; point = k.point }
 
 -- each call has the next two values
 unfoldable pub calls_of : (width : ℕ) → List Kept → (words : List ℕ) → List Given

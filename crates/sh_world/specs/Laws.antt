@@ -9,10 +9,10 @@ use Rattle.sh_client.specs.declared.state.Want.TheVariants as want
 use Rattle.sh_client.specs.Giving.{makes}
 use Rattle.sh_client.specs.Wants.{want_of}
 use Rattle.sh_core.specs.Actors.{Actor}
-use Rattle.sh_core_books.specs.Books.{counter_in, HasAnswers, IsLawfulBook}
+use Rattle.sh_core_says.specs.Books.{counter_in, HasAnswers, IsLawfulBook}
 use Rattle.sh_core.specs.Causes.{HaveCauses}
-use Rattle.sh_core_books.specs.Moments.{IsMoment}
-use Rattle.sh_core_books.specs.Rest.{AreAtRest}
+use Rattle.sh_core_says.specs.Moments.{IsMoment}
+use Rattle.sh_core_says.specs.Rest.{AreAtRest}
 use Rattle.sh_core_turns.specs.Senses.{is_senseless}
 use Rattle.sh_world.specs.declared.turn.Turn.TheVariants as turn
 use Rattle.sh_world.specs.declared.state.Given.{Given}
@@ -36,7 +36,7 @@ AllIdle s = (seat : ℕ) (q : Place) → slice_get s.seats seat ≡ Some q → i
 -- under way. Each refusal has its cause, and each call is answered at its point. No client comes to a senseless case. The
 -- ticket lines agree. Where every seat is idle each call has ended, the words themselves hold the tree, the book is closed, and as many nodes
 -- aren't posted as were skipped.
-pub record IsLawful (s : State) : Type 0 where
+pub record IsLawfulWorld (s : State) : Type 0 where
   pub seats : length s.seats ≡ all_seats s.setting
   pub moment : IsMoment s.setting s.words s.log (Clients s) (Rights s)
   pub book : IsLawfulBook (Clients s) s.log (dones_of s.calls)
@@ -49,17 +49,13 @@ pub record IsLawful (s : State) : Type 0 where
   pub rest : AllIdle s → AreAtRest s.setting s.words s.log (Clients s)
 
 -- the entries that a turn makes: those of the event that is wanted, and none on a line
-abbrev pub entries_in : Place → Want → List Entry
-entries_in q (want.Event e) = makes q.client
-entries_in q (want.Draw lock) = []
-entries_in q (want.Look lock) = []
-entries_in q (want.Waiting lock) = []
-entries_in q (want.Leave lock carry) = []
-entries_in q want.Done = []
+abbrev pub entries_wanted : Place → Want → List Entry
+entries_wanted q (want.Event e) = makes q.client
+entries_wanted q w = []
 
 abbrev pub entries_at : State → Option Place → List Entry
 entries_at s None = []
-entries_at s (Some q) = entries_in (asked s.calls q (length s.log)) (want_of (asked s.calls q (length s.log)).client)
+entries_at s (Some q) = entries_wanted (asked s.calls q (length s.log)) (want_of (asked s.calls q (length s.log)).client)
 
 abbrev pub entries_of_turn : State → (seat : ℕ) → List Entry
 entries_of_turn s seat = entries_at s (slice_get s.seats seat)

@@ -2,64 +2,11 @@
 use Rattle.std.specs.Prelude.{◌≡◌, ℕ, ◌*◌, ◌^◌, ◌<◌, ◌≤◌, Bool, true, false, List, length, slice_get, Option, None, Some}
 use Rattle.sh_base.specs.declared.config.ConfigParts.{ConfigParts}
 use Rattle.sh_base.specs.Setting.{all_locks, all_seats}
-use Rattle.sh_base.specs.Layout.{lock_of, compute_of}
-use Rattle.sh_client.specs.declared.state.Phase.{Phase}
-use Rattle.sh_client.specs.declared.state.Phase.TheVariants.{Idle, Root, Read, Draw, Look, Grab, Hold, Seek, Fill, Waiting, Body, Unlock, Leave, Top, Raise, Swap, Ended}
-use Rattle.sh_client.specs.Machine.{Machine}
+use Rattle.sh_base.specs.Layout.{compute_of}
+use Rattle.sh_client.specs.InLine.{stand_of, IsIn, HasTurn, WillHand}
 use Rattle.sh_world.specs.declared.state.Line.{Line}
 use Rattle.sh_world.specs.States.{Place, line_at}
 use Rattle.sh_world.specs.Turning.{minus}
-
--- Where a client stands: in no line; in the line of a lock with its ticket not served yet, as far as it knows; or with
--- its turn in the line, from which it is to hand the lock over or isn't.
-pub data Stand : Type 0 where
-  Away : Stand
-  Waits : (lock : ℕ) → Stand
-  Served : (lock : ℕ) (hands : Bool) → Stand
-
-abbrev pub is_some : Option ℕ → Bool
-is_some None = false
-is_some (Some n) = true
-
-abbrev pub stand_in : ConfigParts → Machine → Phase → Stand
-stand_in p m Idle = Away
-stand_in p m (Root aim) = Away
-stand_in p m (Read aim top) = Away
-stand_in p m (Draw aim node) = Away
-stand_in p m (Look aim node) = Waits (lock_of p node)
-stand_in p m (Grab aim node) = Served (lock_of p node) false
-stand_in p m (Hold aim depth) = Served (lock_of p m.reads.node) false
-stand_in p m (Seek aim depth) = Served (lock_of p m.reads.node) false
-stand_in p m (Fill node depth fresh done write after) = Served (lock_of p node) false
-stand_in p m (Waiting node depth write after) = Served (lock_of p node) false
-stand_in p m (Body node carry done write after) = Served (lock_of p node) (is_some carry)
-stand_in p m (Unlock node after) = Served (lock_of p node) false
-stand_in p m (Leave node carry after) = Served (lock_of p node) (is_some carry)
-stand_in p m (Top post root) = Away
-stand_in p m (Raise post root fresh done) = Away
-stand_in p m (Swap post root fresh) = Away
-stand_in p m Ended = Away
-
-abbrev pub stand_of : Machine → Stand
-stand_of m = stand_in m.setting m m.phase
-
--- it stands in the line of this lock
-abbrev pub IsIn : (lock : ℕ) → Stand → Type 0
-IsIn lock Away = ⊥
-IsIn lock (Waits l) = l ≡ lock
-IsIn lock (Served l hands) = l ≡ lock
-
--- and has its turn there
-abbrev pub HasTurn : (lock : ℕ) → Stand → Type 0
-HasTurn lock Away = ⊥
-HasTurn lock (Waits l) = ⊥
-HasTurn lock (Served l hands) = l ≡ lock
-
--- and is to hand the lock over
-abbrev pub WillHand : (lock : ℕ) → Stand → Type 0
-WillHand lock Away = ⊥
-WillHand lock (Waits l) = ⊥
-WillHand lock (Served l hands) = (l ≡ lock) × (hands ≡ true)
 
 -- the seat with this place stands in the line of a lock and a compute server
 pub record StandsIn (p : ConfigParts) (seats : List Place) (lock compute seat : ℕ) (q : Place) : Type 0 where

@@ -56,7 +56,7 @@ pub record IsPlace (calls : List Given) (seat : ℕ) (q : Place) : Type 0 where
   pub waiting : (n place : ℕ) (g : Given) → slice_get q.numbers q.ended ≡ Some n → n ≤ place + 1 → slice_get calls place ≡ Some g → g.seat ≡ seat → g.reply ≡ None
   pub rests : is_resting q.client ≡ true → q.client.phase ≡ Idle
   pub busy : is_resting q.client ≡ false → slice_get q.numbers q.ended ≡ Some q.number
-  pub call : (g : Given) → is_resting q.client ≡ false → slice_get calls (q.number - 1) ≡ Some g → g.call ≡ q.client.call
+  pub call : (g : Given) → is_resting q.client ≡ false → slice_get calls (q.number - 1) ≡ Some g → g.call ≡ q.client.registers.call
 
 -- ---- the world
 

@@ -8,7 +8,7 @@ use Rattle.sh_client.specs.Machine.{Machine}
 use Rattle.sh_client.specs.Sound.{IsPointCall}
 use Rattle.sh_client.specs.Wants.{want_of}
 use Rattle.sh_map.specs.Log.{IsLegal}
-use Rattle.sh_core.specs.Actors.{has_ended}
+use Rattle.sh_client.specs.Rests.{has_ended}
 use Rattle.sh_world.specs.declared.state.Given.{Given}
 use Rattle.sh_world.specs.States.{Place}
 use Rattle.sh_world.specs.Columns.{IsReplyWide}
@@ -29,9 +29,9 @@ CanAsk calls q = want_of q.client ≡ want.Done → (number : ℕ) → slice_get
 pub record CanEnd (log : List Entry) (width : ℕ) (calls : List Given) (q : Place) (m : Machine) : Type 0 where
   pub legal : IsLegal log
   pub real : (1 ≤ q.number) × (q.number ≤ length calls)
-  pub call : (g : Given) → slice_get calls (q.number - 1) ≡ Some g → g.call ≡ m.call
-  pub point : HasPoint log q.first m.call m.reply
-  pub wide : IsReplyWide width m.reply
+  pub call : (g : Given) → slice_get calls (q.number - 1) ≡ Some g → g.call ≡ m.registers.call
+  pub point : HasPoint log q.first m.registers.call m.registers.reply
+  pub wide : IsReplyWide width m.registers.reply
   pub first : q.first < 2 ^ 32
   pub place : q.point < 2 ^ 32
   pub few : length log < 2 ^ 32

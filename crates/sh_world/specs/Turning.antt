@@ -1,5 +1,5 @@
 -- What a turn of a seat makes of a world, and what it answers; and what it is to give a seat a call.
-use Rattle.std.specs.Prelude.{ℕ, ◌+◌, ◌-◌, ◌^◌, ◌%◌, ◌==◌, ◌&&◌, if◌then◌else◌, Bool, true, false, List, [], ◌∷◌, ◌++◌, length, slice_get, slice_set, Option, None, Some}
+use Rattle.std.specs.Prelude.{◌≡◌, ℕ, ◌+◌, ◌-◌, ◌^◌, ◌%◌, ◌==◌, ◌&&◌, if◌then◌else◌, Bool, true, false, List, [], ◌∷◌, ◌++◌, length, slice_get, slice_set, Option, None, Some}
 use Rattle.sh_base.specs.declared.event.Event.{Event}
 use Rattle.sh_base.specs.Layout.{compute_of}
 use Rattle.sh_base.specs.Memory.{apply, found_by}
@@ -14,7 +14,9 @@ use Rattle.sh_client.specs.Machine.{Machine, no_tally, to}
 use Rattle.sh_client.specs.Feeds.{fed_by, turned_by, begun}
 use Rattle.sh_client.specs.Giving.{makes}
 use Rattle.sh_client.specs.Wants.{want_of}
-use Rattle.sh_core.specs.Actors.{has_ended, point_after, point_of, seen_after}
+use Rattle.sh_map.specs.Points.{point_of}
+use Rattle.sh_core.specs.Actors.{point_after, seen_after}
+use Rattle.sh_client.specs.Rests.{has_ended}
 use Rattle.sh_world.specs.declared.state.Given.{Given}
 use Rattle.sh_world.specs.declared.state.Line.{Line}
 use Rattle.sh_world.specs.declared.turn.Turn.{Turn}
@@ -38,11 +40,7 @@ starts_next calls q seen (Some number) = starts calls q number seen (slice_get c
 -- a seat that is asked begins its next call, where its client wants nothing and a call is left
 abbrev pub asked_in : List Given → Place → (seen : ℕ) → Want → Place
 asked_in calls q seen want.Done = starts_next calls q seen (slice_get q.numbers q.ended)
-asked_in calls q seen (want.Event e) = q
-asked_in calls q seen (want.Draw lock) = q
-asked_in calls q seen (want.Look lock) = q
-asked_in calls q seen (want.Waiting lock) = q
-asked_in calls q seen (want.Leave lock carry) = q
+asked_in calls q seen w = q
 
 abbrev pub asked : List Given → Place → (seen : ℕ) → Place
 asked calls q seen = asked_in calls q seen (want_of q.client)
@@ -60,13 +58,13 @@ abbrev pub place_after : Place → List Entry → (more : List Entry) → Machin
 place_after q log more m = if has_ended m.phase then resting q log m else going q log more m
 
 -- its client made a step inside a verb itself, with a log of this length, or did nothing
-abbrev pub stepped : Place → Machine → (seen : ℕ) → Option Step → Place
-stepped q m seen (Some step) = record q { client = m; seen = seen }
-stepped q m seen None = q
+abbrev pub place_stepped : Place → Machine → (seen : ℕ) → Option Step → Place
+place_stepped q m seen (Some step) = record q { client = m; seen = seen }
+place_stepped q m seen None = q
 
 -- the calls then: the one that has ended is answered
 abbrev pub calls_after : List Given → Place → List Entry → Machine → List Given
-calls_after calls q log m = if has_ended m.phase then answered calls (q.number - 1) m.reply q.first (point_of log q.first q.point m.call m.reply) else calls
+calls_after calls q log m = if has_ended m.phase then answered calls (q.number - 1) m.registers.reply q.first (point_of log q.first q.point m.registers.call m.registers.reply) else calls
 
 -- the world then
 abbrev pub settled : State → (seat : ℕ) → Place → (more : List Entry) → Machine → State
@@ -107,12 +105,6 @@ made s seat q e = settled (record s { words = apply s.words e }) seat q (makes q
 abbrev pub drawn : Line → Line
 drawn line = record line { next = next_ticket line.next }
 
-abbrev pub with_ticket : Place → (ticket : ℕ) → Place
-with_ticket q ticket = record q { ticket = ticket }
-
-abbrev pub drew : State → (seat lock : ℕ) → Place → Line → State
-drew s seat lock q line = settled (with_line s seat lock (drawn line)) seat (with_ticket q line.next) [] (fed_by q.client line.next)
-
 -- A look: where the seat's ticket is served it takes what was left in the line.
 abbrev pub looked_client : Place → Line → Machine
 looked_client q line = if line.served == q.ticket then turned_by q.client line.left else fed_by q.client line.served
@@ -120,28 +112,43 @@ looked_client q line = if line.served == q.ticket then turned_by q.client line.l
 abbrev pub looked_line : Place → Line → Line
 looked_line q line = if line.served == q.ticket then record line { left = None } else line
 
-abbrev pub looked : State → (seat lock : ℕ) → Place → Line → State
-looked s seat lock q line = settled (with_line s seat lock (looked_line q line)) seat q [] (looked_client q line)
-
--- the count of later tickets
-abbrev pub counted : State → (seat : ℕ) → Place → Line → State
-counted s seat q line = settled s seat q [] (fed_by q.client (behind line q.ticket))
-
 -- the line is left, with a right for the next or without
 abbrev pub left_line : Line → (carry : Option ℕ) → Line
 left_line line carry = record line { served = next_ticket line.served; left = carry }
 
-abbrev pub left : State → (seat lock : ℕ) → Place → Line → (carry : Option ℕ) → State
-left s seat lock q line carry = settled (with_line s seat lock (left_line line carry)) seat q [] (fed_by q.client 0)
+-- A call on a line: the lock, what it makes of the line, and of the seat, whose client is fed. A count is fed how many later
+-- tickets were drawn.
+abbrev pub wanted_lock : Want → Option ℕ
+wanted_lock (want.Draw lock) = Some lock
+wanted_lock (want.Look lock) = Some lock
+wanted_lock (want.Waiting lock) = Some lock
+wanted_lock (want.Leave lock carry) = Some lock
+wanted_lock w = None
 
--- the turn that the client wants
+abbrev pub line_called : Place → Line → Want → Line
+line_called q line (want.Draw lock) = drawn line
+line_called q line (want.Look lock) = looked_line q line
+line_called q line (want.Leave lock carry) = left_line line carry
+line_called q line w = line
+
+abbrev pub place_called : Place → Line → Want → Place
+place_called q line (want.Draw lock) = record q { client = fed_by q.client line.next; ticket = line.next }
+place_called q line (want.Look lock) = record q { client = looked_client q line }
+place_called q line (want.Waiting lock) = record q { client = fed_by q.client (behind line q.ticket) }
+place_called q line (want.Leave lock carry) = record q { client = fed_by q.client 0 }
+place_called q line w = q
+
+abbrev pub called : State → (seat lock : ℕ) → Place → Line → Want → State
+called s seat lock q line w = settled (with_line s seat lock (line_called q line w)) seat (place_called q line w) [] (place_called q line w).client
+
+-- the turn that the client wants: a call on a line, an event, or nothing
+abbrev pub took_in : State → (seat : ℕ) → Place → Want → (lock : Option ℕ) → State
+took_in s seat q w (Some lock) = called s seat lock q (line_of s seat lock) w
+took_in s seat q (want.Event e) None = made s seat q e
+took_in s seat q w None = record s { seats = slice_set s.seats seat q }
+
 abbrev pub took : State → (seat : ℕ) → Place → Want → State
-took s seat q (want.Event e) = made s seat q e
-took s seat q (want.Draw lock) = drew s seat lock q (line_of s seat lock)
-took s seat q (want.Look lock) = looked s seat lock q (line_of s seat lock)
-took s seat q (want.Waiting lock) = counted s seat q (line_of s seat lock)
-took s seat q (want.Leave lock carry) = left s seat lock q (line_of s seat lock) carry
-took s seat q want.Done = record s { seats = slice_set s.seats seat q }
+took s seat q w = took_in s seat q w (wanted_lock w)
 
 abbrev pub turn_at : State → (seat : ℕ) → Option Place → State
 turn_at s seat None = s
@@ -154,30 +161,28 @@ turn_of s seat = turn_at s seat (slice_get s.seats seat)
 
 -- ---- what a turn answers
 
-abbrev pub answer_in : List ℕ → Want → Turn
-answer_in words (want.Event e) = turn.Event e (found_by words e)
-answer_in words (want.Draw lock) = turn.Local
-answer_in words (want.Look lock) = turn.Local
-answer_in words (want.Waiting lock) = turn.Local
-answer_in words (want.Leave lock carry) = turn.Local
-answer_in words want.Done = turn.Idle
+abbrev pub turn_answer_in : List ℕ → Want → Turn
+turn_answer_in words (want.Event e) = turn.Event e (found_by words e)
+turn_answer_in words want.Done = turn.Idle
+turn_answer_in words w = turn.Local
 
 abbrev pub answer_at : State → Option Place → Turn
 answer_at s None = turn.Idle
-answer_at s (Some q) = answer_in s.words (want_of (asked s.calls q (length s.log)).client)
+answer_at s (Some q) = turn_answer_in s.words (want_of (asked s.calls q (length s.log)).client)
 
 -- the event with the word that it found; or that the turn was a call on a line; or that there was nothing to do
 abbrev pub answer_of : State → (seat : ℕ) → Turn
 answer_of s seat = answer_at s (slice_get s.seats seat)
 
+-- this came of a turn of the seat, and was answered
+pub record IsTurn (old : State) (seat : ℕ) (new : State) (told : Turn) : Type 0 where
+  pub world : new ≡ turn_of old seat
+  pub answer : told ≡ answer_of old seat
+
 -- the seat has no call under way, and none left
 abbrev pub is_done : Want → Bool
 is_done want.Done = true
-is_done (want.Event e) = false
-is_done (want.Draw lock) = false
-is_done (want.Look lock) = false
-is_done (want.Waiting lock) = false
-is_done (want.Leave lock carry) = false
+is_done w = false
 
 abbrev pub is_idle : Place → Bool
 is_idle q = is_done (want_of q.client) && (q.ended == length q.numbers)
@@ -190,7 +195,7 @@ is_idle_at (Some q) = is_idle q
 
 abbrev pub tally_at : Option Place → Tally
 tally_at None = no_tally
-tally_at (Some q) = q.client.tally
+tally_at (Some q) = q.client.registers.tally
 
 -- ---- a call is given
 

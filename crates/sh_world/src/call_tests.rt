@@ -2,12 +2,10 @@
 ghost use Rattle.std.specs.Prelude.{◌≡◌, ◌<◌, IfOk, length};
 ghost use Rattle.sh_world.specs.Columns.{IsReplyWide};
 
-use crate::tests::{finish, give};
-use crate::{Calls, World};
-use sh_base::{Config, ConfigParts, Value};
+use crate::Calls;
+use sh_base::Value;
 use sh_map::{Call, Reply};
 use std::alloc::{AllocError, Global};
-use std::test::Fail;
 
 const LAST: u64 = u64::MAX;
 
@@ -108,62 +106,19 @@ fn answered(alloc: Global, place: usize, kind: char) -> Result<Calls, AllocError
     Ok(calls)
 }
 
-#[test]
-fn calls_of_each_kind_are_answered_by_each_reply(rt: HostRuntime) -> Result<(), Fail> {
-    let alloc = rt.alloc();
+// Whether each reply stands where each of the calls is answered by it.
+fn replies_stand(alloc: Global) -> Result<bool, AllocError> {
     for place in 0..4 {
         for kind in ['s', 'n', 'r', 'f', 'w'] {
-            let calls = answered(alloc, place, kind)?;
-            assert!(rt; stand(&calls, place, kind));
+            if !stand(&answered(alloc, place, kind)?, place, kind) {
+                return Ok(false);
+            }
         }
     }
-    Ok(())
-}
-
-// Whether the world's call at this place was answered so.
-fn is_told(world: &World, place: usize, kind: char, first: u64) -> bool {
-    let calls = world.calls();
-    if place >= calls.len() {
-        return false;
-    }
-    is_reply(&calls.get(place).reply, kind, first)
+    Ok(true)
 }
 
 #[test]
-fn a_world_keeps_values_of_eight_words(rt: HostRuntime) -> Result<(), Fail> {
-    let alloc = rt.alloc();
-    let cfg = Config::new(ConfigParts {
-        value_words: 8,
-        leaf: 4,
-        ..ConfigParts::default()
-    })
-    .unwrap_or_default();
-    let mut world = World::blank(alloc);
-    world.lay(alloc, &cfg)?;
-    give(
-        &mut world,
-        0,
-        &Call::Put {
-            key: 5,
-            value: eight(10),
-        },
-    )?;
-    give(&mut world, 0, &Call::Get { key: 5 })?;
-    give(
-        &mut world,
-        0,
-        &Call::Put {
-            key: 5,
-            value: eight(LAST),
-        },
-    )?;
-    give(&mut world, 0, &Call::Del { key: 5 })?;
-    give(&mut world, 0, &Call::Get { key: 5 })?;
-    finish(&mut world);
-    assert!(rt; is_told(&world, 0, 'n', 0));
-    assert!(rt; is_told(&world, 1, 's', 10));
-    assert!(rt; is_told(&world, 2, 's', 10));
-    assert!(rt; is_told(&world, 3, 's', LAST));
-    assert!(rt; is_told(&world, 4, 'n', 0));
-    Ok(())
+fn calls_of_each_kind_are_answered_by_each_reply(rt: HostRuntime) {
+    assert!(rt; replies_stand(rt.alloc()).unwrap_or(false));
 }

@@ -1,7 +1,7 @@
 // The calls of a world: they join its columns, are read and are answered.
 ghost use Rattle.std.specs.Prelude.{◌≡◌, ◌+◌, ◌<◌, ◌≤◌, ◌++◌, ◌∷◌, [], OnOk, OnErr, None, Some, length, slice_get, take, drop};
 ghost use Rattle.sh_world.specs.States.{answered};
-ghost use Rattle.sh_world.specs.Columns.{call_of, key_of, kind_of, reply_kind_of, reply_of, IsCallWide, IsReplyWide};
+ghost use Rattle.sh_world.specs.Columns.{call_of, key_of, kind_of, reply_kind_of, reply_read, IsCallWide, IsReplyWide};
 
 use crate::calls::{CallKind, Kept, ReplyKind};
 use crate::{Calls, Given};
@@ -86,7 +86,7 @@ fn reply_words(reply: &Reply, width: usize) -> [u64; 16]
     requires high { width ≤ 8 }
     requires wide { IsReplyWide width reply.now }
     ensures length { length result ≡ 16 }
-    ensures back { reply_of (reply_kind_of reply.now) (take width result) ≡ Some reply.now }
+    ensures back { reply_read (reply_kind_of reply.now) (take width result) ≡ Some reply.now }
 {
     match reply {
         Reply::Some(value) => padded(value),
@@ -120,7 +120,7 @@ fn call_in(kind: CallKind, key: u64, words: &[u64]) -> Call
 fn reply_in(kind: ReplyKind, words: &[u64]) -> Option<Reply>
     requires low { 1 ≤ length words.now }
     requires high { length words.now ≤ 8 }
-    ensures { result ≡ reply_of kind words.now }
+    ensures { result ≡ reply_read kind words.now }
 {
     match kind {
         ReplyKind::Waiting => None,

@@ -1,7 +1,7 @@
 // What holds of a world after any calls and turns.
 ghost use Rattle.std.specs.Prelude.{◌<◌, ℕ, length};
 ghost use Rattle.sh_world.specs.Running.{IsRunning};
-ghost use Rattle.sh_world.specs.Laws.{Extends, IdlesRight, IsLawful};
+ghost use Rattle.sh_world.specs.Laws.{Extends, IdlesRight, IsLawfulWorld};
 
 use crate::World;
 
@@ -13,7 +13,7 @@ impl World {
     /// the seat has no call under way and none left, and then nothing changes. The function does nothing.
     pub fn keeps_the_laws(&self)
         requires { 0 < length self.now.seats }
-        ensures lawful { IsLawful self.now }
+        ensures lawful { IsLawfulWorld self.now }
         ensures running { IsRunning self.now }
         ensures log { (seat : ℕ) → Extends self.now seat }
         ensures idle { (seat : ℕ) → seat < length self.now.seats → IdlesRight self.now seat }

@@ -4,10 +4,11 @@ ghost use Rattle.sh_base.specs.Parts.{parts_of};
 ghost use Rattle.sh_base.specs.Setting.{all_locks, all_seats};
 ghost use Rattle.sh_base.specs.Layout.{compute_of};
 ghost use Rattle.sh_world.specs.States.{line_at};
-ghost use Rattle.sh_world.specs.Turning.{behind};
+ghost use Rattle.sh_world.specs.Turning.{behind, wanted_lock};
 
 use crate::Line;
 use sh_base::Config;
+use sh_client::Want;
 
 /// The place of the line of a lock at a seat's compute server. Conditions: a lock and a seat of the setting.
 #[tactic(auto, unfolding(crate::specs::States::line_at))]
@@ -25,4 +26,15 @@ pub(crate) fn behind(line: &Line, ticket: u64) -> u64
     ensures { result ≡ behind line.now ticket }
 {
     line.next.wrapping_sub(ticket).wrapping_sub(1)
+}
+
+/// The lock of the line that a turn calls on, where it's such a call.
+pub(crate) fn wanted_lock(want: &Want) -> Option<u32>
+    ensures { result ≡ wanted_lock want.now }
+{
+    match *want {
+        Want::Draw { lock } | Want::Look { lock } | Want::Waiting { lock } => Some(lock),
+        Want::Leave { lock, .. } => Some(lock),
+        Want::Event(_) | Want::Done => None,
+    }
 }

@@ -10,7 +10,7 @@ ghost use Rattle.sh_client.specs.Giving.{makes};
 ghost use Rattle.sh_client.specs.Sound.{IsPointCall};
 ghost use Rattle.sh_client.specs.Steps.{HasLoaded, HasStepped};
 ghost use Rattle.sh_client.specs.Wants.{want_of, IsWithin};
-ghost use Rattle.sh_world.specs.Turning.{asked, behind, calls_after, drawn, is_idle, left_line, looked_client, looked_line, place_after, started, starts_next, stepped, with_ticket};
+ghost use Rattle.sh_world.specs.Turning.{asked, calls_after, is_idle, line_called, place_after, place_called, started, starts_next, place_stepped};
 ghost use Rattle.sh_world.specs.Seats.{CanAsk, CanSettle, CanStart};
 
 use crate::lines::behind;
@@ -78,7 +78,7 @@ impl Seat {
     pub(crate) fn load(&mut self, words: &[u64], seen: u64) -> Option<Step>
         requires { length words.now ≡ pool_words self.old.client.setting }
         ensures step { HasLoaded words.now self.old.client self.new.client result }
-        ensures seat { self.new ≡ stepped self.old self.new.client seen result }
+        ensures seat { self.new ≡ place_stepped self.old self.new.client seen result }
     {
         match self.client.load_from(words) {
             Some(step) => {
@@ -91,10 +91,10 @@ impl Seat {
 
     // It makes a store of a WRITE that isn't the last one, or an exchange on a lock that is taken, where its client wants
     // one; the log is so long. None exactly where it wants another turn; then nothing changes.
-    pub(crate) fn step(&mut self, words: &mut [u64], seen: u64) -> Option<Step>
+    pub(crate) fn store_or_fail(&mut self, words: &mut [u64], seen: u64) -> Option<Step>
         requires { length words.old ≡ pool_words self.old.client.setting }
         ensures step { HasStepped words.old words.new self.old.client self.new.client result }
-        ensures seat { self.new ≡ stepped self.old self.new.client seen result }
+        ensures seat { self.new ≡ place_stepped self.old self.new.client seen result }
     {
         match self.client.step(words) {
             Some(step) => {
@@ -145,66 +145,47 @@ impl Seat {
         found
     }
 
-    // It draws a ticket of a line.
-    pub(crate) fn draw(&mut self, line: &mut Line, log: &[Entry], calls: &mut Calls)
-        requires settles { CanSettle log.now calls.old.width calls.old.calls self.old (fed_by self.old.client line.old.next) }
-        ensures line { line.new ≡ drawn line.old }
-        ensures seat { self.new ≡ place_after (with_ticket self.old line.old.next) log.now [] (fed_by self.old.client line.old.next) }
-        ensures calls { calls.new.calls ≡ calls_after calls.old.calls self.old log.now (fed_by self.old.client line.old.next) }
-        ensures width { calls.new.width ≡ calls.old.width }
+    // It calls on a line, where its client wants that: it draws a ticket; it looks whether its ticket is served, and then
+    // takes what was left; it counts the later tickets; or it leaves, with this for the next one.
+    fn feed_line(&mut self, want: &Want, line: &mut Line)
+        requires { IfSome line.old.left (λ d. d ≤ self.old.client.setting.bound) }
+        ensures line { line.new ≡ line_called self.old line.old want.now }
+        ensures seat { self.new ≡ place_called self.old line.old want.now }
     {
-        self.ticket = line.next;
-        line.next = line.next.wrapping_add(1);
-        self.client.fed(self.ticket);
-        self.settle(log, log.len() as u64, calls);
-    }
-
-    // It looks whether its ticket is served, and then takes what was left.
-    pub(crate) fn look(&mut self, line: &mut Line, log: &[Entry], calls: &mut Calls)
-        requires bound { IfSome line.old.left (λ d. d ≤ self.old.client.setting.bound) }
-        requires settles { CanSettle log.now calls.old.width calls.old.calls self.old (looked_client self.old line.old) }
-        ensures line { line.new ≡ looked_line self.old line.old }
-        ensures seat { self.new ≡ place_after self.old log.now [] (looked_client self.old line.old) }
-        ensures calls { calls.new.calls ≡ calls_after calls.old.calls self.old log.now (looked_client self.old line.old) }
-        ensures width { calls.new.width ≡ calls.old.width }
-    {
-        if line.served == self.ticket {
-            self.client.fed_turn(line.left);
-            line.left = None;
-        } else {
-            self.client.fed(line.served);
+        match *want {
+            Want::Draw { .. } => {
+                self.ticket = line.next;
+                line.next = line.next.wrapping_add(1);
+                self.client.fed(self.ticket);
+            }
+            Want::Look { .. } => {
+                if line.served == self.ticket {
+                    self.client.fed_turn(line.left);
+                    line.left = None;
+                } else {
+                    self.client.fed(line.served);
+                }
+            }
+            Want::Waiting { .. } => self.client.fed(behind(line, self.ticket)),
+            Want::Leave { carry, .. } => {
+                line.served = line.served.wrapping_add(1);
+                line.left = carry;
+                self.client.fed(0);
+            }
+            Want::Event(_) | Want::Done => {}
         }
-        self.settle(log, log.len() as u64, calls);
     }
 
-    // It counts the later tickets.
-    pub(crate) fn count(&mut self, line: &Line, log: &[Entry], calls: &mut Calls)
-        requires settles { CanSettle log.now calls.old.width calls.old.calls self.old (fed_by self.old.client (behind line.now self.old.ticket)) }
-        ensures seat { self.new ≡ place_after self.old log.now [] (fed_by self.old.client (behind line.now self.old.ticket)) }
-        ensures calls { calls.new.calls ≡ calls_after calls.old.calls self.old log.now (fed_by self.old.client (behind line.now self.old.ticket)) }
+    // It makes the call on a line that its client wants.
+    pub(crate) fn call(&mut self, want: &Want, line: &mut Line, log: &[Entry], calls: &mut Calls)
+        requires bound { IfSome line.old.left (λ d. d ≤ self.old.client.setting.bound) }
+        requires settles { CanSettle log.now calls.old.width calls.old.calls (place_called self.old line.old want.now) (place_called self.old line.old want.now).client }
+        ensures line { line.new ≡ line_called self.old line.old want.now }
+        ensures seat { self.new ≡ place_after (place_called self.old line.old want.now) log.now [] (place_called self.old line.old want.now).client }
+        ensures calls { calls.new.calls ≡ calls_after calls.old.calls (place_called self.old line.old want.now) log.now (place_called self.old line.old want.now).client }
         ensures width { calls.new.width ≡ calls.old.width }
     {
-        self.client.fed(behind(line, self.ticket));
-        self.settle(log, log.len() as u64, calls);
-    }
-
-    // It leaves a line, with this for the next ticket.
-    pub(crate) fn leave(
-        &mut self,
-        line: &mut Line,
-        carry: Option<u32>,
-        log: &[Entry],
-        calls: &mut Calls,
-    )
-        requires settles { CanSettle log.now calls.old.width calls.old.calls self.old (fed_by self.old.client 0) }
-        ensures line { line.new ≡ left_line line.old carry }
-        ensures seat { self.new ≡ place_after self.old log.now [] (fed_by self.old.client 0) }
-        ensures calls { calls.new.calls ≡ calls_after calls.old.calls self.old log.now (fed_by self.old.client 0) }
-        ensures width { calls.new.width ≡ calls.old.width }
-    {
-        line.served = line.served.wrapping_add(1);
-        line.left = carry;
-        self.client.fed(0);
+        self.feed_line(want, line);
         self.settle(log, log.len() as u64, calls);
     }
 

@@ -3,12 +3,12 @@ ghost use Rattle.std.specs.Prelude.{◌≡◌, ◌+◌, ◌-◌, ◌^◌, ◌<�
 ghost use Rattle.sh_base.specs.Parts.{parts_of};
 ghost use Rattle.sh_map.specs.Calls.{IsInRange};
 ghost use Rattle.sh_client.specs.Sound.{IsPointCall};
-ghost use Rattle.sh_own.specs.Laid.{AreLaid};
+ghost use Rattle.sh_image.specs.Laid.{AreLaid};
 ghost use Rattle.sh_world.specs.States.{dones_by, dones_of, fresh_state, IsBlank};
-ghost use Rattle.sh_world.specs.Turning.{answer_of, give_of, is_idle_at, tally_at, turn_of};
+ghost use Rattle.sh_world.specs.Turning.{answer_of, give_of, is_idle_at, tally_at, turn_of, IsTurn};
 
 use crate::laid::{ended_calls, free_lines, fresh_seats, laid_words};
-use crate::lines::line_at;
+use crate::lines::{line_at, wanted_lock};
 use crate::{Calls, Turn, World};
 use sh_base::Config;
 use sh_client::{Tally, Want};
@@ -105,30 +105,28 @@ impl World {
         let asked = &mut self.seats[seat as usize];
         match asked.load(&self.words, seen) {
             Some(step) => Turn::Event(step.event, step.found),
-            None => self.step(seat),
+            None => self.store_or_look(seat),
         }
     }
 
     // One turn of the seat: a store inside a WRITE or an exchange on a lock that is taken, or what else its client wants.
     #[inline(never)]
-    fn step(&mut self, seat: u32) -> Turn
+    fn store_or_look(&mut self, seat: u32) -> Turn
         requires { seat < length self.old.seats }
-        ensures world { self.new ≡ turn_of self.old seat }
-        ensures answer { result ≡ answer_of self.old seat }
+        ensures { IsTurn self.old seat self.new result }
     {
         let seen = self.log.len() as u64;
         let place = &mut self.seats[seat as usize];
-        match place.step(&mut self.words, seen) {
+        match place.store_or_fail(&mut self.words, seen) {
             Some(step) => Turn::Event(step.event, step.found),
-            None => self.wait(seat),
+            None => self.look_or_act(seat),
         }
     }
 
     // One turn of the seat: a look while its ticket isn't served, or what else its client wants.
-    fn wait(&mut self, seat: u32) -> Turn
+    fn look_or_act(&mut self, seat: u32) -> Turn
         requires { seat < length self.old.seats }
-        ensures world { self.new ≡ turn_of self.old seat }
-        ensures answer { result ≡ answer_of self.old seat }
+        ensures { IsTurn self.old seat self.new result }
     {
         let seen = self.log.len() as u64;
         let place = &mut self.seats[seat as usize];
@@ -138,43 +136,28 @@ impl World {
                 return Turn::Local;
             }
         }
-        self.other_turn(seat)
+        self.act(seat)
     }
 
-    // One turn of the seat, whatever its client wants.
+    // One turn of the seat: a call on a line, an event, or nothing, whatever its client wants.
     #[inline(never)]
-    fn other_turn(&mut self, seat: u32) -> Turn
+    fn act(&mut self, seat: u32) -> Turn
         requires { seat < length self.old.seats }
-        ensures world { self.new ≡ turn_of self.old seat }
-        ensures answer { result ≡ answer_of self.old seat }
+        ensures { IsTurn self.old seat self.new result }
     {
         let place = &mut self.seats[seat as usize];
-        match place.ask(&self.calls, self.log.len() as u64) {
+        let want = place.ask(&self.calls, self.log.len() as u64);
+        if let Some(lock) = wanted_lock(&want) {
+            let line = &mut self.lines[line_at(&self.cfg, lock, seat)];
+            place.call(&want, line, &self.log, &mut self.calls);
+            return Turn::Local;
+        }
+        match want {
             Want::Event(event) => {
                 let found = place.make(event, &mut self.words, &mut self.log, &mut self.calls);
                 Turn::Event(event, found)
             }
-            Want::Draw { lock } => {
-                let line = &mut self.lines[line_at(&self.cfg, lock, seat)];
-                place.draw(line, &self.log, &mut self.calls);
-                Turn::Local
-            }
-            Want::Look { lock } => {
-                let line = &mut self.lines[line_at(&self.cfg, lock, seat)];
-                place.look(line, &self.log, &mut self.calls);
-                Turn::Local
-            }
-            Want::Waiting { lock } => {
-                let line = &self.lines[line_at(&self.cfg, lock, seat)];
-                place.count(line, &self.log, &mut self.calls);
-                Turn::Local
-            }
-            Want::Leave { lock, carry } => {
-                let line = &mut self.lines[line_at(&self.cfg, lock, seat)];
-                place.leave(line, carry, &self.log, &mut self.calls);
-                Turn::Local
-            }
-            Want::Done => Turn::Idle,
+            _ => Turn::Idle,
         }
     }
 

@@ -1,5 +1,5 @@
 use Rattle.std.proofs.Common.{subst}
-use Rattle.sh_lanes.specs.Scans.{IsFirst, HasNone as LacksWord}
+use Rattle.sh_lanes.specs.Scans.{IsFirst, LacksWord}
 use Rattle.sh_edit.proofs.FindLemmas.{first_with, none_with}
 use Rattle.sh_edit.proofs.find.Goals as goal
 

@@ -1,14 +1,14 @@
 use Rattle.std.proofs.Common.{ap, sym, subst, ◌∙◌}
 use Rattle.sh_cache.specs.Cached.{kept, Rows}
-use Rattle.sh_cache.specs.Places.{HasNone, IsPlace, IsCache}
+use Rattle.sh_cache.specs.Places.{HasNoLow, IsLowAt, IsCache}
 use Rattle.sh_cache.proofs.RowLemmas.{cache_replaced, cache_added, kept_there, kept_new, replaced_is}
 use Rattle.sh_cache.proofs.Cache.keep.Goals as goal
 
-there : (c : goal.After-self-1) → IsPlace c.self.inside.rows.items c.args.image.low c.in-Some.at
-there c = subst (λ xs. IsPlace xs c.args.image.low c.in-Some.at) c.deref.ensures.value (subst (λ l. IsPlace c.deref.result.now l c.in-Some.at) c.low.ensures c.in-Some.ensures)
+there : (c : goal.After-self-1) → IsLowAt c.self.inside.rows.items c.args.image.low c.in-Some.at
+there c = subst (λ xs. IsLowAt xs c.args.image.low c.in-Some.at) c.deref.ensures.value (subst (λ l. IsLowAt c.deref.result.now l c.in-Some.at) c.low.ensures c.in-Some.ensures)
 
-none : (c : goal.After-add) → HasNone c.self.inside.rows.items c.args.image.low
-none c = subst (λ xs. HasNone xs c.args.image.low) c.deref.ensures.value (subst (λ l. HasNone c.deref.result.now l) c.low.ensures c.in-None.ensures)
+none : (c : goal.After-add) → HasNoLow c.self.inside.rows.items c.args.image.low
+none c = subst (λ xs. HasNoLow xs c.args.image.low) c.deref.ensures.value (subst (λ l. HasNoLow c.deref.result.now l) c.low.ensures c.in-None.ensures)
 
 pub invariant_of-self : goal.invariant_of-self
 invariant_of-self c =

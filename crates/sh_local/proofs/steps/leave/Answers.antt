@@ -3,7 +3,7 @@ use Rattle.std.proofs.Math.Nat.{mod-add-mod}
 use Rattle.atomic_table.specs.Table.{Me, Allows, rest}
 use Rattle.sh_local.specs.declared.view.View.{View}
 use Rattle.sh_local.specs.Calls.{held}
-use Rattle.sh_local.specs.Steps.{Leaves}
+use Rattle.sh_local.specs.Steps.{LeavesQueue}
 use Rattle.sh_local.specs.Chairs.{MayLeave}
 use Rattle.sh_local.proofs.Allowed.{allows_leave, Holds}
 use Rattle.sh_local.proofs.steps.leave.Goals as goal
@@ -24,6 +24,6 @@ store-requires g c =
     let x : ℕ = (c.args.ticket + 1) % 2 ^ 64 in (
       e.0 ∙ t.0,
       omega (arith, t.1, t.2, t.3),
-      subst (λ (m : Me (Option g.row.T.Denot) V). Allows (Holds g.T.Carried.fits shelf.key.key shelf.key.chairs) shelf.table_id.slots seat.id m c.args.at (λ _. x) (λ _ now. Leaves m now)) is
+      subst (λ (m : Me (Option g.row.T.Denot) V). Allows (Holds g.T.Carried.fits shelf.key.key shelf.key.chairs) shelf.table_id.slots seat.id m c.args.at (λ _. x) (λ _ now. LeavesQueue m now)) is
           (allows_leave g.T.Carried.fits shelf.key.key shelf.key.chairs shelf.table_id.slots seat.id me c.args.at x c.args.value k.0.0 k.0.2 (ap (λ (n : ℕ). (n, c.args.value) ∷ []) (sym k.0.1)) (omega (arith, t.2, k.0.1)) (omega (arith, t.3, k.0.1)) may word),
     )

@@ -1,7 +1,7 @@
 use Rattle.std.proofs.Common.{subst, sym, ap, ◌∙◌, ◌+◌, take}
 use Rattle.std.proofs.lemmas.Bool.{false≢true}
 use Rattle.std.proofs.lemmas.List.{take_all}
-use Rattle.sh_map.specs.Tables.{AreMet, given}
+use Rattle.sh_map.specs.Tables.{AreMet, given_value}
 use Rattle.sh_map.proofs.RangeLemmas.{met_none, met_more, met_same}
 use Rattle.sh_map.proofs.ranges.keys_met.Goals as goal
 use Rattle.sh_map.proofs.ranges.keys_met.Goals.{then-same+in_ok-insert, else-same}
@@ -17,7 +17,7 @@ loop-entry-preserved c =
     let e = c.entry-item.result in
     elim c.if-same.branch [
       | then-same+in_ok-insert w ↦ subst (λ met. AreMet (take (at + 1) log) rows met) (sym w.met-is) (met_more log at e c.loop-entry-test.true c.entry-item.is rows c.loop-entry.met c.loop-entry.invariant c.key-key.result _ c.key-key.ensures (sym c.left.ensures ∙ c.same.ensures.0 w.if-same.true ∙ c.value_in.ensures) w.in_ok-insert.ensures.updates)
-      | else-same w ↦ subst (λ met. AreMet (take (at + 1) log) rows met) (sym w.met-is) (met_same log at e c.loop-entry-test.true c.entry-item.is rows c.loop-entry.met c.loop-entry.invariant (λ is. false≢true (sym w.if-same.false ∙ c.same.ensures.1 (c.left.ensures ∙ is ∙ ap (given rows) (sym c.key-key.ensures) ∙ sym c.value_in.ensures))))
+      | else-same w ↦ subst (λ met. AreMet (take (at + 1) log) rows met) (sym w.met-is) (met_same log at e c.loop-entry-test.true c.entry-item.is rows c.loop-entry.met c.loop-entry.invariant (λ is. false≢true (sym w.if-same.false ∙ c.same.ensures.1 (c.left.ensures ∙ is ∙ ap (given_value rows) (sym c.key-key.ensures) ∙ sym c.value_in.ensures))))
     ]
 
 pub returns : goal.returns

@@ -1,4 +1,4 @@
-use Rattle.std.proofs.Common.{rules, ◌≡◌, List, ℕ}
+use Rattle.std.proofs.Common.{rules, ◌≡◌}
 use Rattle.sh_map.proofs.TreeLemmas.{this_row}
 use Rattle.sh_map.proofs.tree_map.is_row.Goals as goal
 

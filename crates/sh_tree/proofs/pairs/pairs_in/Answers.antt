@@ -2,7 +2,7 @@ use Rattle.std.proofs.Common.{◌≡◌, ◌∙◌, get_or, subst, sym}
 use Rattle.sh_tree.specs.Nodes.{leaf_at}
 use Rattle.sh_tree.specs.Tree.{leaves_of, IsChain, IsLeafOf}
 use Rattle.std.specs.List.{AllByRecursion}
-use Rattle.sh_tree.proofs.ListLemmas.{all_at}
+use Rattle.sh_logic.proofs.Lists.{all_at}
 use Rattle.sh_tree.proofs.ChainLemmas.{leaf_chain}
 use Rattle.sh_tree.proofs.HoldLemmas.{leaf_more}
 use Rattle.sh_tree.proofs.pairs.pairs_in.Goals as goal
@@ -16,5 +16,5 @@ loop-leaf-preserved c = λ levels h.
     let are : leaves_of levels ≡ nodes = sym (c.deref-leaf-items.ensures.value ∙ c.in_ok-leaves.ensures.leaves levels h) in
     let chain : IsChain p words 0 nodes = subst (IsChain p words 0) are (leaf_chain p words levels h.lawful).0 in
     let lawful : AllByRecursion (IsLeafOf p words) nodes = subst (AllByRecursion (IsLeafOf p words)) are (leaf_chain p words levels h.lawful).1 in
-    let leaf : IsLeafOf p words (get_or nodes i 0) = all_at (IsLeafOf p words) nodes i lawful c.loop-leaf-test.true in
+    let leaf : IsLeafOf p words (get_or nodes i 0) = all_at (IsLeafOf p words) nodes i 0 lawful c.loop-leaf-test.true in
     leaf_more p words nodes i c.loop-leaf.map c.add_leaf.new.map chain lawful c.loop-leaf-test.true leaf (c.loop-leaf.invariant levels h) (c.in_ok-add_leaf.ensures (leaf_at p words (get_or nodes i 0)) leaf.spelled)

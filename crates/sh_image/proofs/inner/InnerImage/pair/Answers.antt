@@ -2,7 +2,7 @@ use Rattle.std.proofs.Common.{Some, length, ap, ◌∙◌, sym, arith}
 use Rattle.std.proofs.lemmas.Option.{slice_get-get_or}
 use Rattle.std.specs.Prelude.{slice_get}
 use Rattle.sh_image.specs.Inner.{Inner}
-use Rattle.sh_image.specs.PairColumns.{pair_at, pairs_of}
+use Rattle.sh_image.specs.PairColumns.{pair_at, pairs_of_columns}
 use Rattle.sh_image.proofs.PairLemmas.{length_pairs_of, get_or_pairs_of}
 use Rattle.sh_image.proofs.inner.InnerImage.pair.Goals as goal
 
@@ -16,5 +16,5 @@ returns c =
     let i = c.self.inside in
     let x = pair_at i.separators i.children c.args.index in
     ap (λ (a : Inner). slice_get a.pairs c.args.index) (sym c.self.view_is)
-    ∙ slice_get-get_or (pairs_of i.count i.separators i.children) c.args.index x (omega (arith, length_pairs_of i.separators i.children i.count))
+    ∙ slice_get-get_or (pairs_of_columns i.count i.separators i.children) c.args.index x (omega (arith, length_pairs_of i.separators i.children i.count))
     ∙ ap Some (get_or_pairs_of i.separators i.children i.count c.args.index x c.if-prove.false)

@@ -3,7 +3,7 @@ use Rattle.std.proofs.lemmas.List.{get_or_default}
 use Rattle.std.proofs.lemmas.Option.{slice_get-get_or}
 use Rattle.std.specs.Prelude.{slice_get}
 use Rattle.sh_image.specs.Leaf.{Leaf}
-use Rattle.sh_image.specs.Columns.{entry_of, entries_of}
+use Rattle.sh_image.specs.Columns.{entry_of_columns, entries_of_columns}
 use Rattle.sh_image.proofs.ColumnLemmas.{length_entries_of, get_or_entries_of}
 use Rattle.sh_image.proofs.leaf.LeafImage.entry.Goals as goal
 
@@ -15,8 +15,8 @@ prove-unreachable-requires c =
 pub returns : goal.returns
 returns c =
     let i = c.self.inside in
-    let e = entry_of i.versions i.keys i.values c.args.index in
-    let read = slice_get-get_or (entries_of i.count i.versions i.keys i.values) c.args.index e (omega (arith, length_entries_of i.versions i.keys i.values i.count)) in
+    let e = entry_of_columns i.versions i.keys i.values c.args.index in
+    let read = slice_get-get_or (entries_of_columns i.count i.versions i.keys i.values) c.args.index e (omega (arith, length_entries_of i.versions i.keys i.values i.count)) in
     ap (λ (a : Leaf). slice_get a.entries c.args.index) (sym c.self.view_is)
     ∙ read
     ∙ ap Some (get_or_entries_of i.versions i.keys i.values i.count c.args.index e c.if-prove.false)

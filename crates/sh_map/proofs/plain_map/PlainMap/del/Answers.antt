@@ -1,13 +1,13 @@
 use Rattle.std.proofs.Common.{ap, ◌∙◌, sym, subst}
 use Rattle.sh_map.specs.Map.{get, del}
-use Rattle.sh_map.specs.Rows.{IsAt, IsGapFor, map_of_rows}
+use Rattle.sh_map.specs.Rows.{IsRowAt, IsGapFor, map_of_rows}
 use Rattle.sh_map.proofs.MapLemmas.{del_absent}
 use Rattle.sh_map.proofs.RowsLemmas.{get_found, get_missed, rising_removed, view_removed}
 use Rattle.sh_map.proofs.plain_map.PlainMap.del.Goals as goal
 use Rattle.sh_map.proofs.plain_map.PlainMap.del.Goals.{In-Ok, In-Err}
 
-at : (c : In-Ok) → IsAt c.self.inside.rows.items c.args.key c.in-Ok.at
-at c = subst (λ rs. IsAt rs c.args.key c.in-Ok.at) c.deref.ensures.value c.in-Ok.ensures.found
+at : (c : In-Ok) → IsRowAt c.self.inside.rows.items c.args.key c.in-Ok.at
+at c = subst (λ rs. IsRowAt rs c.args.key c.in-Ok.at) c.deref.ensures.value c.in-Ok.ensures.found
 
 gap : (c : In-Err) → IsGapFor c.self.inside.rows.items c.args.key c.in-Err.field-0
 gap c = subst (λ rs. IsGapFor rs c.args.key c.in-Err.field-0) c.deref.ensures.value c.in-Err.ensures.absent

@@ -1,8 +1,8 @@
 use Rattle.std.proofs.Common.{ap, ◌∙◌, map}
 use Rattle.std.specs.FinMap.{entries}
-use Rattle.sh_map.specs.Map.{pair_of}
+use Rattle.sh_map.specs.Map.{row_pair}
 use Rattle.sh_map.proofs.RowsLemmas.{entries_are}
 use Rattle.sh_map.proofs.plain_map.PlainMap.into_rows.Goals as goal
 
 pub returns : goal.returns
-returns c = ap (map pair_of) c.of.ensures ∙ entries_are c.self.inside.rows.items c.self.invariant ∙ ap entries c.self.view_is
+returns c = ap (map row_pair) c.of.ensures ∙ entries_are c.self.inside.rows.items c.self.invariant ∙ ap entries c.self.view_is

@@ -2,7 +2,7 @@ use Rattle.std.proofs.Common.{◌∙◌, ap, sym, arith, ◌≡◌, ◌++◌, ma
 use Rattle.std.proofs.lemmas.Bool.{eqb-true}
 use Rattle.std.proofs.lemmas.List.{append-nil, take_all}
 use Rattle.std.proofs.lemmas.Option.{slice_get_within}
-use Rattle.sh_map.specs.Map.{get, pair_of}
+use Rattle.sh_map.specs.Map.{get, row_pair}
 use Rattle.sh_map.proofs.TreeLemmas.{rows_give, rows_more}
 use Rattle.sh_map.proofs.tree_map.TreeMap.has_rows.Goals as goal
 
@@ -17,5 +17,5 @@ pub returns : goal.returns
 returns c = λ all key above below.
     let rows = c.args.rows.now in
     let part = c.range-key-items.result in
-    let are : map pair_of rows ≡ part = ap (map pair_of) (sym (take_all c.loop-key.at rows (omega (arith, eqb-true _ _ all)))) ∙ sym (append-nil (map pair_of (take c.loop-key.at rows))) ∙ ap (λ l. map pair_of (take c.loop-key.at rows) ++ l) (sym c.in-None.ensures.steps.0) ∙ c.loop-key.invariant.0 ∙ c.into_iter-key-iterator.ensures.into_iter_gives in
+    let are : map row_pair rows ≡ part = ap (map row_pair) (sym (take_all c.loop-key.at rows (omega (arith, eqb-true _ _ all)))) ∙ sym (append-nil (map row_pair (take c.loop-key.at rows))) ∙ ap (λ l. map row_pair (take c.loop-key.at rows) ++ l) (sym c.in-None.ensures.steps.0) ∙ c.loop-key.invariant.0 ∙ c.into_iter-key-iterator.ensures.into_iter_gives in
     ap (λ m. get m key) (sym c.self.view_is) ∙ rows_give c.self.inside.tree c.args.low c.args.upto part rows are (c.range-key-items.ensures.between tt) key above below

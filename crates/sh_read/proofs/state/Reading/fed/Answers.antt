@@ -5,7 +5,7 @@ use Rattle.sh_base.specs.Setting.{node_size}
 use Rattle.sh_image.specs.declared.read.Seen.{Seen}
 use Rattle.sh_read.specs.Reads.{Reader, answer_to, image_in, wanted}
 use Rattle.sh_read.specs.Judging.{seen_of}
-use Rattle.sh_read.specs.Kept.{image_at, left_after, Keeps}
+use Rattle.sh_read.specs.Kept.{image_at, left_after, KeepsImage}
 use Rattle.sh_read.proofs.KeptLemmas.{size_small, some_left, fed_more, answers_last, fed_last, kept_judged, left_after_within}
 use Rattle.sh_read.proofs.state.Reading.fed.Goals as goal
 
@@ -42,4 +42,4 @@ invariant_of-self-2 c =
     let p = c.self.inside.cfg.parts in
     let words = slice_set c.self.inside.words (c.self.inside.left - 1) c.args.word in
     let within : c.left-self-inside.result ≤ node_size p = omega (arith, left_after_within c.judge-progress.result c.node_size-size.result c.left-self-inside.result c.left-self-inside.ensures, c.node_size-size.ensures) in
-    kept_judged p c.self.inside.cfg.lawful c.self.inside.node c.self.inside.first words c.judge-progress.new.leaf c.judge-progress.new.inner c.self.invariant.here c.self.invariant.address (length-set c.self.inside.words (c.self.inside.left - 1) c.args.word ∙ c.self.invariant.room) c.left-self-inside.result within (subst (λ n. Keeps (image_in (seen_of p (take n words))) (image_at (slice_index (take n words) 1) c.judge-progress.new.leaf c.judge-progress.new.inner)) c.node_size-size.ensures c.judge-progress.ensures.image)
+    kept_judged p c.self.inside.cfg.lawful c.self.inside.node c.self.inside.first words c.judge-progress.new.leaf c.judge-progress.new.inner c.self.invariant.here c.self.invariant.address (length-set c.self.inside.words (c.self.inside.left - 1) c.args.word ∙ c.self.invariant.room) c.left-self-inside.result within (subst (λ n. KeepsImage (image_in (seen_of p (take n words))) (image_at (slice_index (take n words) 1) c.judge-progress.new.leaf c.judge-progress.new.inner)) c.node_size-size.ensures c.judge-progress.ensures.image)

@@ -1,7 +1,7 @@
 use Rattle.std.proofs.Common.{◌+◌, ◌-◌, ◌*◌, ◌≡◌, ◌<◌, ◌∙◌, Some, ap, arith, drop, length, refl, sym, take}
 use Rattle.std.specs.Prelude.{slice_get}
 use Rattle.std.proofs.lemmas.Option.{slice_get_read}
-use Rattle.sh_world.specs.Columns.{Listed, call_of, reply_of}
+use Rattle.sh_world.specs.Columns.{Listed, call_of, reply_read}
 use Rattle.sh_world.proofs.ColumnLemmas.{call_at, length_calls}
 use Rattle.sh_world.proofs.calls.Calls.get.Goals as goal
 
@@ -23,7 +23,7 @@ returns c =
     ∙ sym (λ t. Some (record {
       seat = k.seat;
       call = (c.call_in.ensures ∙ λ z. call_of k.call k.key (take (a z) (drop at (c.deref.ensures.value z)))) t;
-      reply = (c.reply_in.ensures ∙ λ z. reply_of k.reply (take (b z) (drop (at + i.width) (c.deref-2.ensures.value z)))) t;
+      reply = (c.reply_in.ensures ∙ λ z. reply_read k.reply (take (b z) (drop (at + i.width) (c.deref-2.ensures.value z)))) t;
       first = k.first;
       point = k.point;
     }))

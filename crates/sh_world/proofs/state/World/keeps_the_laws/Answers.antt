@@ -1,7 +1,7 @@
 use Rattle.std.proofs.Common.{subst}
 use Rattle.sh_world.specs.States.{State}
 use Rattle.sh_world.specs.Running.{IsRunning}
-use Rattle.sh_world.specs.Laws.{IdlesRight, IsLawful}
+use Rattle.sh_world.specs.Laws.{IdlesRight, IsLawfulWorld}
 use Rattle.sh_world.specs.contracts.state.World.{the_view}
 use Rattle.sh_world.proofs.LawLemmas.{extends, idle_at, lawful}
 use Rattle.sh_world.proofs.WorldLemmas.{running}
@@ -10,7 +10,7 @@ use Rattle.sh_world.proofs.state.World.keeps_the_laws.Goals as goal
 pub returns-clause-lawful : goal.returns-clause-lawful
 returns-clause-lawful c =
     let g = running (the_view c.self.inside) c.args.self.now _ _ 0 c.self.view_is c.self.invariant c.requires in
-    subst IsLawful c.self.view_is (lawful (the_view c.self.inside) g.0)
+    subst IsLawfulWorld c.self.view_is (lawful (the_view c.self.inside) g.0)
 
 pub returns-clause-running : goal.returns-clause-running
 returns-clause-running c =

@@ -8,24 +8,20 @@ use Rattle.sh_world.proofs.state.World.turn.Goals as goal
 
 pub load-requires : goal.load-requires
 load-requires c =
-    let s = the_view c.self.inside in
-    let g = running s c.args.self.now _ _ c.args.seat c.self.view_is c.self.invariant c.requires in
-    ap length c.deref.ensures.value ∙ g.0.inv.ground.shows.size ∙ sym (ap pool_words (seat_setting s c.args.self.now _ _ c.args.seat c.index_mut-asked.result.now c.self.view_is c.self.invariant c.requires c.index_mut-asked.ensures.value))
+    let g = running (the_view c.self.inside) c.args.self.now _ _ c.args.seat c.self.view_is c.self.invariant c.requires in
+    ap length c.deref.ensures.value ∙ g.0.inv.ground.shows.size ∙ sym (ap pool_words (seat_setting (the_view c.self.inside) c.args.self.now _ _ c.args.seat c.index_mut-asked.result.now c.self.view_is c.self.invariant c.requires c.index_mut-asked.ensures.value))
 
 pub invariant_of-self : goal.invariant_of-self
 invariant_of-self c =
-    let s = the_view c.self.inside in
-    let a = step_asked s c.args.self.now _ _ c.args.seat c.index_mut-asked.result.now _ _ _ _ c.self.view_is c.self.invariant c.requires c.index_mut-asked.ensures.value c.in-Some.ensures.step.0 in
-    kept_is s c.args.seat _ _ c.index_mut-asked.result.now _ a _ _ _ (load_world s c.args.seat c.index_mut-asked.result.now _ c.load.new.self _ _ _ _ a.asked_is c.in-Some.ensures.step.0 c.deref.ensures.value (c.len-seen.ensures ∙ c.self.inside.log.ok.0) c.in-Some.ensures.seat) refl refl
+    let a = step_asked (the_view c.self.inside) c.args.self.now _ _ c.args.seat c.index_mut-asked.result.now _ _ _ _ c.self.view_is c.self.invariant c.requires c.index_mut-asked.ensures.value c.in-Some.ensures.step.0 in
+    kept_is _ _ _ _ _ _ a _ _ _ (load_world _ c.args.seat c.index_mut-asked.result.now _ c.load.new.self _ _ _ _ a.asked_is c.in-Some.ensures.step.0 c.deref.ensures.value (c.len-seen.ensures ∙ c.self.inside.log.ok.0) c.in-Some.ensures.seat) refl refl
 
 pub returns-in-Some-clause-world : goal.returns-in-Some-clause-world
 returns-in-Some-clause-world c =
-    let s = the_view c.self.inside in
-    let a = step_asked s c.args.self.now _ _ c.args.seat c.index_mut-asked.result.now _ _ _ _ c.self.view_is c.self.invariant c.requires c.index_mut-asked.ensures.value c.in-Some.ensures.step.0 in
-    value_is s c.args.seat _ _ c.index_mut-asked.result.now _ a _ c.args.self.now c.self.view_is (load_world s c.args.seat c.index_mut-asked.result.now _ c.load.new.self _ _ _ _ a.asked_is c.in-Some.ensures.step.0 c.deref.ensures.value (c.len-seen.ensures ∙ c.self.inside.log.ok.0) c.in-Some.ensures.seat)
+    let a = step_asked (the_view c.self.inside) c.args.self.now _ _ c.args.seat c.index_mut-asked.result.now _ _ _ _ c.self.view_is c.self.invariant c.requires c.index_mut-asked.ensures.value c.in-Some.ensures.step.0 in
+    value_is _ _ _ _ _ _ a _ c.args.self.now c.self.view_is (load_world _ c.args.seat c.index_mut-asked.result.now _ c.load.new.self _ _ _ _ a.asked_is c.in-Some.ensures.step.0 c.deref.ensures.value (c.len-seen.ensures ∙ c.self.inside.log.ok.0) c.in-Some.ensures.seat)
 
 pub returns-in-Some-clause-answer : goal.returns-in-Some-clause-answer
 returns-in-Some-clause-answer c =
-    let s = the_view c.self.inside in
-    let a = step_asked s c.args.self.now _ _ c.args.seat c.index_mut-asked.result.now _ _ _ _ c.self.view_is c.self.invariant c.requires c.index_mut-asked.ensures.value c.in-Some.ensures.step.0 in
-    told_is s c.args.seat _ _ c.index_mut-asked.result.now _ a c.args.self.now c.deref.result.now _ c.self.view_is c.deref.ensures.value (ap (λ (x : ℕ). Event c.in-Some.step.event x) c.in-Some.ensures.step.0.found)
+    let a = step_asked (the_view c.self.inside) c.args.self.now _ _ c.args.seat c.index_mut-asked.result.now _ _ _ _ c.self.view_is c.self.invariant c.requires c.index_mut-asked.ensures.value c.in-Some.ensures.step.0 in
+    told_is _ _ _ _ _ _ a c.args.self.now c.deref.result.now _ c.self.view_is c.deref.ensures.value (ap (λ (x : ℕ). Event c.in-Some.step.event x) c.in-Some.ensures.step.0.found)

@@ -1,0 +1,209 @@
+-- The standing words at each moment, and the lock words.
+use Rattle.std.proofs.Common.{◌≡◌, ◌≢◌, ◌⊎◌, ℕ, zero, suc, ◌+◌, ◌<◌, ◌≤◌, List, length, get_or, set, Some, refl, sym, ap, ◌∙◌, subst, inl, inr, arith, get_or-set_same}
+use Rattle.std.proofs.lemmas.Bool.{cases_eq}
+use Rattle.std.proofs.lemmas.List.{length-set}
+use Rattle.sh_base.specs.declared.config.ConfigParts.{ConfigParts}
+use Rattle.sh_base.specs.Setting.{node_size, nodes, pool_words, IsNode}
+use Rattle.sh_base.specs.Layout.{lock_of, node_word}
+use Rattle.sh_base.specs.Places.{Site, Lock, Node, address, IsSite}
+use Rattle.sh_base.proofs.LayoutLemmas.{node_word_high}
+use Rattle.sh_base.proofs.PlacesLemmas.{stores_keep_apart}
+use Rattle.sh_map.specs.declared.log.Entry.{Entry as LogEntry}
+use Rattle.sh_map.specs.Log.{map_of}
+use Rattle.sh_read.specs.Moments.{Writing, Idle, word}
+use Rattle.sh_state.specs.TreeState.{Owner, Seat, Grant, LockState, Nobody, Held, Writes, Owns, owner_word, hold_word, TreeState, writing, writing_of, shown}
+use Rattle.sh_state.specs.Nodes.{Orderly, IsLinked}
+use Rattle.sh_state.specs.Ground.{Ground}
+use Rattle.sh_state.proofs.Scenes.{is_linked, body_on, sits_on, writes_else}
+use Rattle.sh_core_says.specs.Quiescent.{IsAtRest}
+use Rattle.sh_core_says.proofs.Trees.{holds_tree}
+use Rattle.sh_core.specs.Actors.{Actor}
+use Rattle.sh_core.specs.Core.{Inv}
+use Rattle.sh_core_says.specs.Moments.{IsWritten, IsStill, HoldsLock, IsStanding, AreLocks, EachMoment}
+use Rattle.sh_core_says.proofs.Owners.{owns, holds, written_is, is_written, within_bound, written_held, IsBounded}
+
+-- ---- words whose nodes show another scene
+module _ (p : ConfigParts) (t : TreeState) where
+  abbrev Shown : List ℕ → Site → Type 0
+  Shown words b = get_or words (address p b) 0 ≡ shown p t b
+
+  -- the first k words of node n
+  abbrev fill : List ℕ → (n k : ℕ) → List ℕ
+  fill words n zero = words
+  fill words n (suc k) = set (fill words n k) (address p (Node n k)) (shown p t (Node n k))
+
+  -- the first k nodes
+  abbrev filled : List ℕ → (k : ℕ) → List ℕ
+  filled words zero = words
+  filled words (suc k) = fill (filled words k) (suc k) (node_size p)
+
+  fill_long : (words : List ℕ) (n k : ℕ) → length (fill words n k) ≡ length words
+  fill_long words n zero = refl
+  fill_long words n (suc k) = length-set (fill words n k) (address p (Node n k)) (shown p t (Node n k)) ∙ fill_long words n k
+
+  filled_long : (words : List ℕ) (k : ℕ) → length (filled words k) ≡ length words
+  filled_long words zero = refl
+  filled_long words (suc k) = fill_long (filled words k) (suc k) (node_size p) ∙ filled_long words k
+
+  same_site : (n k : ℕ) (b : Site) → (Node n k ≡ b) ⊎ (Node n k ≢ b)
+  same_site n k (Node m o) = elim (cases_eq n m) [
+    | inl e ↦ elim (cases_eq k o) [ inl f ↦ inl (λ z. Node (e z) (f z)) | inr ne ↦ inr (λ q. ne (cc)) ]
+    | inr ne ↦ inr (λ q. ne (cc))
+  ]
+  same_site n k b = inr (λ q. cc)
+
+  -- a word is shown that was shown before, or is one of these
+  fill_shows : (words : List ℕ) (n k : ℕ) → length words ≡ pool_words p → IsNode p n → k ≤ node_size p → (b : Site) → IsSite p b → (((o : ℕ) → o < k → Node n o ≢ b) → Shown words b) → Shown (fill words n k) b
+  fill_shows words n zero long real le b ib h = h (λ o lt. absurd (omega (arith, lt)))
+  fill_shows words n (suc k) long real le b ib h = elim (same_site n k b) [
+    | inl e ↦ subst (Shown (fill words n (suc k))) e (get_or-set_same (fill words n k) (node_word p n + k) (shown p t (Node n k)) 0 (omega (arith, fill_long words n k, long, node_word_high p n real, le)))
+    | inr ne ↦
+        (stores_keep_apart p).place (fill words n k) (Node n k) b (shown p t (Node n k)) (real, omega (arith, le)) ib ne
+        ∙ fill_shows words n k long real (omega (arith, le)) b ib (λ away. h (λ o lt. elim (cases_eq o k) [ inl e ↦ λ q. ne (ap (Node n) (sym e) ∙ q) | inr less ↦ away o (omega (arith, lt, less)) ]))
+  ]
+
+  filled_shows : (words : List ℕ) (k : ℕ) → length words ≡ pool_words p → k ≤ nodes p → (b : Site) → IsSite p b → (((n o : ℕ) → IsNode p n → n ≤ k → o < node_size p → Node n o ≢ b) → Shown words b) → Shown (filled words k) b
+  filled_shows words zero long le b ib h = h (λ n o real most lt. absurd (omega (arith, most, real.first)))
+  filled_shows words (suc k) long le b ib h = fill_shows (filled words k) (suc k) (node_size p) (filled_long words k ∙ long) (record { first = omega arith; last = le }) (omega arith) b ib (λ here. filled_shows words k long (omega (arith, le)) b ib
+      (λ away. h (λ n o real most lt. elim (cases_eq n (suc k)) [ inl e ↦ λ q. here o lt (ap (λ (m : ℕ). Node m o) (sym e) ∙ q) | inr ne ↦ away n o real (omega (arith, most, ne)) lt ])))
+
+-- ---- the scene without its WRITEs
+abbrev calm_hold : LockState → LockState
+calm_hold Nobody = Nobody
+calm_hold (Held o d) = Held o d
+calm_hold (Writes i d n w) = Held (Seat i) d
+
+abbrev pub calm : TreeState → TreeState
+calm s = record s { hold = λ l. calm_hold (s.hold l) }
+
+calm_word : (p : ConfigParts) (h : LockState) → hold_word p h ≡ hold_word p (calm_hold h)
+calm_word p Nobody = refl
+calm_word p (Held o d) = refl
+calm_word p (Writes i d n w) = refl
+
+calm_idle : (n : ℕ) (h : LockState) → writing_of n (calm_hold h) ≡ Idle
+calm_idle n Nobody = refl
+calm_idle n (Held o d) = refl
+calm_idle n (Writes i d m w) = refl
+
+calm_orderly : (p : ConfigParts) (s : TreeState) (l : ℕ) (h : LockState) → Orderly p s l h → Orderly p (calm s) l (calm_hold h)
+calm_orderly p s l Nobody o = tt
+calm_orderly p s l (Held owner d) o = o
+calm_orderly p s l (Writes i d n w) o = o.0
+
+module _ (p : ConfigParts) (words : List ℕ) (s : TreeState) (g : Ground p words s) where
+  abbrev pub W : List ℕ
+  W = filled p (calm s) words (nodes p)
+
+  before : (a : Site) → IsSite p a → ((n o : ℕ) → IsNode p n → n ≤ nodes p → o < node_size p → Node n o ≢ a) → Shown p (calm s) words a
+  before (Node n o) ia away = absurd (away n o ia.0 ia.0.last ia.1 refl)
+  before (Lock l) ia away = g.shows.each (Lock l) ia ∙ calm_word p (s.hold l)
+  before a ia away = g.shows.each a ia
+
+  places : (a : Site) → IsSite p a → Shown p (calm s) W a
+  places a ia = filled_shows p (calm s) words (nodes p) g.shows.size (omega arith) a ia (before a ia)
+
+  pub calm_ground : Ground p W (calm s)
+  calm_ground =
+      let t : TreeState = calm s in
+      record {
+        shows = record { size = filled_long p (calm s) words (nodes p) ∙ g.shows.size; each = places };
+        long = g.long;
+        orderly = λ l. calm_orderly p s l (s.hold l) (g.orderly l);
+        sits = λ n k a e. sits_on p s t (λ n l a e. e) n k a refl (body_on p s t (λ n l a e. e) refl k (s.node n)) (g.sits n k a e);
+        apart = g.apart;
+        own = g.own;
+        undrawn = g.undrawn;
+        root = g.root;
+        heights = g.heights;
+        outside = g.outside;
+        firsts = g.firsts;
+        children = g.children;
+        posted = λ n k a e z. let u = g.posted n k a e z in elim u [ inl q ↦ inl q | inr h ↦ inr record { parent = h.parent; low = h.low; linked = h.linked; leads = h.leads } ];
+        legal = g.legal;
+        bare = g.bare;
+      }
+
+  pub calm_rest : IsAtRest p (calm s)
+  calm_rest n l a e = calm_idle n (s.hold (lock_of p n))
+
+-- ---- each moment
+module _ (p : ConfigParts) (words : List ℕ) (log : List LogEntry) (Has : ℕ → Actor → Type 0) (Out : ℕ → ℕ → ℕ → Type 0) (inv : Inv p words log Has Out) where
+  abbrev S : TreeState
+  S = inv.scene
+
+  -- a node that no client writes
+  idle : (n : ℕ) → (IsWritten Has n → ⊥) → writing p S n ≡ Idle
+  idle n off = by (S.hold (lock_of p n)) refl
+    where
+      by : (h : LockState) → S.hold (lock_of p n) ≡ h → writing_of n h ≡ Idle
+      by Nobody e = refl
+      by (Held o d) e = refl
+      by (Writes i d m w) e = elim (cases_eq m n) [
+        | inl q ↦
+            let h = inv.held i (lock_of p n) (subst (λ (x : LockState). Owns x (Seat i)) (sym e) refl) in
+            absurd (off (record { seat = i; actor = h.0; has = h.1; node = is_written p S i h.0 (inv.kept i h.0 h.1) (lock_of p n) d m w e ∙ ap Some q }))
+        | inr ne ↦ writes_else n i d m w ne
+      ]
+
+  still : (a : Site) → IsStill Has a → shown p (calm S) a ≡ shown p S a
+  still (Node n o) off = ap (λ (w : Writing). word p (S.node n) w o) (calm_idle n (S.hold (lock_of p n)) ∙ sym (idle n off))
+  still (Lock l) off = sym (calm_word p (S.hold l))
+  still a off = refl
+
+  linked : (n : ℕ) → IsWritten Has n → IsLinked (S.class n)
+  linked n w =
+      let u = written_is p S w.seat w.actor (inv.kept w.seat w.actor w.has) n w.node in
+      let o : Orderly p S (lock_of p n) (Writes w.seat u.0 n u.1) = subst (Orderly p S (lock_of p n)) u.2 (inv.ground.orderly (lock_of p n)) in
+      let k = o.1 in
+      is_linked S n k.level k.low k.linked
+
+  stands : IsStanding p words log Has
+  stands =
+      let h = holds_tree p (W p words S inv.ground) (calm S) (calm_ground p words S inv.ground) (calm_rest p words S inv.ground) in
+      record {
+        standing = W p words S inv.ground;
+        long = filled_long p (calm S) words (nodes p) ∙ inv.ground.shows.size;
+        same = λ a ia off. places p words S inv.ground a ia ∙ still a off ∙ sym (inv.ground.shows.each a ia);
+        levels = h.levels;
+        tree = h.tree;
+        map = h.map ∙ ap map_of inv.log_is;
+        within = λ n w. (h.linked n).1 (linked n w);
+      }
+
+  -- a holder has the lock in the scene
+  pub owner : (l : ℕ) (o : Owner) → HoldsLock p Has Out l o → Owns (S.hold l) o
+  owner l (Seat i) h = owns p S i h.0 (inv.kept i h.0 h.1) l h.2
+  owner l (Grant c) h = subst (λ (x : LockState). Owns x (Grant c)) (sym (inv.out l c h.0 h.1)) refl
+
+  one_owner : (h : LockState) (o u : Owner) → Owns h o → Owns h u → o ≡ u
+  one_owner Nobody o u a b = absurd a
+  one_owner (Held x d) o u a b = sym a ∙ b
+  one_owner (Writes i d n w) o u a b = sym a ∙ b
+
+  word_of : (h : LockState) (o : Owner) → Owns h o → hold_word p h ≡ owner_word p o
+  word_of Nobody o a = absurd a
+  word_of (Held x d) o a = ap (owner_word p) a
+  word_of (Writes i d n w) o a = ap (owner_word p) a
+
+  by_seat : (l i : ℕ) → Owns (S.hold l) (Seat i) → (o : Owner) × HoldsLock p Has Out l o
+  by_seat l i o = let h = inv.held i l o in (Seat i, (h.0, h.1, holds p S i h.0 (inv.kept i h.0 h.1) l o))
+
+  some_holder : (l : ℕ) (h : LockState) → S.hold l ≡ h → ((o : Owner) × HoldsLock p Has Out l o) ⊎ (hold_word p h ≡ 0)
+  some_holder l Nobody e = inr refl
+  some_holder l (Held (Seat i) d) e = inl (by_seat l i (subst (λ (x : LockState). Owns x (Seat i)) (sym e) refl))
+  some_holder l (Held (Grant c) d) e = inl (Grant c, (d, inv.given l c d e))
+  some_holder l (Writes i d n w) e = inl (by_seat l i (subst (λ (x : LockState). Owns x (Seat i)) (sym e) refl))
+
+  locks : AreLocks p words Has Out
+  locks = record {
+    one = λ l o u a b. one_owner (S.hold l) o u (owner l o a) (owner l u b);
+    held = λ l o lt h. inv.ground.shows.each (Lock l) lt ∙ word_of (S.hold l) o (owner l o h);
+    free = λ l lt. elim (some_holder l (S.hold l) refl) [ inl h ↦ inl h | inr e ↦ inr (inv.ground.shows.each (Lock l) lt ∙ e) ];
+    writers = λ n w. let k = inv.kept w.seat w.actor w.has in (w.actor, w.has, written_held p S w.seat w.actor.first w.actor.point w.actor.seen w.actor.client.registers k.work.duty w.actor.client.phase n w.node);
+    rights = λ l c d o. subst (Orderly p S l) (inv.out l c d o) (inv.ground.orderly l);
+    seats = λ i d a h at. let k = inv.kept i a h in subst (IsBounded p) at (within_bound p S i a.first a.point a.seen a.client.registers k.work.duty inv.ground.orderly a.client.phase k.work.fits);
+  }
+
+pub each_moment : (p : ConfigParts) → EachMoment p
+each_moment p words log Has Out inv = record { tree = stands p words log Has Out inv; locks = locks p words log Has Out inv }

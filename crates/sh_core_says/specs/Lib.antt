@@ -1,0 +1,4 @@
+pub mod Quiescent
+pub mod Books
+pub mod Moments
+pub mod Rest

@@ -1,0 +1,20 @@
+use Rattle.std.proofs.Common.{map, sym, ◌≡◌, ◌∙◌}
+use Rattle.sh_options.specs.declared.order.WordFault.TheVariants.{Usage}
+use Rattle.sh_options.specs.Holds.{names_of}
+use Rattle.sh_options.proofs.Parsed.{end_told, holds_at, refused_at}
+use Rattle.sh_options.proofs.parsing.parse.Goals as goal
+
+pub returns-then-ends_options-clause-usage : goal.returns-then-ends_options-clause-usage
+returns-then-ends_options-clause-usage c used =
+    end_told (names_of c.args.options.now c.args.flags.now) (map (λ w. w.now) c.args.words.now) c.requires (sym c.ends_options.ensures ∙ c.if-ends_options.true)
+
+pub returns-in-Ok-clause-holds : goal.returns-in-Ok-clause-holds
+returns-in-Ok-clause-holds c =
+    holds_at (names_of c.args.options.now c.args.flags.now) _ (map (λ w. w.now) c.args.words.now) _ c.in_ok-command.ensures (sym c.ends_options.ensures ∙ c.if-ends_options.false)
+    c.in-Ok.ensures.kinds c.in-Ok.ensures.matches
+
+pub returns-in-Err-clause-usage : goal.returns-in-Err-clause-usage
+returns-in-Err-clause-usage c used =
+    let is_usage : c.fault_of.result ≡ Usage = cc in
+    refused_at (names_of c.args.options.now c.args.flags.now) _ (map (λ w. w.now) c.args.words.now) c.in-Err.error c.in_ok-command.ensures
+    (sym c.ends_options.ensures ∙ c.if-ends_options.false) c.in-Err.ensures.kinds (c.fault_of.ensures is_usage)

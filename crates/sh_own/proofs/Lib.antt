@@ -1,4 +1,0 @@
-pub mod ChunkLemmas
-pub mod Own
-pub mod Late
-pub mod LaidLemmas

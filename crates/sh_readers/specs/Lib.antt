@@ -1,0 +1,4 @@
+pub mod Points
+pub mod Knows
+pub mod Hand
+pub mod Laws

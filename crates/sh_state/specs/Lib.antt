@@ -1,0 +1,5 @@
+pub mod TreeState
+pub mod Nodes
+pub mod Ground
+pub mod Change
+pub mod Laws

@@ -1,6 +1,0 @@
-use Rattle.std.proofs.Common.{◌≡◌, map, drop}
-use Rattle.sh_words.specs.Command.{has_end}
-use Rattle.sh_words.proofs.parsing.ends_options.Given as goal
-
-abbrev pub invariant-loop-word : goal.invariant-loop-word
-invariant-loop-word l = has_end (map (λ w. w.now) l.words) ≡ has_end (map (λ w. w.now) (drop l.word-index l.words))

@@ -9,6 +9,7 @@ mod told;
 
 pub use laws::{known_orders, known_uses};
 pub use order::{Order, WordFault, read_words};
+pub use told::{number, tell};
 
 #[cfg(test)]
 mod tests;

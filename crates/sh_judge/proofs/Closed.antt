@@ -1,0 +1,55 @@
+-- Each entry of a log is some call's own, where each place is taken once.
+use Rattle.std.proofs.Common.{ℕ, zero, suc, ◌≡◌, ◌≢◌, ◌≤◌, ◌<◌, Bool, true, false, List, [], ◌∷◌, length, Option, Some, None, refl, arith, length-append}
+use Rattle.std.specs.Prelude.{find}
+use Rattle.std.specs.List.{list_any}
+use Rattle.std.proofs.lemmas.Bool.Decides.{nat_tests}
+use Rattle.std.proofs.lemmas.List.Folds.{Any-from_list_any}
+use Rattle.sh_map.specs.declared.call.Call.{Call}
+use Rattle.sh_map.specs.declared.call.Call.TheVariants.{Get, Put, Del, Range}
+use Rattle.sh_map.specs.declared.call.Reply.{Reply}
+use Rattle.sh_map.specs.declared.call.Reply.TheVariants as reply
+use Rattle.sh_map.specs.declared.book.Done.{Done}
+use Rattle.sh_map.specs.Book.{IsClosed, IsOwn}
+use Rattle.sh_map.specs.Made.{entries_by}
+use Rattle.sh_judge.specs.Places.{ArePlaced, count_at, entry_at, entry_of, is_at, log_of, log_to, updates}
+
+one_entry : (seat : ℕ) (call : Call) (answer : Reply) → length (entries_by seat call answer) ≤ 1
+one_entry seat (Put key value) (reply.Some old) = omega arith
+one_entry seat (Put key value) reply.None = omega arith
+one_entry seat (Put key value) (reply.Rows upto) = omega arith
+one_entry seat (Put key value) reply.Full = omega arith
+one_entry seat (Put key value) (reply.Worn version) = omega arith
+one_entry seat (Del key) (reply.Some old) = omega arith
+one_entry seat (Del key) reply.None = omega arith
+one_entry seat (Del key) (reply.Rows upto) = omega arith
+one_entry seat (Del key) reply.Full = omega arith
+one_entry seat (Del key) (reply.Worn version) = omega arith
+one_entry seat (Get key) answer = omega arith
+one_entry seat (Range low high) answer = omega arith
+
+one_at : (d : Option Done) → length (entry_of d) ≤ 1
+one_at None = omega arith
+one_at (Some d) = one_entry d.seat d.call d.reply
+
+short : (dones : List Done) (n : ℕ) → length (log_to dones n) ≤ n
+unfolding log_to
+short dones zero = omega arith
+short dones (suc n) = omega (arith, length-append (log_to dones n) (entry_at dones n), short dones n, one_at (find (is_at n) dones))
+
+counted : (p : ℕ) (dones : List Done) (d : Done) (t : Bool) → is_at p d ≡ t → count_at p (d ∷ dones) ≢ 0 → (count_at p dones ≢ 0 → list_any (is_at p) dones ≡ true) → list_any (is_at p) (d ∷ dones) ≡ true
+counted p dones d true e some rest = rw e refl
+counted p dones d false e some rest = let more = simp e at some in rw e (rest more)
+
+is_among : (p : ℕ) (dones : List Done) → count_at p dones ≢ 0 → list_any (is_at p) dones ≡ true
+is_among p [] some = absurd (some refl)
+is_among p (d ∷ dones) some = counted p dones d (is_at p d) refl some (is_among p dones)
+
+own : (p : ℕ) (d : Done) → is_at p d ≡ true → IsOwn p d
+own p d e = grind (arith, nat_tests)
+
+pub closed : (dones : List Done) → ArePlaced dones → IsClosed (log_of dones) dones
+closed dones placed i within =
+    let small : i < updates dones = omega (arith, within, short dones (updates dones)) in
+    let some : count_at i dones ≢ 0 = omega (arith, placed i small) in
+    let any = Any-from_list_any (is_at i) dones (is_among i dones some) in
+    (any.0, any.1, any.2, any.3, own i any.1 any.4)

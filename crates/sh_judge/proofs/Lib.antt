@@ -1,0 +1,9 @@
+pub mod Parts
+pub mod Numbers
+pub mod FoundLemmas
+pub mod ReadLemmas
+pub mod Owners
+pub mod LogLemmas
+pub mod TreeRows
+pub mod WordLemmas
+pub mod Closed

@@ -1,0 +1,8 @@
+use Rattle.std.proofs.Common.{ap, sym, ◌∙◌}
+use Rattle.std.specs.FinMap.{empty}
+use Rattle.sh_map.specs.Log.{changed}
+use Rattle.sh_map.proofs.LogLemmas.{map_from_more}
+use Rattle.sh_judge.proofs.last.tree_of.Goals as goal
+
+pub loop-entry-preserved : goal.loop-entry-preserved
+loop-entry-preserved c = c.in_ok-apply.ensures ∙ ap (λ m. changed m c.entry-item.result.change) c.loop-entry.invariant ∙ sym (map_from_more empty c.args.log.now c.loop-entry.entry-index c.entry-item.result c.loop-entry-test.true c.entry-item.is)

@@ -1,0 +1,5 @@
+use Rattle.sh_judge.proofs.Closed.{closed}
+use Rattle.sh_judge.proofs.laws.judge_laws.Goals as goal
+
+pub returns-clause-closed : goal.returns-clause-closed
+returns-clause-closed c t lines calls count found = closed t.dones found.0.placed

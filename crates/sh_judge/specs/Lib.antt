@@ -1,0 +1,12 @@
+pub mod Fields
+pub mod CallLine
+pub mod Reading
+pub mod Reader
+pub mod FindingLine
+pub mod Places
+pub mod Tables
+pub mod Trees
+pub mod Finding
+pub mod Words
+pub mod Judged
+pub mod Complete

@@ -1,0 +1,50 @@
+-- The log that finished calls make, by their points.
+use Rattle.std.specs.Prelude.{◌≡◌, ◌≢◌, ℕ, zero, suc, ◌<◌, ◌==◌, ◌&&◌, Bool, List, [], ◌++◌, Option, Some, None, find, if◌then◌else◌}
+use Rattle.std.specs.List.{sum_by}
+use Rattle.sh_map.specs.declared.log.Entry.{Entry}
+use Rattle.sh_map.specs.declared.book.Done.{Done}
+use Rattle.sh_map.specs.Book.{made}
+use Rattle.sh_map.specs.Made.{entries_by}
+
+abbrev pub made_by : Done → ℕ
+made_by d = made d.call d.reply
+
+-- how many updating calls there are: those that have made an entry
+abbrev pub updates : List Done → ℕ
+updates dones = sum_by made_by dones
+
+-- an updating call has this point
+abbrev pub is_at : ℕ → Done → Bool
+is_at p d = (made_by d == 1) && (d.point == p)
+
+-- how many updating calls have this point
+abbrev pub count_at : ℕ → List Done → ℕ
+count_at p dones = sum_by (λ d. if is_at p d then 1 else 0) dones
+
+-- each place below the number of updating calls is the point of just one
+abbrev pub ArePlaced : List Done → Type 0
+ArePlaced dones = (p : ℕ) → p < updates dones → count_at p dones ≡ 1
+
+-- the least place that isn't the point of just one
+pub record IsLeastUnplaced (dones : List Done) (at : ℕ) : Type 0 where
+  pub below : at < updates dones
+  pub unplaced : count_at at dones ≢ 1
+  pub least : (p : ℕ) → p < at → count_at p dones ≡ 1
+
+-- the entry of a call, if there is one
+abbrev pub entry_of : Option Done → List Entry
+entry_of None = []
+entry_of (Some d) = entries_by d.seat d.call d.reply
+
+-- the entry at a place: that of the first updating call whose point it is
+abbrev pub entry_at : List Done → ℕ → List Entry
+entry_at dones p = entry_of (find (is_at p) dones)
+
+-- the log of the places below n
+unfoldable pub log_to : List Done → ℕ → List Entry
+log_to dones zero = []
+log_to dones (suc n) = log_to dones n ++ entry_at dones n
+
+-- the log of these calls: at each place the updating call whose point it is
+abbrev pub log_of : List Done → List Entry
+log_of dones = log_to dones (updates dones)

@@ -1,8 +1,9 @@
 #!/usr/bin/env bash
 # Is a printed replay judged in a time near linear in its lines, and in how much memory? Times printed replays of 50,000 and
-# of 400,000 puts, gets and deletes by 8 seats over a fourth as many keys; the second has eight times the lines and should
-# take less than ten times as long. More lines don't fit: a judge takes at most 16,777,216 bytes. The time is the least of
-# five runs, since other work on the machine only adds. A call takes some 600 bytes.
+# of 400,000 puts, gets and deletes by 8 seats over a fourth as many keys. The second has eight times the lines, and its
+# keys leave the processor's caches; it should take less than fourteen times as long. Many more lines don't fit: a judge
+# takes at most 16,777,216 bytes. The time is the least of five runs, since other work on the machine only adds. A call
+# takes some 400 bytes, its line with it.
 set -eu
 cd "$(dirname "$0")/.."
 folder=$(mktemp -d)
@@ -16,7 +17,7 @@ for n in 50000 400000; do
       else { printf "%d,%d,del,%d,,%s,%s,%d\n", i, seat, key, word, old, point; if (had) { delete map[key]; point++ } }
     }
     for (key in map) { keys++; sum += map[key] }
-    printf "end,%d,%d,%d\n", n, keys, sum
+    printf "end,%d,%d,%.0f\n", n, keys, sum
   }' >"$folder/$n.txt"
 done
 ./run sherman_judge <"$folder/50000.txt"

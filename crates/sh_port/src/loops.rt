@@ -1,8 +1,8 @@
 // A whole input read, and a whole text written.
-ghost use Rattle.std.specs.Prelude.{◌≡◌, OnOk, OnErr, MatchResult};
+ghost use Rattle.std.specs.Prelude.{◌≡◌, ◌≤◌, ◌^◌, OnOk, OnErr, MatchResult};
 ghost use Rattle.std.specs.Io.KnownBytes.{Appends};
 ghost use Rattle.sh_port.specs.Port.{HasFaultCause, AppendsFront};
-ghost use Rattle.sh_port.specs.Intake.{TookAll, StoppedBy};
+ghost use Rattle.sh_port.specs.Intake.{TookAll, TookUpTo, StoppedBy, StoppedUpTo};
 
 use crate::{Failed, Sink, Source};
 use std::alloc::Global;
@@ -18,21 +18,24 @@ pub const MOST_BYTES: usize = 16_777_216;
 pub enum Intake {
     /// A call of the source failed.
     Fault,
-    /// There are more than [`MOST_BYTES`] bytes.
+    /// There are more bytes than may be read.
     TooLong,
     /// Memory is wanting.
     NoMemory,
 }
 
-/// All the bytes that are left. `Ok` comes only where the source's last answer was the end, `Fault` only where its
-/// count of faults rose, and `TooLong` exactly where one byte more than [`MOST_BYTES`] was taken.
-pub fn read_all<S: Source>(alloc: Global, source: &mut S) -> Result<Bytes, Intake>
-    ensures { MatchResult result (λ v. TookAll (S.left source.old) (S.left source.new) (S.faults source.old) (S.faults source.new) v.items) (λ e. StoppedBy (S.left source.old) (S.left source.new) (S.faults source.old) (S.faults source.new) e) }
+/// All the bytes that are left, where there are at most `most`. `Ok` comes only where the source's last answer was the
+/// end, `Fault` only where its count of faults rose, and `TooLong` exactly where one byte more than `most` was taken.
+/// Condition: `most` is at most 2^32.
+pub fn read_up_to<S: Source>(alloc: Global, source: &mut S, most: u64) -> Result<Bytes, Intake>
+    requires { most ≤ 2 ^ 32 }
+    ensures { MatchResult result (λ v. TookUpTo most (S.left source.old) (S.left source.new) (S.faults source.old) (S.faults source.new) v.items) (λ e. StoppedUpTo most (S.left source.old) (S.left source.new) (S.faults source.old) (S.faults source.new) e) }
 {
+    let most = most as usize;
     let mut bytes = Vec::new(alloc);
     let mut buffer = [0u8; 4096];
-    'reads: while bytes.len() <= MOST_BYTES {
-        let room = (MOST_BYTES + 1 - bytes.len()).min(4096);
+    'reads: while bytes.len() <= most {
+        let room = (most + 1 - bytes.len()).min(4096);
         let n = match source.read(&mut buffer[..room]) {
             Ok(n) => n,
             Err(_) => return Err(Intake::Fault),
@@ -45,6 +48,13 @@ pub fn read_all<S: Source>(alloc: Global, source: &mut S) -> Result<Bytes, Intak
         }
     }
     Err(Intake::TooLong)
+}
+
+/// All the bytes that are left, where there are at most [`MOST_BYTES`], as `read_up_to` reads them.
+pub fn read_all<S: Source>(alloc: Global, source: &mut S) -> Result<Bytes, Intake>
+    ensures { MatchResult result (λ v. TookAll (S.left source.old) (S.left source.new) (S.faults source.old) (S.faults source.new) v.items) (λ e. StoppedBy (S.left source.old) (S.left source.new) (S.faults source.old) (S.faults source.new) e) }
+{
+    read_up_to(alloc, source, MOST_BYTES as u64)
 }
 
 /// Writes the whole piece. Where a call of the sink fails, the sink holds a front of the piece more.

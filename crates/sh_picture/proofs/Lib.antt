@@ -1,0 +1,11 @@
+pub mod PictureLemmas
+pub mod PaintLemmas
+pub mod NodeLemmas
+pub mod WalkLemmas
+pub mod GoingLemmas
+pub mod TreeLemmas
+pub mod LookLemmas
+pub mod FaultLemmas
+pub mod LawLemmas
+pub mod TopLemmas
+pub mod OneLemmas

@@ -1,0 +1,9 @@
+pub mod Picture
+pub mod Walk
+pub mod Walks
+pub mod Tree
+pub mod Marks
+pub mod Fault
+pub mod Verdict
+pub mod Text
+pub mod Top

@@ -1,0 +1,39 @@
+-- The lines of a verdict. Each ends with a line feed; numbers are decimal, without leading zeros.
+use Rattle.std.specs.Prelude.{ℕ, Bool, List, [], ◌++◌, codes, length, sum, if◌then◌else◌}
+use Rattle.std.specs.Fmt.{decimal}
+use Rattle.std.specs.List.{flat_map, sum_by}
+use Rattle.sh_map.specs.declared.book.Row.{Row}
+use Rattle.sh_text.specs.Text.{map_line}
+use Rattle.sh_picture.specs.declared.place.FirstPlace.{FirstPlace}
+use Rattle.sh_picture.specs.declared.place.FirstPlace.TheVariants.{Short, Magic, Setting, Length, Zero, Lock, Root, Chain, Pair, Twice}
+use Rattle.sh_picture.specs.declared.verdict.Verdict.{Verdict}
+use Rattle.sh_picture.specs.declared.verdict.Verdict.TheVariants.{Lawful, Refused}
+
+-- the line of a place
+abbrev pub place_line : FirstPlace → List ℕ
+place_line Short = codes "refused,short\n"
+place_line (Magic at) = codes "refused,magic," ++ (decimal at ++ codes "\n")
+place_line (Setting fault) = codes "refused,setting\n"
+place_line (Length len) = codes "refused,length\n"
+place_line Zero = codes "refused,zero\n"
+place_line (Lock lock) = codes "refused,lock," ++ (decimal lock ++ codes "\n")
+place_line Root = codes "refused,root\n"
+place_line (Chain level node) = codes "refused,chain," ++ ((decimal level ++ codes ",") ++ (decimal node ++ codes "\n"))
+place_line (Pair node index) = codes "refused,pair," ++ ((decimal node ++ codes ",") ++ (decimal index ++ codes "\n"))
+place_line (Twice node key) = codes "refused,twice," ++ ((decimal node ++ codes ",") ++ (decimal key ++ codes "\n"))
+
+-- the line of a lawful picture: how many keys there are, and the sum of all words of their values
+unfoldable pub lawful_line : (keys total : ℕ) → List ℕ
+lawful_line keys total = codes "lawful," ++ ((decimal keys ++ codes ",") ++ (decimal total ++ codes "\n"))
+
+-- the sum of all words of all values
+abbrev pub total_of : List Row → ℕ
+total_of rows = sum_by (λ r. sum r.value) rows
+
+-- a line for each key, where the map is asked for
+abbrev pub rows_text : (asked : Bool) → List Row → List ℕ
+rows_text asked rows = if asked then flat_map map_line rows else []
+
+abbrev pub verdict_text : (asked : Bool) → Verdict → List ℕ
+verdict_text asked (Lawful cfg pairs) = rows_text asked pairs ++ lawful_line (length pairs) (total_of pairs)
+verdict_text asked (Refused place) = place_line place

@@ -1,0 +1,37 @@
+// What the definitions of pictures mean.
+ghost use Rattle.std.specs.Prelude.{◌≡◌, ◌<◌, ◌^◌, ℕ, Bool, List, Option, length, slice_index};
+ghost use Rattle.sh_base.specs.declared.config.ConfigParts.{ConfigParts};
+ghost use Rattle.sh_base.specs.Setting.{pool_words, IsSetting};
+ghost use Rattle.sh_map.specs.declared.book.Row.{Row};
+ghost use Rattle.sh_tree.specs.Tree.{IsTree};
+ghost use Rattle.sh_picture.specs.declared.place.FirstPlace.{FirstPlace};
+ghost use Rattle.sh_picture.specs.declared.verdict.Verdict.{Verdict};
+ghost use Rattle.sh_picture.specs.declared.ending.PictureStatus.{PictureStatus};
+ghost use Rattle.sh_picture.specs.Top.{EndsWell, Headline, IsFree};
+ghost use Rattle.sh_picture.specs.Picture.{parts_in, picture_of, words_in};
+ghost use Rattle.sh_picture.specs.Fault.{IsFirstPlace, IsIdle};
+ghost use Rattle.sh_picture.specs.Verdict.{HasMapOf, IsLawful, VerdictOf};
+
+/// A picture says its setting and its words. Of a pool at rest that holds a tree the verdict on its picture is lawful,
+/// with the pool's setting and the tree's map; so is `check` of what `paint` wrote.
+pub fn pictures_of_trees_are_lawful()
+    ensures parts { (p : ConfigParts) (words : List ℕ) → IsSetting p → parts_in (picture_of p words) ≡ p }
+    ensures words { (p : ConfigParts) (words : List ℕ) → IsSetting p → length words ≡ pool_words p → ((i : ℕ) → slice_index words i < 2 ^ 64) → words_in (picture_of p words) ≡ words }
+    ensures lawful { (p : ConfigParts) (words : List ℕ) (levels : List (List ℕ)) (verdict : Verdict) → IsSetting p → length words ≡ pool_words p → ((i : ℕ) → slice_index words i < 2 ^ 64) → IsIdle p words → IsTree p words levels → VerdictOf (picture_of p words) verdict → HasMapOf p words levels verdict }
+{}
+
+/// Bytes have one verdict: where they are the picture of a lawful tree, no place is the first that says otherwise.
+pub fn lawful_pictures_have_no_place()
+    ensures { (bytes : List ℕ) (p : ConfigParts) (rows : List Row) (place : FirstPlace) → IsLawful bytes p rows → IsFirstPlace bytes place → ⊥ }
+{}
+
+/// Bytes have one first place at most.
+pub fn places_are_one()
+    ensures { (bytes : List ℕ) (a b : FirstPlace) → IsFirstPlace bytes a → IsFirstPlace bytes b → a ≡ b }
+{}
+
+/// A check is complete: with accepted words, not too many bytes and no fault of source or sink it ends with a verdict, or
+/// for want of memory.
+pub fn checks_are_complete()
+    ensures { (asked : Option Bool) (left rest : Option (List ℕ)) (before now : ℕ) (held after : Option (List ℕ)) (fell fallen : ℕ) (status : PictureStatus) → Headline asked left rest before now held after fell fallen status → IsFree asked left before now fell fallen → EndsWell status }
+{}

@@ -1,0 +1,101 @@
+// The lines of a verdict, written.
+ghost use Rattle.std.specs.Prelude.{◌≡◌, ◌≤◌, ◌^◌, ◌++◌, length, OnOk, OnErr};
+ghost use Rattle.std.specs.Io.KnownBytes.{Appends};
+ghost use Rattle.sh_port.specs.Port.{AppendsFront};
+ghost use Rattle.sh_text.specs.Write.{HasWriteCause};
+ghost use Rattle.sh_picture.specs.Text.{lawful_line, place_line, rows_text, total_of, verdict_text};
+
+use crate::lines::{lawful_line, place_line, total_of};
+use crate::{FirstPlace, Verdict};
+use sh_map::Row;
+use sh_port::{Sink, write_all};
+use sh_text::{WriteError, write_map};
+use std::alloc::Global;
+
+// Writes the line of a place.
+fn write_place<K: Sink>(alloc: Global, sink: &mut K, place: &FirstPlace) -> Result<(), WriteError>
+    ensures ok { OnOk result (Appends (K.held sink.old) (K.held sink.new) (place_line place.now)) }
+    ensures err { OnErr result (AppendsFront (K.held sink.old) (K.held sink.new) (place_line place.now)) }
+    ensures cause { HasWriteCause (K.faults sink.old) (K.faults sink.new) result }
+{
+    let Ok(text) = place_line(alloc, place) else {
+        return Err(WriteError::NoMemory);
+    };
+    match write_all(sink, text.as_bytes()) {
+        Ok(()) => Ok(()),
+        Err(_) => Err(WriteError::Fault),
+    }
+}
+
+// Writes the line of a lawful picture.
+fn write_total<K: Sink>(
+    alloc: Global,
+    sink: &mut K,
+    keys: u64,
+    total: u128,
+) -> Result<(), WriteError>
+    ensures ok { OnOk result (Appends (K.held sink.old) (K.held sink.new) (lawful_line keys total)) }
+    ensures err { OnErr result (AppendsFront (K.held sink.old) (K.held sink.new) (lawful_line keys total)) }
+    ensures cause { HasWriteCause (K.faults sink.old) (K.faults sink.new) result }
+{
+    let Ok(text) = lawful_line(alloc, keys, total) else {
+        return Err(WriteError::NoMemory);
+    };
+    match write_all(sink, text.as_bytes()) {
+        Ok(()) => Ok(()),
+        Err(_) => Err(WriteError::Fault),
+    }
+}
+
+// Writes the map, where it is asked for.
+fn write_rows<K: Sink>(
+    alloc: Global,
+    sink: &mut K,
+    asked: bool,
+    rows: &[Row],
+) -> Result<(), WriteError>
+    ensures ok { OnOk result (Appends (K.held sink.old) (K.held sink.new) (rows_text asked rows.now)) }
+    ensures err { OnErr result (AppendsFront (K.held sink.old) (K.held sink.new) (rows_text asked rows.now)) }
+    ensures cause { HasWriteCause (K.faults sink.old) (K.faults sink.new) result }
+{
+    if asked {
+        write_map(alloc, sink, rows)
+    } else {
+        Ok(())
+    }
+}
+
+// Writes the lines of a lawful picture.
+pub(crate) fn write_lawful<K: Sink>(
+    alloc: Global,
+    sink: &mut K,
+    asked: bool,
+    rows: &[Row],
+) -> Result<(), WriteError>
+    requires { length rows.now ≤ 2 ^ 57 }
+    ensures ok { OnOk result (Appends (K.held sink.old) (K.held sink.new) (rows_text asked rows.now ++ lawful_line (length rows.now) (total_of rows.now))) }
+    ensures err { OnErr result (AppendsFront (K.held sink.old) (K.held sink.new) (rows_text asked rows.now ++ lawful_line (length rows.now) (total_of rows.now))) }
+    ensures cause { HasWriteCause (K.faults sink.old) (K.faults sink.new) result }
+{
+    match write_rows(alloc, sink, asked, rows) {
+        Ok(()) => write_total(alloc, sink, rows.len() as u64, total_of(rows)),
+        Err(error) => Err(error),
+    }
+}
+
+// Writes the lines of a verdict.
+pub(crate) fn write_verdict<K: Sink>(
+    alloc: Global,
+    sink: &mut K,
+    asked: bool,
+    verdict: &Verdict,
+) -> Result<(), WriteError>
+    ensures ok { OnOk result (Appends (K.held sink.old) (K.held sink.new) (verdict_text asked verdict.now)) }
+    ensures err { OnErr result (AppendsFront (K.held sink.old) (K.held sink.new) (verdict_text asked verdict.now)) }
+    ensures cause { HasWriteCause (K.faults sink.old) (K.faults sink.new) result }
+{
+    match verdict {
+        Verdict::Lawful { pairs, .. } => write_lawful(alloc, sink, asked, pairs.as_slice()),
+        Verdict::Refused(place) => write_place(alloc, sink, place),
+    }
+}

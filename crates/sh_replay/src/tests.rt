@@ -257,11 +257,10 @@ const SMALL: [&str; 7] = [
 ];
 
 // The small setting with another number of chunks, and with one word more.
-fn small<'a>(alloc: Global, chunks: &'a str, more: &'a str) -> Result<Vec<&'a str>, AllocError> {
-    let mut words = SMALL.to_vec(alloc)?;
-    words[1] = chunks;
-    words.push(more)?;
-    Ok(words)
+fn small(chunks: &'static str, more: &'static str) -> [&'static str; 8] {
+    [
+        SMALL[0], chunks, SMALL[2], SMALL[3], SMALL[4], SMALL[5], SMALL[6], more,
+    ]
 }
 
 // Whether the small setting answers these rows behind four puts by seat 2, of the keys 10, 20, 30 and 40.
@@ -364,7 +363,7 @@ fn rising_keys_split_leaves_and_grow_the_tree(rt: HostRuntime) -> Result<(), Fai
     assert!(rt;
         rises(
             alloc,
-            &small(alloc, "--chunks=4", "--map")?,
+            &small("--chunks=4", "--map"),
             five.as_str(),
             "",
             "1,0,put,10,1,none,,0\n2,0,put,20,2,none,,1\n3,0,put,30,3,none,,2\n4,0,put,40,4,none,,3\n5,0,put,50,5,none,,4\nmap,10,1\nmap,20,2\nmap,30,3\nmap,40,4\nmap,50,5\nend,5,5,15\n",
@@ -374,7 +373,7 @@ fn rising_keys_split_leaves_and_grow_the_tree(rt: HostRuntime) -> Result<(), Fai
     assert!(rt;
         rises(
             alloc,
-            &small(alloc, "--chunks=1", "--bound=4")?,
+            &small("--chunks=1", "--bound=4"),
             five.as_str(),
             "put,0,10,9\n",
             "1,0,put,10,1,none,,0\n2,0,put,20,2,none,,1\n3,0,put,30,3,none,,2\n4,0,put,40,4,none,,3\n5,0,put,50,5,full,,\n6,0,put,10,9,some,1,4\nend,6,4,18\n",
@@ -387,7 +386,7 @@ fn rising_keys_split_leaves_and_grow_the_tree(rt: HostRuntime) -> Result<(), Fai
     let lines = "6,0,get,40,,some,4,5\nend,6,5,15\n";
     assert!(rt; rises(alloc, &narrow, five.as_str(), "get,0,40,\n", lines, 1)?);
     let hundred = rising_puts(alloc, 100, 1)?;
-    let words = small(alloc, "--chunks=64", "--bound=4")?;
+    let words = small("--chunks=64", "--bound=4");
     let lines = "100,0,put,100,100,none,,99\nend,100,100,5050\n";
     assert!(rt; rises(alloc, &words, hundred.as_str(), "", lines, 0)?);
     Ok(())
@@ -410,7 +409,7 @@ fn a_leaf_is_worn_at_the_last_version(rt: HostRuntime) -> Result<(), Fail> {
         output,
         "256,0,put,5,256,worn,15,\n257,0,get,5,,some,255,255\nend,257,1,255\n"
     )?;
-    let words = small(alloc, "--chunks=4", "--bits=4")?;
+    let words = small("--chunks=4", "--bits=4");
     assert!(rt; answers(alloc, &words, input.as_str(), output.as_str())?);
     Ok(())
 }

@@ -4,14 +4,11 @@ use Rattle.std.specs.Prelude.{◌==◌, nat_lt, if◌then◌else◌, Some}
 use Rattle.std.specs.List.{AllByRecursion}
 use Rattle.std.proofs.lemmas.Bool.Decides.{nat_tests}
 use Rattle.sh_image.specs.Inner.{Inner}
-use Rattle.sh_cache.specs.Cached.{added, covers, forgotten, found, has_low, kept, replaced, HaveOwnLows, FoundBy}
+use Rattle.sh_cache.specs.Cached.{added, covers, forgotten, found, has_low, kept, replaced, HaveOwnLows}
 use Rattle.sh_cache.specs.Acts.{Act, Keep, Forget, LeavesRow, StillKept, after_act, rows_after}
-use Rattle.sh_cache.proofs.FindLemmas.{found_by, row_at}
+use Rattle.sh_logic.proofs.Lists.{all_join, all_drop}
+use Rattle.sh_cache.proofs.FindLemmas.{found_has, found_covers}
 use Rattle.sh_cache.proofs.RowLemmas.{apart_forgotten, apart_kept}
-
-all_push : {X : Type 0} (P : X → Type 0) (xs : List X) (x : X) → AllByRecursion P xs → P x → AllByRecursion P (xs ++ x ∷ [])
-all_push P [] x h p = (p, tt)
-all_push P (y ∷ xs) x h p = (h.0, all_push P xs x h.1 p)
 
 module _ (acts : List Act) where
   -- a row that was kept before stays so at an act that is about another low fence
@@ -20,7 +17,7 @@ module _ (acts : List Act) where
     before = h.before;
     behind = h.behind ++ act ∷ [];
     whole = ap (λ l. l ++ act ∷ []) h.whole ∙ append_assoc h.before (Keep r ∷ h.behind) (act ∷ []);
-    left = all_push (LeavesRow r.low) h.behind act h.left other;
+    left = all_join (LeavesRow r.low) h.behind (act ∷ []) h.left (other, tt);
   }
 
   now_kept : (a : Inner) → StillKept (acts ++ Keep a ∷ []) a
@@ -47,18 +44,14 @@ module _ (acts : List Act) (a : Inner) where
       cases false e rest = (stays acts (Keep a) r (λ same. grind (arith, nat_tests, e, same)) h.0, rest)
 
   kept_pushed : (rows : List Inner) → has_low rows a.low ≡ false → AllByRecursion (StillKept acts) rows → AllByRecursion (StillKept (acts ++ Keep a ∷ [])) (rows ++ a ∷ [])
-  kept_pushed rows none h = all_push (StillKept (acts ++ Keep a ∷ [])) rows a (all_stay acts (Keep a) rows (others rows a.low none) h) (now_kept acts a)
-
-  kept_tail : (rows : List Inner) → AllByRecursion (StillKept (acts ++ Keep a ∷ [])) rows → AllByRecursion (StillKept (acts ++ Keep a ∷ [])) (drop 1 rows)
-  kept_tail [] h = h
-  kept_tail (r ∷ rows) h = h.1
+  kept_pushed rows none h = all_join (StillKept (acts ++ Keep a ∷ [])) rows (a ∷ []) (all_stay acts (Keep a) rows (others rows a.low none) h) (now_kept acts a, tt)
 
   kept_after : (room : ℕ) (rows : List Inner) → HaveOwnLows rows → AllByRecursion (StillKept acts) rows → AllByRecursion (StillKept (acts ++ Keep a ∷ [])) (kept room rows a)
   kept_after room rows apart h = cases (has_low rows a.low) refl
     where
       place : (b : Bool) → AllByRecursion (StillKept (acts ++ Keep a ∷ [])) (rows ++ a ∷ []) → AllByRecursion (StillKept (acts ++ Keep a ∷ [])) (if b then rows ++ a ∷ [] else drop 1 (rows ++ a ∷ []))
       place true all = all
-      place false all = kept_tail (rows ++ a ∷ []) all
+      place false all = all_drop (StillKept (acts ++ Keep a ∷ [])) 1 (rows ++ a ∷ []) all
 
       cases : (b : Bool) → has_low rows a.low ≡ b → AllByRecursion (StillKept (acts ++ Keep a ∷ [])) (if b then replaced rows a else added room rows a)
       cases true e = kept_replaced rows apart h
@@ -93,6 +86,4 @@ module _ (room : ℕ) where
       subst (λ l. AllByRecursion (StillKept l) (rows_after room (after_act room rows act) acts)) (append_assoc done (act ∷ []) acts) (kept_acts (done ++ act ∷ []) acts (after_act room rows act) (apart_act rows act apart) (kept_act done rows act apart h))
 
   pub found_kept : (acts : List Act) (key : ℕ) (a : Inner) → found (rows_after room [] acts) key ≡ Some a → StillKept acts a × (covers a key ≡ true)
-  found_kept acts key a is =
-      let by = subst (FoundBy (rows_after room [] acts) key) is (found_by (rows_after room [] acts) key) in
-      (row_at (StillKept acts) (rows_after room [] acts) by.index a (kept_acts [] acts [] tt tt) by.here, by.covering)
+  found_kept acts key a is = (found_has (StillKept acts) (rows_after room [] acts) key a is (kept_acts [] acts [] tt tt), found_covers (rows_after room [] acts) key a is)

@@ -1,19 +1,17 @@
 -- The row that is found, row by row.
-use Rattle.std.proofs.Common.{◌≡◌, ℕ, zero, suc, ◌+◌, ◌<◌, ◌≤◌, ◌⊎◌, Bool, true, false, List, [], ◌∷◌, length, get_or, drop, refl, ap, sym, subst, ◌∙◌, inl, inr, Bor, arith}
-use Rattle.std.specs.Prelude.{◌&&◌, nat_lt, if◌then◌else◌, option_map, slice_get, IfSome, Option, Some, None}
+use Rattle.std.proofs.Common.{◌≡◌, ℕ, zero, suc, ◌+◌, ◌<◌, ◌≤◌, ◌⊎◌, Bool, true, false, List, [], ◌∷◌, length, drop, refl, ap, sym, subst, inl, inr, arith}
+use Rattle.std.specs.Prelude.{◌&&◌, nat_lt, if◌then◌else◌, slice_get, Option, Some, None}
 use Rattle.std.specs.List.{AllByRecursion}
 use mathlib.Core.Bool.{false≢true}
 use Rattle.std.proofs.lemmas.Bool.Decides.{nat_tests}
-use Rattle.std.proofs.lemmas.List.{drop_more, drop_all}
+use Rattle.std.proofs.lemmas.List.{drop_more}
 use Rattle.sh_logic.proofs.Tests.{and_true}
 use Rattle.sh_image.specs.Inner.{Inner}
 use Rattle.sh_cache.specs.Cached.{better, covers, found, found_from, FoundBy}
+use Rattle.sh_cache.specs.Columns.{no_row, row_in}
 
-pub found_step : (rows : List Inner) (i : ℕ) (r : Inner) (best : Option Inner) (key : ℕ) → i < length rows → r ≡ get_or rows i r → found_from best (drop i rows) key ≡ found_from (better best r key) (drop (i + 1) rows) key
-found_step rows i r best key below is = ap (λ l. found_from best l key) (drop_more rows i r below) ∙ ap (λ x. found_from (better best x key) (drop (i + 1) rows) key) (sym is)
-
-pub found_end : (rows : List Inner) (i : ℕ) (best : Option Inner) (key : ℕ) → length rows ≤ i → found_from best (drop i rows) key ≡ best
-found_end rows i best key h = ap (λ l. found_from best l key) (drop_all i rows h)
+pub found_step : (rows : List Inner) (i : ℕ) (best : Option Inner) (key : ℕ) → i < length rows → found_from best (drop i rows) key ≡ found_from (better best (row_in rows i) key) (drop (i + 1) rows) key
+found_step rows i best key below = ap (λ l. found_from best l key) (drop_more rows i no_row below)
 
 record Place (rows : List Inner) (a : Inner) : Type 0 where
   index : ℕ
@@ -91,19 +89,19 @@ given other None = other
 given other (Some r) = r
 
 -- what holds of each row holds of one at an index
-pub row_at : (P : Inner → Type 0) (rows : List Inner) (i : ℕ) (a : Inner) → AllByRecursion P rows → slice_get rows i ≡ Some a → P a
+row_at : (P : Inner → Type 0) (rows : List Inner) (i : ℕ) (a : Inner) → AllByRecursion P rows → slice_get rows i ≡ Some a → P a
 row_at P [] i a h is = absurd (false≢true (ap is_there is))
 row_at P (r ∷ rows) zero a h is = subst P (ap (given r) is) h.0
 row_at P (r ∷ rows) (suc i) a h is = row_at P rows i a h.1 is
 
--- what is found of a cache's rows
-pub found_at : (P : Inner → Type 0) (rows : List Inner) (key : ℕ) (o : Option Inner) → AllByRecursion P rows → o ≡ found rows key → IfSome o P
-found_at P rows key o h is = by o (subst (FoundBy rows key) (sym is) (found_by rows key))
-  where
-    by : (o : Option Inner) → FoundBy rows key o → IfSome o P
-    by None f = tt
-    by (Some a) f = row_at P rows f.index a h f.here
+-- what is found is a row, and covers the key
+pub found_has : (P : Inner → Type 0) (rows : List Inner) (key : ℕ) (a : Inner) → found rows key ≡ Some a → AllByRecursion P rows → P a
+found_has P rows key a is h =
+    let by = subst (FoundBy rows key) is (found_by rows key) in
+    row_at P rows by.index a h by.here
 
-pub behind : (P : Inner → Type 0) (o : Option (Bor Inner)) → IfSome (option_map (λ r. r.now) o) P → IfSome o (λ r. P r.now)
-behind P None h = h
-behind P (Some r) h = h
+pub found_covers : (rows : List Inner) (key : ℕ) (a : Inner) → found rows key ≡ Some a → covers a key ≡ true
+found_covers rows key a is = let by = subst (FoundBy rows key) is (found_by rows key) in by.covering
+
+pub covers_fences : (a : Inner) (key : ℕ) → covers a key ≡ true → (a.low ≤ key) × (key < a.high)
+covers_fences a key h = (grind (arith, nat_tests, h), grind (arith, nat_tests, h))

@@ -26,6 +26,11 @@ added room rows a = if nat_lt (length rows) room then rows ++ a ∷ [] else drop
 abbrev pub kept : ℕ → List Inner → Inner → List Inner
 kept room rows a = if has_low rows a.low then replaced rows a else added room rows a
 
+-- the oldest row of a cache that is full
+pub record IsOldest (room : ℕ) (rows : List Inner) (row : Inner) : Type 0 where
+  pub first : slice_get rows 0 ≡ Some row
+  pub full : room ≤ length rows
+
 -- the rows without the one with this low fence
 abbrev pub forgotten : List Inner → ℕ → List Inner
 forgotten [] low = []

@@ -1,3 +1,3 @@
 pub mod Cached
-pub mod Places
+pub mod Columns
 pub mod Acts

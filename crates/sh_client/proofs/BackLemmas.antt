@@ -11,6 +11,7 @@ use Rattle.sh_client.specs.declared.state.Then.TheVariants.{Starts}
 use Rattle.sh_client.specs.declared.state.Write.TheVariants.{Nothing}
 use Rattle.sh_client.specs.Courses.{node_read, wants_over, GivesBack}
 use Rattle.sh_decide.specs.Deciding.{decision_of}
+use Rattle.sh_client.specs.Cached.{settling}
 use Rattle.sh_client.specs.Feeds.{did, fed_by, fed_in, held_by, hold_by, loaded}
 use Rattle.sh_client.specs.Giving.{carried, released}
 use Rattle.sh_client.specs.Machine.{Machine, to}
@@ -35,9 +36,10 @@ odd_gives_back m word depth aim at odd =
 
 pub restart_gives_back : (m : Machine) (word depth : ℕ) (aim : Aim) (image : Image) → m.phase ≡ ReadLocked aim depth → progress_of m.setting m.registers.reads word ≡ Accepted → accepted m.setting (read_fed m.setting m.registers.reads word) ≡ Some image → decision_of m.setting m.registers.call aim image ≡ Restart → GivesBack (fed_by m word) (node_read m word) depth aim
 restart_gives_back m word depth aim image at whole is senseless =
-    let step : fed_by m word ≡ to (loaded m word) (Waiting depth (giving_of (node_read m word) Nothing (Starts aim))) =
+    let s : Machine = settling (loaded m word) aim image in
+    let step : fed_by m word ≡ to s (Waiting depth (giving_of (node_read m word) Nothing (Starts aim))) =
     ap (fed_in m word) at
     ∙ ap (hold_by (loaded m word) aim depth) whole
     ∙ ap (held_by (loaded m word) aim depth) is
-    ∙ ap (did (loaded m word) aim depth image) senseless in
-    subst (λ (x : Machine). GivesBack x (node_read m word) depth aim) (sym step) (gives_back (loaded m word) (node_read m word) depth aim)
+    ∙ ap (did s aim depth image) senseless in
+    subst (λ (x : Machine). GivesBack x (node_read m word) depth aim) (sym step) (gives_back s (node_read m word) depth aim)

@@ -31,6 +31,7 @@ use Rattle.sh_client.specs.Machine.{Machine, answering, storing, to}
 use Rattle.sh_client.specs.Bodies.{answer_in, entry_left}
 use Rattle.sh_decide.specs.Aims.{written_key, written_value}
 use Rattle.sh_client.specs.Courses.{after_stores, node_read, stores_of, wants_over, Finds, StoresThenFrees}
+use Rattle.sh_client.specs.Cached.{settling}
 use Rattle.sh_client.specs.Feeds.{did, fed_by, fed_in, held_by, hold_by, loaded}
 use Rattle.sh_client.specs.Giving.{carried, counted, released, writes_nothing, write_begun}
 use Rattle.sh_client.specs.Splitting.{giving_of}
@@ -119,22 +120,22 @@ module _ (m : Machine) (depth : ℕ) (giving : Giving) (some : writes_nothing gi
   }
 
 -- what is found leads to what is decided of it
-decided : (m : Machine) (word depth : ℕ) (a : LeafOf) (d : Decision) → Finds m word depth a d → fed_by m word ≡ did (loaded m word) Own depth (OfLeaf a) d
+decided : (m : Machine) (word depth : ℕ) (a : LeafOf) (d : Decision) → Finds m word depth a d → fed_by m word ≡ did (settling (loaded m word) Own (OfLeaf a)) Own depth (OfLeaf a) d
 decided m word depth a d h =
     ap (fed_in m word) h.holds
     ∙ ap (hold_by (loaded m word) Own depth) h.whole
     ∙ ap (held_by (loaded m word) Own depth) h.leaf_is
-    ∙ ap (did (loaded m word) Own depth (OfLeaf a)) h.decides
+    ∙ ap (did (settling (loaded m word) Own (OfLeaf a)) Own depth (OfLeaf a)) h.decides
 
 pub entry_stores : (m : Machine) (word depth index : ℕ) (a : LeafOf) → Finds m word depth a (decision.Entry index) → StoresThenFrees (fed_by m word) (node_read m word) depth (node_word m.setting (node_read m word) + entry_at m.setting index) (entry_words (entry_left m.setting m.registers.call a index))
 entry_stores m word depth index a h =
     subst (λ (x : Machine). StoresThenFrees x (node_read m word) depth (node_word m.setting (node_read m word) + entry_at m.setting index) (entry_words (entry_left m.setting m.registers.call a index))) (sym (decided m word depth a (decision.Entry index) h))
-    (gives (storing (answering (loaded m word) (answer_in m.registers.call (OfLeaf a))) (entry_words (entry_left m.setting m.registers.call a index))) depth (giving_of (node_read m word) (Entry index) Ends) refl (omega arith))
+    (gives (storing (answering (settling (loaded m word) Own (OfLeaf a)) (answer_in m.registers.call (OfLeaf a))) (entry_words (entry_left m.setting m.registers.call a index))) depth (giving_of (node_read m word) (Entry index) Ends) refl (omega arith))
 
 pub leaf_stores : (m : Machine) (word depth index : ℕ) (a : LeafOf) → Finds m word depth a (decision.Rewrite index) → StoresThenFrees (fed_by m word) (node_read m word) depth (node_word m.setting (node_read m word) + 0) (leaf_words (rewritten a index (written_key m.registers.call) (written_value m.setting m.registers.call)))
 leaf_stores m word depth index a h =
     subst (λ (x : Machine). StoresThenFrees x (node_read m word) depth (node_word m.setting (node_read m word) + 0) (leaf_words (rewritten a index (written_key m.registers.call) (written_value m.setting m.registers.call)))) (sym (decided m word depth a (decision.Rewrite index) h))
-    (gives (storing (answering (loaded m word) (answer_in m.registers.call (OfLeaf a))) (leaf_words (rewritten a index (written_key m.registers.call) (written_value m.setting m.registers.call)))) depth (giving_of (node_read m word) Leaf Ends) refl (omega arith))
+    (gives (storing (answering (settling (loaded m word) Own (OfLeaf a)) (answer_in m.registers.call (OfLeaf a))) (leaf_words (rewritten a index (written_key m.registers.call) (written_value m.setting m.registers.call)))) depth (giving_of (node_read m word) Leaf Ends) refl (omega arith))
 
 value_size : (p : ConfigParts) (call : Call) → IsInRange p call → length (written_value p call) ≡ p.value_words
 value_size p (Get key) h = length-replicate p.value_words 0

@@ -13,7 +13,7 @@ use Rattle.sh_read.specs.declared.state.Progress.{Progress}
 use Rattle.sh_read.specs.declared.state.Progress.TheVariants.{More, Accepted, Again, Odd}
 use Rattle.sh_read.specs.Reads.{accepted, progress_of}
 use Rattle.sh_decide.specs.declared.state.Aim.{Aim}
-use Rattle.sh_decide.specs.declared.state.Aim.TheVariants.{Own, Posts}
+use Rattle.sh_decide.specs.declared.state.Aim.TheVariants.{Own, Gathers, Posts}
 use Rattle.sh_decide.specs.declared.state.Decision.{Decision}
 use Rattle.sh_decide.specs.declared.state.Decision.TheVariants as decision
 use Rattle.sh_client.specs.declared.state.Phase.{Phase}
@@ -31,11 +31,14 @@ use Rattle.sh_decide.specs.declared.state.Way.{Way}
 use Rattle.sh_decide.specs.declared.state.Way.TheVariants as way
 use Rattle.sh_client.specs.declared.state.Write.{Write}
 use Rattle.sh_client.specs.declared.state.Write.TheVariants.{Leaf, LeftLeaf, LeftInner}
-use Rattle.sh_decide.specs.Aims.{is_node}
+use Rattle.sh_decide.specs.Aims.{end_of, is_node}
 use Rattle.sh_decide.specs.Deciding.{decision_of}
-use Rattle.sh_client.specs.Feeds.{arrived, did, fed_in, held_by, hold_by, loaded, read_by, reading, turned_in, went}
+use Rattle.sh_client.specs.Feeds.{arrived, did, fed_in, from_root, held_by, hold_by, loaded, read_by, turned_in, went}
+use Rattle.sh_client.specs.Cached.{learning, settling}
+use Rattle.sh_client.specs.Ranges.{edge_of, gathered, gathering, is_whole, passing, range_ended, rows_taken}
+use Rattle.sh_client.specs.declared.state.Edge.{Edge}
 use Rattle.sh_client.specs.Giving.{carried, counted, followed, queue_left, released, writes_nothing, write_begun}
-use Rattle.sh_client.specs.Machine.{Machine, handed_over, rewrite_done, sparing, split_done, to}
+use Rattle.sh_client.specs.Machine.{Machine, handed_over, reading, rewrite_done, sparing, split_done, to}
 use Rattle.sh_client.specs.Splitting.{all_spent, chunk_taken, fill_done, root_grown, halved, halved_by, needing, sought_by, walked, with_fresh}
 use Rattle.sh_decide.specs.Ways.{way_of}
 use Rattle.sh_client.specs.declared.state.Want.{Want}
@@ -85,6 +88,7 @@ read_node p r word = one_node (reads_with r.node (word ∷ r.loaded)) (reads_lef
 
 halves : (m : Machine) (aim : Aim) (depth fresh : ℕ) (image : Image) → stand_of (halved m aim depth fresh image) ≡ Served (lock_of m.setting m.registers.reads.node) false
 halves m Own depth fresh (OfLeaf a) = refl
+halves m (Gathers place) depth fresh image = refl
 halves m Own depth fresh (OfInner a) = refl
 halves m (Posts post) depth fresh (OfLeaf a) = refl
 halves m (Posts post) depth fresh (OfInner a) = refl
@@ -112,6 +116,7 @@ needs_fresh m need None = walk_apart m (walk_start m.setting m.seat) need
 
 spends : (m : Machine) (need : Need) → stand_of (all_spent m need) ≡ stand_for_need m.setting m.registers need
 spends m (ToSplit Own depth) = refl
+spends m (ToSplit (Gathers place) depth) = refl
 spends m (ToSplit (Posts post) depth) = refl
 spends m (ToGrow post root) = refl
 
@@ -122,11 +127,24 @@ seeks m need chunk.AllSpent = spends m need
 
 grows_for : (m : Machine) (aim : Aim) (root : ℕ) → stand_of (root_grown m aim root) ≡ Away
 grows_for m Own root = refl
+grows_for m (Gathers place) root = refl
 grows_for m (Posts post) root = needs_fresh m (ToGrow post root) (lowest m.registers.spare)
 
 fills : (m : Machine) (fresh : ℕ) (filling : Filling) → stand_of (fill_done m fresh filling) ≡ stand_for_filling m.setting filling
 fills m fresh (RightHalf depth giving) = refl
 fills m fresh (NewRoot post root) = refl
+
+passes : (m : Machine) (edge : Edge) → stand_of (passing m edge) ≡ Away
+passes m edge = either (reading m edge.next (Read (Gathers edge.high) false)) (to m (Root (Gathers edge.high))) Away (is_node m.setting edge.next) refl refl
+
+gathers : (m : Machine) (aim : Aim) (edge : Option Edge) → stand_of (gathered m aim edge) ≡ Away
+gathers m aim (Some edge) = either (range_ended m) (passing m edge) Away (is_whole m.setting.rows (end_of m.registers.call) edge.high m.registers.rows) refl (passes m edge)
+gathers m aim None = refl
+
+takes_rows : (m : Machine) (aim : Aim) (image : Image) → stand_of (rows_taken m aim image) ≡ Away
+takes_rows m (Gathers place) image = gathers (gathering m place image) (Gathers place) (edge_of image)
+takes_rows m Own image = refl
+takes_rows m (Posts post) image = refl
 
 goes : (m : Machine) (aim : Aim) (image : Image) (w : Way) → stand_of (went m aim image w) ≡ Away
 goes m aim image way.Root = refl
@@ -136,9 +154,10 @@ goes m aim image (way.Lock node) = refl
 goes m aim image (way.LockRight node) = refl
 goes m aim image way.Grow = grows_for m aim m.registers.reads.node
 goes m aim image way.Found = refl
+goes m aim image way.Rows = takes_rows m aim image
 
 arrives : (m : Machine) (aim : Aim) (top : Bool) (image : Option Image) → stand_of (arrived m aim top image) ≡ Away
-arrives m aim top (Some image) = goes m aim image (way_of m.setting m.registers.call aim top m.registers.reads.node image)
+arrives m aim top (Some image) = goes (learning m aim image) aim image (way_of m.setting m.registers.call aim top m.registers.reads.node image)
 arrives m aim top None = refl
 
 does : (m : Machine) (aim : Aim) (depth : ℕ) (image : Image) (d : Decision) → stand_of (did m aim depth image d) ≡ Served (lock_of m.setting m.registers.reads.node) false
@@ -153,7 +172,7 @@ does m aim depth image decision.Skip = refl
 does m aim depth image decision.Add = refl
 
 decides : (m : Machine) (aim : Aim) (depth : ℕ) (image : Option Image) → stand_of (held_by m aim depth image) ≡ Served (lock_of m.setting m.registers.reads.node) false
-decides m aim depth (Some image) = does m aim depth image (decision_of m.setting m.registers.call aim image)
+decides m aim depth (Some image) = does (settling m aim image) aim depth image (decision_of m.setting m.registers.call aim image)
 decides m aim depth None = refl
 
 reads_on : (m : Machine) (aim : Aim) (top : Bool) (answer : Progress) → stand_of (read_by m aim top answer) ≡ Away
@@ -192,7 +211,7 @@ leaves m None after = follows m after
 
 -- a turn that isn't of a line leaves a client where it stands
 pub fed_stands : (m : Machine) (word : ℕ) (phase : Phase) → IsEvent (want_in m phase) → stand_of (fed_in m word phase) ≡ stand_in m.setting m.registers phase
-fed_stands m word (Root aim) h = either (reading m word (Read aim true)) (to m (Root aim)) Away (is_node m.setting word) refl refl
+fed_stands m word (Root aim) h = either (reading (from_root m) word (Read aim true)) (to m (Root aim)) Away (is_node m.setting word) refl refl
 fed_stands m word (Read aim top) h = reads_on (loaded m word) aim top (progress_of m.setting m.registers.reads word)
 fed_stands m word (Grab aim node) h = either (reading m node (ReadLocked aim 0)) (to m (Grab aim node)) (Served (lock_of m.setting node) false) (word == 0) refl refl
 fed_stands m word (ReadLocked aim depth) h = holds_on (loaded m word) aim depth (progress_of m.setting m.registers.reads word) ∙ ap (λ (n : ℕ). Served (lock_of m.setting n) false) (read_node m.setting m.registers.reads word)

@@ -15,7 +15,7 @@ use Rattle.sh_edit.specs.Rewriting.{rewritten}
 use Rattle.sh_edit.specs.Pairing.{with_pair}
 use Rattle.sh_decide.specs.declared.state.Posting.{Posting}
 use Rattle.sh_decide.specs.declared.state.Aim.{Aim}
-use Rattle.sh_decide.specs.declared.state.Aim.TheVariants.{Own, Posts}
+use Rattle.sh_decide.specs.declared.state.Aim.TheVariants.{Own, Gathers, Posts}
 use Rattle.sh_decide.specs.Aims.{call_key, written_key, written_value}
 use Rattle.sh_decide.specs.Leaves.{leaf_answer, version_at}
 
@@ -45,3 +45,4 @@ abbrev pub inner_body : ConfigParts → Aim → Image → List ℕ
 inner_body p (Posts post) (InnerImage a) = inner_words p (with_pair a (pair_of post))
 inner_body p (Posts post) (LeafImage a) = []
 inner_body p Own image = []
+inner_body p (Gathers place) image = []

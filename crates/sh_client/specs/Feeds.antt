@@ -1,11 +1,13 @@
 -- What a client is after the turn that it wanted, by what it was at and what the turn found.
-use Rattle.std.specs.Prelude.{ℕ, ◌==◌, if◌then◌else◌, Bool, true, false, Option, Some, None}
+use Rattle.std.specs.Prelude.{ℕ, ◌==◌, if◌then◌else◌, Bool, true, false, List, [], Option, Some, None}
 use Rattle.sh_map.specs.declared.call.Call.{Call}
+use Rattle.sh_map.specs.declared.call.Call.TheVariants.{Range}
+use Rattle.sh_map.specs.declared.book.Row.{Row}
 use Rattle.sh_map.specs.declared.call.Reply.TheVariants as reply
 use Rattle.sh_image.specs.declared.inner.Image.{Image}
 use Rattle.sh_read.specs.declared.state.Progress.{Progress}
 use Rattle.sh_read.specs.declared.state.Progress.TheVariants.{More, Accepted, Again, Odd}
-use Rattle.sh_read.specs.Reads.{accepted, progress_of, reads_start, read_fed}
+use Rattle.sh_read.specs.Reads.{accepted, progress_of, read_fed}
 use Rattle.sh_decide.specs.declared.state.Aim.{Aim}
 use Rattle.sh_client.specs.declared.state.Then.{Then}
 use Rattle.sh_client.specs.declared.state.Then.TheVariants.{Ends, Starts, Takes}
@@ -18,8 +20,11 @@ use Rattle.sh_decide.specs.declared.state.Decision.TheVariants as decision
 use Rattle.sh_decide.specs.declared.state.Aim.TheVariants.{Own}
 use Rattle.sh_client.specs.declared.state.Phase.{Phase}
 use Rattle.sh_client.specs.declared.state.Phase.TheVariants.{Idle, Root, Read, Draw, Look, Grab, ReadLocked, Seek, Fill, Waiting, Body, Unlock, Leave, Swap, Ended}
-use Rattle.sh_client.specs.Machine.{Machine, to, again, answering, storing, right_hop, skipped_worn}
-use Rattle.sh_decide.specs.Aims.{is_node}
+use Rattle.sh_client.specs.Machine.{Machine, to, again, answering, began_cached, reading, storing, right_hop, skipped_worn}
+use Rattle.sh_decide.specs.Aims.{aim_of, call_key, is_node, takes_lock}
+use Rattle.sh_client.specs.declared.state.Origin.{Origin}
+use Rattle.sh_client.specs.Cached.{learning, origin_of, settling}
+use Rattle.sh_client.specs.Ranges.{rows_taken}
 use Rattle.sh_client.specs.Bodies.{answer_in, entry_body, inner_body, leaf_body}
 use Rattle.sh_decide.specs.Ways.{way_of}
 use Rattle.sh_decide.specs.Deciding.{decision_of}
@@ -27,13 +32,13 @@ use Rattle.sh_client.specs.declared.state.Need.TheVariants.{ToSplit}
 use Rattle.sh_client.specs.Giving.{queue_left, stored, count_told}
 use Rattle.sh_client.specs.Splitting.{filled, giving_of, root_grown, needs, sought, swapped}
 
--- a READ of a node begins
-abbrev pub reading : Machine → (node : ℕ) → Phase → Machine
-reading m node phase = record m { registers = record m.registers { reads = reads_start node }; phase = phase }
+-- a descent that begins at the root begins at no cached node
+abbrev pub from_root : Machine → Machine
+from_root m = record m { registers = record m.registers { origin = None } }
 
 -- the root word named this node; a number that names none is loaded again
 abbrev pub rooted : Machine → Aim → (word : ℕ) → Machine
-rooted m aim word = if is_node m.setting word then reading m word (Read aim true) else to m (Root aim)
+rooted m aim word = if is_node m.setting word then reading (from_root m) word (Read aim true) else to m (Root aim)
 
 -- an image that was READ without a lock leads this way
 abbrev pub went : Machine → Aim → Image → Way → Machine
@@ -44,9 +49,10 @@ went m aim image (way.Lock node) = to m (Draw aim node)
 went m aim image (way.LockRight node) = to (right_hop m) (Draw aim node)
 went m aim image way.Grow = root_grown m aim m.registers.reads.node
 went m aim image way.Found = to (answering m (answer_in m.registers.call image)) Ended
+went m aim image way.Rows = rows_taken m aim image
 
 abbrev pub arrived : Machine → Aim → (top : Bool) → Option Image → Machine
-arrived m aim top (Some image) = went m aim image (way_of m.setting m.registers.call aim top m.registers.reads.node image)
+arrived m aim top (Some image) = went (learning m aim image) aim image (way_of m.setting m.registers.call aim top m.registers.reads.node image)
 arrived m aim top None = to m (Root aim)
 
 -- the lock is given back
@@ -66,7 +72,7 @@ did m aim depth image decision.Skip = back (skipped_worn m) depth write.Nothing 
 did m aim depth image decision.Add = back (storing m (inner_body m.setting aim image)) depth write.Inner Ends
 
 abbrev pub held_by : Machine → Aim → (depth : ℕ) → Option Image → Machine
-held_by m aim depth (Some image) = did m aim depth image (decision_of m.setting m.registers.call aim image)
+held_by m aim depth (Some image) = did (settling m aim image) aim depth image (decision_of m.setting m.registers.call aim image)
 held_by m aim depth None = back m depth write.Nothing (Starts aim)
 
 -- the READ is fed a word
@@ -125,9 +131,29 @@ turned_in m depth phase = m
 abbrev pub turned_by : Machine → (depth : Option ℕ) → Machine
 turned_by m depth = turned_in m depth m.phase
 
--- a call begins at the root word, on the way to its leaf
+-- a range begins with no rows
+abbrev pub rows_before : Call → List Row → List Row
+rows_before (Range low high) rows = []
+rows_before call rows = rows
+
+abbrev pub calling : Machine → Call → Machine
+calling m call = record m { registers = record m.registers { call = call; rows = rows_before call m.registers.rows } }
+
+-- it begins at the child of a cached node with this low fence
+abbrev pub from_cached : Machine → (low : ℕ) → Machine
+from_cached m low = record m { registers = record m.registers { origin = Some low } }
+
+-- an update draws a ticket for the lock of the child, and any other call READs it
+abbrev pub at_child : Machine → Call → (child : ℕ) → Machine
+at_child m call child = if takes_lock call Own then to m (Draw (aim_of call) child) else reading m child (Read (aim_of call) false)
+
+abbrev pub began_at : Machine → Call → Option Origin → Machine
+began_at m call None = to m (Root (aim_of call))
+began_at m call (Some origin) = at_child (began_cached (from_cached m origin.low)) call origin.child
+
+-- A call begins at the child of the cached node that covers its key, and where there is none at the root word.
 abbrev pub begun : Machine → Call → Machine
-begun m call = record m { registers = record m.registers { call = call }; phase = Root Own }
+begun m call = began_at (calling m call) call (origin_of m.registers.cached (call_key call))
 
 -- a call that has ended is taken away
 abbrev pub finished : Machine → Machine

@@ -3,9 +3,12 @@ pub mod Bodies
 pub mod Wants
 pub mod Giving
 pub mod Splitting
+pub mod Cached
+pub mod Ranges
 pub mod Feeds
 pub mod Rests
 pub mod Sound
 pub mod Courses
+pub mod CachedTurns
 pub mod Steps
 pub mod InLine

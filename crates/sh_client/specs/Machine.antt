@@ -1,8 +1,10 @@
 -- The client as a machine: what it keeps, and how a part of it changes.
-use Rattle.std.specs.Prelude.{ℕ, ◌+◌, ◌-◌, ◌^◌, ◌==◌, if◌then◌else◌, List, []}
+use Rattle.std.specs.Prelude.{ℕ, ◌+◌, ◌-◌, ◌^◌, ◌==◌, if◌then◌else◌, List, [], Option, None}
 use Rattle.sh_base.specs.declared.config.ConfigParts.{ConfigParts}
 use Rattle.sh_map.specs.declared.call.Call.{Call}
 use Rattle.sh_map.specs.declared.call.Reply.{Reply}
+use Rattle.sh_map.specs.declared.book.Row.{Row}
+use Rattle.sh_image.specs.Inner.{Inner}
 use Rattle.sh_alloc.specs.declared.state.NodeRange.{NodeRange}
 use Rattle.sh_alloc.specs.declared.state.Walk.{Walk}
 use Rattle.sh_alloc.specs.Spares.{no_nodes}
@@ -16,7 +18,9 @@ use Rattle.sh_client.specs.declared.state.Phase.{Phase}
 
 -- What a client keeps from turn to turn beside what it is at: its spare nodes; its tally; the call under way and what it
 -- answers, once that's decided; the READ and the walk over the counters that are under way; the words that are to be stored
--- before a lock is given back, and those of the fresh node, which is a right half or a new root.
+-- before a lock is given back, and those of the fresh node, which is a right half or a new root; the rows of the last range;
+-- the inner nodes that it has cached, the oldest first; and the low fence of the cached one at whose child the call began,
+-- until the first image is there.
 pub record Registers : Type 0 where
   pub spare : NodeRange
   pub tally : Tally
@@ -26,6 +30,9 @@ pub record Registers : Type 0 where
   pub walk : Walk
   pub body : List ℕ
   pub fresh_words : List ℕ
+  pub rows : List Row
+  pub cached : List Inner
+  pub origin : Option ℕ
 
 -- its setting and seat, which stay; its registers; and what it is at
 pub record Machine : Type 0 where
@@ -37,6 +44,10 @@ pub record Machine : Type 0 where
 -- the same machine in another phase
 abbrev pub to : Machine → Phase → Machine
 to m phase = record m { phase = phase }
+
+-- a READ of a node begins
+abbrev pub reading : Machine → (node : ℕ) → Phase → Machine
+reading m node phase = record m { registers = record m.registers { reads = reads_start node }; phase = phase }
 
 -- with another reply decided
 abbrev pub answering : Machine → Reply → Machine
@@ -77,6 +88,9 @@ skipped_spent m = tallying m (record m.registers.tally { skipped_spent = up m.re
 abbrev pub skipped_worn : Machine → Machine
 skipped_worn m = tallying m (record m.registers.tally { skipped_worn = up m.registers.tally.skipped_worn })
 
+abbrev pub began_cached : Machine → Machine
+began_cached m = tallying m (record m.registers.tally { from_cache = up m.registers.tally.from_cache })
+
 abbrev pub rewrite_done : Machine → Machine
 rewrite_done m = tallying m (record m.registers.tally { rewritten = up m.registers.tally.rewritten })
 
@@ -84,9 +98,9 @@ rewrite_done m = tallying m (record m.registers.tally { rewritten = up m.registe
 abbrev pub no_tally : Tally
 no_tally = record { again = 0; rights = 0; splits = 0; handed = 0; from_cache = 0; skipped_spent = 0; skipped_worn = 0; rewritten = 0 }
 
--- a client of a seat: it is idle, and has no spare node
+-- a client of a seat: it is idle, and has no spare node, no rows and no cached node
 abbrev pub fresh_registers : ConfigParts → (seat : ℕ) → Registers
-fresh_registers p seat = record { spare = no_nodes; tally = no_tally; call = Get 1; reply = reply.None; reads = reads_start 1; walk = walk_start p seat; body = []; fresh_words = [] }
+fresh_registers p seat = record { spare = no_nodes; tally = no_tally; call = Get 1; reply = reply.None; reads = reads_start 1; walk = walk_start p seat; body = []; fresh_words = []; rows = []; cached = []; origin = None }
 
 abbrev pub fresh_machine : ConfigParts → (seat : ℕ) → Machine
 fresh_machine p seat = record { setting = p; seat = seat; registers = fresh_registers p seat; phase = Idle }

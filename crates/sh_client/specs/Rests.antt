@@ -1,6 +1,9 @@
 -- Whether a client has nothing to do, and what its call was answered.
-use Rattle.std.specs.Prelude.{Bool, true, false, Option, Some, None}
+use Rattle.std.specs.Prelude.{Bool, true, false, List, [], Option, Some, None}
+use Rattle.sh_map.specs.declared.book.Row.{Row}
 use Rattle.sh_map.specs.declared.call.Reply.{Reply}
+use Rattle.sh_map.specs.declared.call.Call.{Call}
+use Rattle.sh_map.specs.declared.call.Call.TheVariants.{Range}
 use Rattle.sh_client.specs.declared.state.Phase.{Phase}
 use Rattle.sh_client.specs.declared.state.Phase.TheVariants.{Idle, Ended}
 use Rattle.sh_client.specs.Machine.{Machine}
@@ -26,3 +29,11 @@ reply_in m phase = None
 
 abbrev pub reply_of : Machine → Option Reply
 reply_of m = reply_in m m.phase
+
+-- the rows of a call that has ended: a range's, and none of any other call
+abbrev pub rows_for : Call → List Row → List Row
+rows_for (Range low high) rows = rows
+rows_for call rows = []
+
+abbrev pub rows_told : Machine → List Row
+rows_told m = rows_for m.registers.call m.registers.rows

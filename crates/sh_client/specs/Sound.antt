@@ -1,10 +1,11 @@
 -- What a client keeps to, whatever words it is fed.
 use Rattle.std.specs.Prelude.{◌≡◌, ◌≢◌, ℕ, ◌+◌, ◌<◌, ◌≤◌, List, length, Option, Some, None}
+use Rattle.std.specs.List.{AllByRecursion}
 use Rattle.sh_base.specs.declared.config.ConfigParts.{ConfigParts}
 use Rattle.sh_base.specs.Layout.{lock_of}
 use Rattle.sh_base.specs.Setting.{all_locks, all_seats, entry_size, node_size, nodes, IsNode}
 use Rattle.sh_map.specs.declared.call.Call.{Call}
-use Rattle.sh_map.specs.declared.call.Call.TheVariants.{Get, Put, Del, Range}
+use Rattle.sh_map.specs.declared.book.Row.{Row}
 use Rattle.sh_map.specs.Calls.{IsInRange}
 use Rattle.sh_alloc.specs.declared.state.NodeRange.{NodeRange}
 use Rattle.sh_alloc.specs.declared.state.Walk.{Walk}
@@ -12,12 +13,14 @@ use Rattle.sh_alloc.specs.declared.state.Chunks.{Chunks}
 use Rattle.sh_alloc.specs.Walks.{walk_wants}
 use Rattle.sh_alloc.specs.Chunks.{WantsEvent}
 use Rattle.sh_image.specs.declared.inner.Image.{Image}
+use Rattle.sh_image.specs.Inner.{IsInner}
+use Rattle.sh_cache.specs.Cached.{Rows as CacheRows}
 use Rattle.sh_read.specs.Reads.{Reader, Reads, accepted, wanted}
 use Rattle.sh_read.specs.declared.state.Progress.{Progress}
 use Rattle.sh_read.specs.declared.state.Progress.TheVariants.{More, Accepted, Again, Odd}
 use Rattle.sh_decide.specs.declared.state.Posting.{Posting}
 use Rattle.sh_decide.specs.declared.state.Aim.{Aim}
-use Rattle.sh_decide.specs.declared.state.Aim.TheVariants.{Own, Posts}
+use Rattle.sh_decide.specs.declared.state.Aim.TheVariants.{Own, Gathers, Posts}
 use Rattle.sh_client.specs.declared.state.Then.{Then}
 use Rattle.sh_client.specs.declared.state.Then.TheVariants.{Ends, Starts, Takes}
 use Rattle.sh_client.specs.declared.state.Write.{Write}
@@ -33,13 +36,6 @@ use Rattle.sh_decide.specs.declared.state.Decision.{Decision}
 use Rattle.sh_decide.specs.Allowed.{Allows, CanChange, CanSplit, HasEntryAt, HasRoom, HasVersion}
 use Rattle.sh_client.specs.Machine.{Machine, Registers}
 
--- no range
-abbrev pub IsPointCall : Call → Type 0
-IsPointCall (Get key) = Unit {0}
-IsPointCall (Put key value) = Unit {0}
-IsPointCall (Del key) = Unit {0}
-IsPointCall (Range low high) = ⊥
-
 -- a post of a node of the setting, to a level that the setting may have
 pub record IsPost (p : ConfigParts) (post : Posting) : Type 0 where
   pub node : IsNode p post.node
@@ -47,6 +43,7 @@ pub record IsPost (p : ConfigParts) (post : Posting) : Type 0 where
 
 abbrev pub IsAim : ConfigParts → Aim → Type 0
 IsAim p Own = Unit {0}
+IsAim p (Gathers place) = Unit {0}
 IsAim p (Posts post) = IsPost p post
 
 abbrev pub IsThen : ConfigParts → Then → Type 0
@@ -170,9 +167,16 @@ NeedsNoLock (Look aim node) = ⊥
 NeedsNoLock (Grab aim node) = ⊥
 NeedsNoLock phase = Unit {0}
 
+-- the rows are no more than the setting says, and room for so many is reserved
+pub record AreRows (p : ConfigParts) (room : ℕ) (rows : List Row) : Type 0 where
+  pub reserved : p.rows ≤ room
+  pub few : length rows ≤ p.rows
+
 -- the parts of a client are of one setting, and fit what it is at
-pub record IsClient (p : ConfigParts) (seat : ℕ) (r : Registers) (reader : Reader) (chunks : Chunks) (lock : ℕ) (phase : Phase) : Type 0 where
-  pub one_setting : (reader.setting ≡ p) × (chunks.cfg.parts ≡ p)
+pub record IsClient (p : ConfigParts) (seat : ℕ) (r : Registers) (reader : Reader) (chunks : Chunks) (cache : CacheRows) (room lock : ℕ) (phase : Phase) : Type 0 where
+  pub one_setting : (reader.setting ≡ p) × (chunks.cfg.parts ≡ p) × (cache.room ≡ p.cached)
+  pub rows_fit : AreRows p room r.rows
+  pub cached_fit : AllByRecursion (IsInner p) r.cached
   pub seat_is : seat < all_seats p
   pub in_range : IsInRange p r.call
   pub spares : AreSpare p r.spare

@@ -16,7 +16,7 @@ use Rattle.sh_alloc.specs.Walks.{walk_fed, walk_start, walk_wants}
 use Rattle.sh_read.specs.Reads.{accepted}
 use Rattle.sh_decide.specs.declared.state.Posting.{Posting}
 use Rattle.sh_decide.specs.declared.state.Aim.{Aim}
-use Rattle.sh_decide.specs.declared.state.Aim.TheVariants.{Own, Posts}
+use Rattle.sh_decide.specs.declared.state.Aim.TheVariants.{Own, Gathers, Posts}
 use Rattle.sh_client.specs.declared.state.Then.{Then}
 use Rattle.sh_client.specs.declared.state.Then.TheVariants.{Ends, Starts}
 use Rattle.sh_client.specs.declared.state.Write.{Write}
@@ -90,6 +90,7 @@ needs m need = needing m need (lowest m.registers.spare)
 -- the root is a level too low for the post: a new one goes over it
 abbrev pub root_grown : Machine → Aim → (root : ℕ) → Machine
 root_grown m Own root = to m (Root Own)
+root_grown m (Gathers place) root = to m (Root (Gathers place))
 root_grown m (Posts post) root = needs m (ToGrow post root)
 
 -- a chunk was found: its nodes are spare, but the lowest, which is taken at once
@@ -99,6 +100,7 @@ chunk_taken m server chunk = sparing m (without_lowest (nodes_from (first_node m
 -- all chunks are spent: a put is full, and a post is skipped
 abbrev pub all_spent : Machine → Need → Machine
 all_spent m (ToSplit Own depth) = to (answering m reply.Full) (Waiting depth (giving_of m.registers.reads.node Nothing Ends))
+all_spent m (ToSplit (Gathers place) depth) = to (answering m reply.Full) (Waiting depth (giving_of m.registers.reads.node Nothing Ends))
 all_spent m (ToSplit (Posts post) depth) = to (skipped_spent m) (Waiting depth (giving_of m.registers.reads.node Nothing Ends))
 all_spent m (ToGrow post root) = to (skipped_spent m) Ended
 

@@ -8,20 +8,25 @@ ghost use Rattle.sh_client.specs.Machine.{fresh_machine};
 ghost use Rattle.sh_client.specs.Feeds.{begun, fed_by, finished, turned_by};
 ghost use Rattle.std.specs.Vec.{vec_capacity};
 ghost use Rattle.sh_client.specs.Giving.{makes, stored_entries};
-ghost use Rattle.sh_client.specs.Rests.{reply_of};
-ghost use Rattle.sh_client.specs.Sound.{IsPointCall};
+ghost use Rattle.std.specs.List.{AllByRecursion};
+ghost use Rattle.std.specs.Option.{option_map};
+ghost use Rattle.sh_image.specs.Inner.{Inner};
+ghost use Rattle.sh_cache.specs.Cached.{found, HaveOwnLows};
+ghost use Rattle.sh_client.specs.Rests.{reply_of, rows_told};
 
 use crate::{Client, Phase, Tally, Words, Write};
 use sh_alloc::{Chunks, Spare};
 use sh_base::Config;
-use sh_decide::Aim;
+use sh_cache::Cache;
+use sh_decide::{aim_of, call_key};
+use sh_image::InnerImage;
 use sh_map::{Call, Log, Reply, Row, log_call};
 use sh_read::Reading;
-use std::alloc::AllocError;
+use std::alloc::{AllocError, Global};
 
 impl Client {
-    /// A client of a seat, that is idle and has no spare node. Condition: a seat of this setting.
-    pub fn new(cfg: &Config, seat: u32) -> Result<Client, AllocError>
+    /// A client of a seat, that is idle and has no spare node. It takes all its memory here. Condition: a seat of this setting.
+    pub fn new(alloc: Global, cfg: &Config, seat: u32) -> Result<Client, AllocError>
         requires { seat < all_seats (parts_of cfg.now) }
         ensures { IfOk result (λ c. c ≡ fresh_machine (parts_of cfg.now) seat) }
     {
@@ -36,20 +41,29 @@ impl Client {
             chunks: Chunks::new(cfg, seat),
             body: Words::none(),
             fresh_words: Words::none(),
+            rows: Vec::with_capacity(alloc, cfg.parts().rows as usize)?,
+            cache: Cache::new(alloc, cfg)?,
+            origin: None,
             lock: 0,
             phase: Phase::Idle,
         })
     }
 
-    /// Begins a call. Conditions: it's idle, and the call is in range and no range.
+    /// Begins a call: at the child of the cached node that covers its key, and where there is none at the root word.
+    /// Conditions: it's idle, and the call is in range.
     pub fn begin(&mut self, call: Call)
         requires idle { self.old.phase ≡ Idle }
         requires in_range { IsInRange self.old.setting call }
-        requires point { IsPointCall call }
         ensures { self.new ≡ begun self.old call }
     {
-        self.call = call;
-        self.phase = Phase::Root { aim: Aim::Own };
+        let origin = self.origin_for(call_key(&call));
+        self.ask(call);
+        match origin {
+            Some(origin) => self.begin_at(origin),
+            None => self.phase = Phase::Root {
+                aim: aim_of(&self.call),
+            },
+        }
     }
 
     /// Takes what the wanted turn found: the event's word, the ticket, the number of a look that waits, the count of
@@ -118,11 +132,39 @@ impl Client {
         self.phase = Phase::Idle;
     }
 
-    /// The rows of the last range: none, while ranges aren't served.
+    /// The rows of the last range, as far as they are gathered.
     pub fn rows(&self) -> &[Row]
-        ensures { result.now ≡ [] }
+        ensures { result.now ≡ self.now.registers.rows }
     {
-        &[]
+        &self.rows
+    }
+
+    /// The rows of the call that has ended: a range's, and none of any other call.
+    pub fn rows_told(&self) -> &[Row]
+        ensures { result.now ≡ rows_told self.now }
+    {
+        match self.call {
+            Call::Range { .. } => &self.rows,
+            _ => &[],
+        }
+    }
+
+    /// Of the cached inner nodes of level 1 that cover a key the one with the greatest low fence. None exactly where none
+    /// covers it.
+    pub fn cached_row(&self, key: u64) -> Option<&InnerImage>
+        ensures row { option_map (λ r. r.now) result ≡ found self.now.registers.cached key }
+        ensures level { IfSome result (λ r. r.now.level ≡ 1) }
+    {
+        self.cache.find(key)
+    }
+
+    /// No two cached nodes have one low fence, there are no more than the setting says, and each is of level 1.
+    pub fn cached_apart(&self)
+        ensures apart { HaveOwnLows self.now.registers.cached }
+        ensures within { length self.now.registers.cached ≤ self.now.setting.cached }
+        ensures levels { AllByRecursion (λ (r : Inner). r.level ≡ 1) self.now.registers.cached }
+    {
+        self.cache.rows_apart();
     }
 
     /// Its seat.

@@ -29,6 +29,7 @@ impl Client {
     {
         match node_in(&self.cfg, word) {
             Some(node) => {
+                self.origin = None;
                 self.start(node);
                 self.to(Phase::Read { aim, top: true });
             }
@@ -61,6 +62,7 @@ impl Client {
     {
         let node = self.reading.node();
         let way = way(&self.cfg, &self.call, aim, top, node, image(&self.reading));
+        self.learn(aim);
         self.go(aim, way);
     }
 
@@ -92,6 +94,7 @@ impl Client {
                 self.answer();
                 self.to(Phase::Ended);
             }
+            Way::Rows => self.gather(aim),
         }
     }
 
@@ -151,6 +154,7 @@ impl Client {
         ensures { self.new ≡ held_by self.old aim depth (accepted self.old.setting self.old.registers.reads) }
     {
         let decision = decision(&self.cfg, &self.call, aim, image(&self.reading));
+        self.settle(aim);
         self.act(aim, depth, decision);
     }
 

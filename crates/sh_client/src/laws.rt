@@ -1,5 +1,6 @@
 // What updates store, what senseless words lead to, and what no turn changes.
-ghost use Rattle.std.specs.Prelude.{◌≡◌, ◌≤◌, ◌+◌, ℕ, length, Option, Some};
+ghost use Rattle.std.specs.Prelude.{◌≡◌, ◌⊎◌, ◌<◌, ◌≤◌, ◌+◌, ℕ, length, Option, Some, Contains};
+ghost use Rattle.sh_image.specs.Inner.{Inner};
 ghost use Rattle.sh_base.specs.declared.config.ConfigParts.{ConfigParts};
 ghost use Rattle.sh_base.specs.Layout.{entry_at, node_word};
 ghost use Rattle.sh_base.specs.Setting.{entry_size, node_size};
@@ -16,9 +17,11 @@ ghost use Rattle.sh_decide.specs.declared.state.Decision.TheVariants.{Entry, Res
 ghost use Rattle.sh_client.specs.declared.state.Phase.TheVariants.{ReadLocked, Waiting};
 ghost use Rattle.sh_client.specs.declared.state.Giving.{Giving};
 ghost use Rattle.sh_decide.specs.Deciding.{decision_of};
-ghost use Rattle.sh_decide.specs.Aims.{written_key, written_value};
 ghost use Rattle.sh_client.specs.Bodies.{entry_left};
 ghost use Rattle.sh_client.specs.Courses.{carry_at, node_read, Finds, HandsOnce, GivesBack, KeepsCall, StoresThenFrees};
+ghost use Rattle.sh_cache.specs.Cached.{found, HaveOwnLows};
+ghost use Rattle.sh_decide.specs.Aims.{call_key, written_key, written_value};
+ghost use Rattle.sh_client.specs.CachedTurns.{learnt_by, BeginsBy, IsReplaced, IsStale, KeepsCached, ShowsParent};
 ghost use Rattle.sh_client.specs.Feeds.{fed_by, turned_by};
 ghost use Rattle.sh_client.specs.Machine.{Machine};
 
@@ -43,6 +46,22 @@ pub fn senseless_words_lead_back()
 pub fn turns_keep_the_call()
     ensures fed { (m : Machine) (word : ℕ) → KeepsCall m (fed_by m word) }
     ensures turned { (m : Machine) (depth : Option ℕ) → KeepsCall m (turned_by m depth) }
+{}
+
+/// A call begins at the child of the cached node that covers its key: an update with its ticket, and any other call with the
+/// READ; it is counted so, which no turn counts, and that node is its origin until its first image is there. The turn that
+/// makes a READ's image an accepted one is the only one that changes the cached nodes. With room for any it keeps an inner
+/// node of level 1 that a descent to a leaf has READ without a lock; so a cached node was cached before, or is that one. A
+/// cached node goes where that one takes its place, or where it's the origin and the call's first image leads to the right;
+/// and then none with its low fence is cached, but the one that was shown.
+pub fn cached_nodes_lead_to_leaves()
+    ensures begin { (m : Machine) (call : Call) → BeginsBy m call (found m.registers.cached (call_key call)) }
+    ensures fed { (m : Machine) (word : ℕ) → KeepsCached (learnt_by m word) (fed_by m word) }
+    ensures turned { (m : Machine) (depth : Option ℕ) → KeepsCached m (turned_by m depth) }
+    ensures shown { (m : Machine) (word : ℕ) (row : Inner) → Contains (fed_by m word).registers.cached row → Contains m.registers.cached row ⊎ ShowsParent m word row }
+    ensures kept { (m : Machine) (word : ℕ) (row : Inner) → 0 < m.setting.cached → ShowsParent m word row → Contains (fed_by m word).registers.cached row }
+    ensures stays { (m : Machine) (word : ℕ) (row : Inner) → length m.registers.cached ≤ m.setting.cached → Contains m.registers.cached row → Contains (fed_by m word).registers.cached row ⊎ (IsStale m word row.low ⊎ IsReplaced m word row) }
+    ensures stale { (m : Machine) (word : ℕ) (row : Inner) → HaveOwnLows m.registers.cached → IsStale m word row.low → Contains (fed_by m word).registers.cached row → ShowsParent m word row }
 {}
 
 /// A lock is handed over only where somebody waits for it, and each time with a depth one higher, up to the bound.

@@ -2,10 +2,12 @@
 #![tactic(auto)]
 
 mod bodies;
+mod cached;
 mod client;
 mod feeds;
 mod giving;
 mod laws;
+mod ranges;
 mod splits;
 mod state;
 mod steps;
@@ -15,10 +17,12 @@ mod wants;
 mod words;
 
 pub use laws::{
-    hands_over_within_the_bound, senseless_words_lead_back, turns_keep_the_call,
-    updates_store_their_words,
+    cached_nodes_lead_to_leaves, hands_over_within_the_bound, senseless_words_lead_back,
+    turns_keep_the_call, updates_store_their_words,
 };
-pub use state::{Client, Filling, Giving, Need, Phase, Step, Tally, Then, Want, Write};
+pub use state::{
+    Client, Edge, Filling, Giving, Need, Origin, Phase, Step, Tally, Then, Want, Write,
+};
 pub use words::Words;
 
 #[cfg(test)]

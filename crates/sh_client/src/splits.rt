@@ -96,7 +96,7 @@ impl Client {
         ensures { self.new ≡ all_spent self.old (ToSplit aim depth) }
     {
         match aim {
-            Aim::Own => self.refuse(depth, Reply::Full),
+            Aim::Own | Aim::Gathers { .. } => self.refuse(depth, Reply::Full),
             Aim::Posts { .. } => {
                 self.count_spent();
                 self.back(depth, Write::Nothing, Then::Ends);
@@ -113,6 +113,7 @@ impl Client {
     {
         match aim {
             Aim::Own => self.halve_leaf(depth, fresh),
+            Aim::Gathers { .. } => self.back(depth, Write::Nothing, Then::Starts { aim }),
             Aim::Posts { post } => self.halve_inner(post, depth, fresh),
         }
     }
@@ -226,6 +227,7 @@ impl Client {
         let root = self.reading.node();
         match aim {
             Aim::Own => self.to(Phase::Root { aim: Aim::Own }),
+            Aim::Gathers { .. } => self.to(Phase::Root { aim }),
             Aim::Posts { post } => self.seek(Need::ToGrow {
                 posting: post,
                 root,

@@ -2,8 +2,9 @@
 use crate::Words;
 use sh_alloc::{Chunks, Spare};
 use sh_base::{Config, Event};
+use sh_cache::Cache;
 use sh_decide::{Aim, Posting};
-use sh_map::{Call, Reply};
+use sh_map::{Call, Reply, Row};
 use sh_read::Reading;
 use std::marker::Model;
 
@@ -172,7 +173,22 @@ pub enum Phase {
     Ended,
 }
 
-/// A client of one seat. It has room for the words of two nodes to be stored, and takes memory when it is made alone.
+/// Where a call begins by a cached node: that node's low fence, and its child for the call's key.
+#[derive(Clone, Copy, Debug, PartialEq, Eq)]
+pub struct Origin {
+    pub low: u64,
+    pub child: u32,
+}
+
+/// Where a leaf ends: its high fence, and the node to the right of it.
+#[derive(Clone, Copy, Debug, PartialEq, Eq)]
+pub struct Edge {
+    pub high: u64,
+    pub next: u32,
+}
+
+/// A client of one seat. It has room for the words of two nodes to be stored, for the rows of a range and for the inner
+/// nodes that it caches. It takes memory when it is made alone.
 #[derive(Debug, Drop)]
 pub struct Client {
     pub(crate) cfg: Config,
@@ -185,18 +201,22 @@ pub struct Client {
     pub(crate) chunks: Chunks,
     pub(crate) body: Words,
     pub(crate) fresh_words: Words,
+    pub(crate) rows: Vec<Row>,
+    pub(crate) cache: Cache,
+    pub(crate) origin: Option<u64>,
     // The lock for which it waits, where it does: it's worked out once, and not at each turn.
     pub(crate) lock: u32,
     pub(crate) phase: Phase,
 }
 
 impl Model for Client {
+    ghost use Rattle.std.specs.Vec.{vec_capacity};
     ghost use Rattle.sh_client.specs.Machine.{Machine, Registers};
     ghost use Rattle.sh_client.specs.Sound.{IsClient};
 
     ghost Value = { Machine };
 
-    ghost view = { λ c. record { setting = c.cfg.parts; seat = c.seat; registers = record { spare = c.spare.range; tally = c.tally; call = c.call; reply = c.reply; reads = c.reading.reads; walk = c.chunks.walk; body = c.body; fresh_words = c.fresh_words }; phase = c.phase } };
+    ghost view = { λ c. record { setting = c.cfg.parts; seat = c.seat; registers = record { spare = c.spare.range; tally = c.tally; call = c.call; reply = c.reply; reads = c.reading.reads; walk = c.chunks.walk; body = c.body; fresh_words = c.fresh_words; rows = c.rows.items; cached = c.cache.rows; origin = c.origin }; phase = c.phase } };
 
-    ghost invariant = { λ c. IsClient c.cfg.parts c.seat (record { spare = c.spare.range; tally = c.tally; call = c.call; reply = c.reply; reads = c.reading.reads; walk = c.chunks.walk; body = c.body; fresh_words = c.fresh_words }) c.reading c.chunks c.lock c.phase };
+    ghost invariant = { λ c. IsClient c.cfg.parts c.seat (record { spare = c.spare.range; tally = c.tally; call = c.call; reply = c.reply; reads = c.reading.reads; walk = c.chunks.walk; body = c.body; fresh_words = c.fresh_words; rows = c.rows.items; cached = c.cache.rows; origin = c.origin }) c.reading c.chunks c.cache (vec_capacity c.rows) c.lock c.phase };
 }

@@ -10,8 +10,8 @@ ghost use Rattle.sh_image.specs.declared.inner.Image.{Image};
 ghost use Rattle.sh_read.specs.Reads.{accepted, progress_of};
 ghost use Rattle.sh_client.specs.declared.state.Phase.TheVariants as phase;
 ghost use Rattle.sh_client.specs.Bodies.{answer_in};
-ghost use Rattle.sh_client.specs.Feeds.{back, loaded, reading};
-ghost use Rattle.sh_client.specs.Machine.{again, answering, handed_over, rewrite_done, right_hop, skipped_spent, skipped_worn, sparing, split_done, to};
+ghost use Rattle.sh_client.specs.Feeds.{back, loaded};
+ghost use Rattle.sh_client.specs.Machine.{again, answering, handed_over, reading, rewrite_done, right_hop, skipped_spent, skipped_worn, sparing, split_done, to};
 ghost use Rattle.sh_client.specs.Sound.{IsBody, IsLoading, IsThen, Leaves, NeedsNoLock, Stands};
 ghost use Rattle.sh_client.specs.Splitting.{chunk_taken, walked, walking};
 

@@ -66,18 +66,18 @@ fn take(client: &mut Client, words: &mut [u64]) {
 
 // How many turns a new client's call takes on these words, at most 1000, and what it answers; none where it may not be
 // begun.
-fn ask(cfg: &Config, words: &mut [u64], call: &Call) -> (u32, Option<Reply>) {
+fn ask(alloc: Global, cfg: &Config, words: &mut [u64], call: &Call) -> (u32, Option<Reply>) {
     if !call.in_range(cfg) || cfg.all_seats() == 0 {
         return (0, None);
     }
-    let Ok(mut client) = Client::new(cfg, 0) else {
+    let Ok(mut client) = Client::new(alloc, cfg, 0) else {
         return (0, None);
     };
     match *call {
         Call::Get { key } => client.begin(Call::Get { key }),
         Call::Put { key, value } => client.begin(Call::Put { key, value }),
         Call::Del { key } => client.begin(Call::Del { key }),
-        Call::Range { .. } => {}
+        Call::Range { low, high } => client.begin(Call::Range { low, high }),
     }
     let turns = run(&mut client, words);
     (turns, client.reply())
@@ -108,32 +108,39 @@ fn is_some(reply: &Option<Reply>, word: u64) -> bool {
     }
 }
 
+fn is_upto(reply: &Option<Reply>, bound: u64) -> bool {
+    match reply {
+        Some(Reply::Rows { upto }) => *upto == bound,
+        _ => false,
+    }
+}
+
 #[test]
 fn turns_of_calls_on_one_leaf(rt: HostRuntime) -> Result<(), Fail> {
     let cfg = small(1);
     let mut words = laid(rt.alloc(), &cfg)?;
     assert_eq!(rt; words.len(), 803);
-    let (turns, reply) = ask(&cfg, &mut words, &Call::Get { key: 5 });
+    let (turns, reply) = ask(rt.alloc(), &cfg, &mut words, &Call::Get { key: 5 });
     assert!(rt; turns == 24 && is_none(&reply));
     let put = Call::Put {
         key: 5,
         value: Value::of(&[50]),
     };
-    let (turns, reply) = ask(&cfg, &mut words, &put);
+    let (turns, reply) = ask(rt.alloc(), &cfg, &mut words, &put);
     assert!(rt; turns == 57 && is_none(&reply));
     assert!(rt; shows(&words, 73, &[1, 5, 50, 1, 0]));
     for _ in 0..14 {
-        let (turns, reply) = ask(&cfg, &mut words, &put);
+        let (turns, reply) = ask(rt.alloc(), &cfg, &mut words, &put);
         assert!(rt; turns == 57 && is_some(&reply, 50));
     }
-    let (turns, reply) = ask(&cfg, &mut words, &put);
+    let (turns, reply) = ask(rt.alloc(), &cfg, &mut words, &put);
     assert!(rt; turns == 76 && is_some(&reply, 50));
     assert!(rt; shows(&words, 67, &[1]) && shows(&words, 73, &[0]) && shows(&words, 89, &[1]));
-    let (turns, reply) = ask(&cfg, &mut words, &Call::Get { key: 5 });
+    let (turns, reply) = ask(rt.alloc(), &cfg, &mut words, &Call::Get { key: 5 });
     assert!(rt; turns == 24 && is_some(&reply, 50));
-    let (turns, reply) = ask(&cfg, &mut words, &Call::Del { key: 6 });
+    let (turns, reply) = ask(rt.alloc(), &cfg, &mut words, &Call::Del { key: 6 });
     assert!(rt; turns == 53 && is_none(&reply));
-    let (turns, reply) = ask(&cfg, &mut words, &Call::Del { key: 5 });
+    let (turns, reply) = ask(rt.alloc(), &cfg, &mut words, &Call::Del { key: 5 });
     assert!(rt; turns == 57 && is_some(&reply, 50));
     assert!(rt; shows(&words, 73, &[1, 0, 0, 1]));
     Ok(())
@@ -147,7 +154,7 @@ fn a_put_of_two_words_takes_66_turns(rt: HostRuntime) -> Result<(), Fail> {
         key: 5,
         value: Value::of(&[50, 51]),
     };
-    let (turns, reply) = ask(&cfg, &mut words, &put);
+    let (turns, reply) = ask(rt.alloc(), &cfg, &mut words, &put);
     assert!(rt; turns == 66 && is_none(&reply));
     Ok(())
 }
@@ -207,11 +214,11 @@ fn a_split_and_a_new_root_turn_by_turn(rt: HostRuntime) -> Result<(), Fail> {
             key: 10 * key,
             value: Value::of(&[key]),
         };
-        let (turns, _) = ask(&cfg, &mut words, &put);
+        let (turns, _) = ask(rt.alloc(), &cfg, &mut words, &put);
         assert_eq!(rt; turns, 57);
     }
     assert!(rt; cfg.all_seats() == 3 && cfg.value_words() == 1);
-    let Ok(mut client) = Client::new(&cfg, 0) else {
+    let Ok(mut client) = Client::new(rt.alloc(), &cfg, 0) else {
         return Ok(());
     };
     client.begin(Call::Put {
@@ -228,17 +235,62 @@ fn a_split_and_a_new_root_turn_by_turn(rt: HostRuntime) -> Result<(), Fail> {
     assert!(rt; shows(&words, 67, &[1, 0, 0, 30, 9, 0]));
     assert!(rt; shows(&words, 251, &[0, 0, 30, u64::MAX, 0, 0]));
     assert!(rt; shows(&words, 274, &[0, 1, 0, u64::MAX, 0, 2, 0, 1, 30, 9]));
-    let (turns, reply) = ask(&cfg, &mut words, &Call::Get { key: 50 });
+    let (turns, reply) = ask(rt.alloc(), &cfg, &mut words, &Call::Get { key: 50 });
     assert!(rt; turns == 47 && is_some(&reply, 5));
+    let all = Call::Range { low: 1, high: 100 };
+    let (turns, reply) = ask(rt.alloc(), &cfg, &mut words, &all);
+    assert!(rt; turns == 70 && is_upto(&reply, 100));
+    let left = Call::Range { low: 1, high: 30 };
+    let (turns, reply) = ask(rt.alloc(), &cfg, &mut words, &left);
+    assert!(rt; turns == 47 && is_upto(&reply, 30));
+    let none = Call::Range { low: 7, high: 7 };
+    let (turns, reply) = ask(rt.alloc(), &cfg, &mut words, &none);
+    assert!(rt; turns == 47 && is_upto(&reply, 7));
+    Ok(())
+}
+
+// Words of two leaves, of which the left one has the keys 10 and 20, and the right one 30, 40 and 50.
+fn two_leaves(alloc: Global, cfg: &Config) -> Result<Vec<u64>, AllocError> {
+    let mut words = laid(alloc, cfg)?;
+    for key in 1..6 {
+        let put = Call::Put {
+            key: 10 * key,
+            value: Value::of(&[key]),
+        };
+        ask(alloc, cfg, &mut words, &put);
+    }
+    Ok(words)
+}
+
+#[test]
+fn a_range_with_a_full_buffer_reads_no_further_leaf(rt: HostRuntime) -> Result<(), Fail> {
+    let cfg = small(1);
+    let mut words = two_leaves(rt.alloc(), &cfg)?;
+    for (rows, told, upto) in [
+        (1, 47, 11),
+        (2, 47, 21),
+        (3, 70, 31),
+        (5, 70, 51),
+        (6, 70, 100),
+    ] {
+        let parts = ConfigParts {
+            rows,
+            ..cfg.parts()
+        };
+        let short = Config::new(parts).unwrap_or_default();
+        let range = Call::Range { low: 1, high: 100 };
+        let (turns, reply) = ask(rt.alloc(), &short, &mut words, &range);
+        assert!(rt; turns == told && is_upto(&reply, upto));
+    }
     Ok(())
 }
 
 // A client of seat 0 that has begun a put of key 5.
-fn putting(cfg: &Config) -> Option<Client> {
+fn putting(alloc: Global, cfg: &Config) -> Option<Client> {
     if cfg.all_seats() == 0 || cfg.value_words() != 1 {
         return None;
     }
-    let mut client = Client::new(cfg, 0).ok()?;
+    let mut client = Client::new(alloc, cfg, 0).ok()?;
     client.begin(Call::Put {
         key: 5,
         value: Value::of(&[50]),
@@ -250,7 +302,7 @@ fn putting(cfg: &Config) -> Option<Client> {
 fn senseless_words_lead_to_the_root_word(rt: HostRuntime) {
     let root = Want::Event(Event::Load { at: 1 });
     for word in [0, u64::MAX] {
-        let Some(mut client) = putting(&small(1)) else {
+        let Some(mut client) = putting(rt.alloc(), &small(1)) else {
             assert!(rt; false, "no client");
             return;
         };
@@ -259,7 +311,7 @@ fn senseless_words_lead_to_the_root_word(rt: HostRuntime) {
             client.fed(word);
         }
     }
-    let Some(mut client) = putting(&small(1)) else {
+    let Some(mut client) = putting(rt.alloc(), &small(1)) else {
         assert!(rt; false, "no client");
         return;
     };
@@ -273,7 +325,7 @@ fn senseless_words_lead_to_the_root_word(rt: HostRuntime) {
 fn a_lock_is_given_back_after_words_that_are_no_node(rt: HostRuntime) -> Result<(), Fail> {
     let cfg = small(1);
     let mut words = laid(rt.alloc(), &cfg)?;
-    let Some(mut client) = putting(&cfg) else {
+    let Some(mut client) = putting(rt.alloc(), &cfg) else {
         assert!(rt; false, "no client");
         return Ok(());
     };
@@ -304,7 +356,7 @@ fn a_lock_is_handed_over_up_to_the_bound(rt: HostRuntime) -> Result<(), Fail> {
     let cfg = small(1);
     let mut words = laid(rt.alloc(), &cfg)?;
     for (depth, carry) in [(0, Some(1)), (3, Some(4)), (4, None)] {
-        let Some(mut client) = putting(&cfg) else {
+        let Some(mut client) = putting(rt.alloc(), &cfg) else {
             assert!(rt; false, "no client");
             return Ok(());
         };

@@ -1,44 +1,60 @@
 -- The causes of refusals stay, as the log and the counters grow.
-use Rattle.std.proofs.Common.{◌≡◌, ℕ, ◌≤◌, ◌<◌, List, [], ◌∷◌, ◌++◌, length, sym, ap, ◌∙◌, subst, arith}
+use Rattle.std.proofs.Common.{◌≡◌, ℕ, ◌+◌, ◌≤◌, ◌<◌, List, [], ◌∷◌, ◌++◌, length, sym, ap, ◌∙◌, subst, arith}
+use Rattle.std.proofs.lemmas.Bool.Decides.{nat_tests}
 use Rattle.std.proofs.lemmas.List.{take-append-le}
 use Rattle.sh_base.specs.declared.config.ConfigParts.{ConfigParts}
 use Rattle.sh_map.specs.declared.call.Call.{Call}
-use Rattle.sh_map.specs.declared.call.Call.TheVariants.{Put, Del}
+use Rattle.sh_map.specs.declared.call.Call.TheVariants.{Put, Del, Range}
 use Rattle.sh_map.specs.declared.call.Reply.{Reply}
 use Rattle.sh_map.specs.declared.call.Reply.TheVariants as reply
 use Rattle.sh_map.specs.declared.log.Entry.{Entry as LogEntry}
 use Rattle.sh_map.specs.declared.book.Done.{Done}
+use Rattle.sh_map.specs.declared.book.Row.{Row}
 use Rattle.sh_map.specs.Map.{get}
 use Rattle.sh_map.specs.Log.{map_of}
 use Rattle.sh_state.specs.TreeState.{TreeState}
 use Rattle.sh_map.specs.Points.{point_of}
 use Rattle.sh_core.specs.Actors.{Actor, AreAnswered}
 use Rattle.sh_core.specs.Fits.{IsDecided}
-use Rattle.sh_core.specs.Causes.{HasCause, HaveCauses}
+use Rattle.sh_edit.specs.Ranging.{last_key, upto_of}
+use Rattle.sh_core.specs.Causes.{EndsByRows, HasCause, HaveCauses}
 
 module _ (p : ConfigParts) (c now : ℕ → ℕ) (rise : (server : ℕ) → server < p.servers → c server ≤ now server) (log more : List LogEntry) where
-  cause_longer : (first point : ℕ) (call : Call) (r : Reply) → point ≤ length log → HasCause p c log first point call r → HasCause p now (log ++ more) first point call r
-  cause_longer first point (Put key value) reply.Full le h =
+  cause_longer : (first point : ℕ) (rows : List Row) (call : Call) (r : Reply) → point ≤ length log → HasCause p c log first point rows call r → HasCause p now (log ++ more) first point rows call r
+  cause_longer first point rows (Put key value) reply.Full le h =
       let n = h.absent in
       record { spent = λ server lt. omega (arith, h.spent server lt, rise server lt); absent = record { at = n.at; from = n.from; below = n.below; absent = ap (λ (es : List LogEntry). get (map_of es) key) (take-append-le n.at log more (omega (arith, n.below, le))) ∙ n.absent } }
-  cause_longer first point (Put key value) (reply.Worn version) le h = h
-  cause_longer first point (Del key) (reply.Worn version) le h = h
-  cause_longer first point call r le h = tt
+  cause_longer first point rows (Put key value) (reply.Worn version) le h = h
+  cause_longer first point rows (Del key) (reply.Worn version) le h = h
+  cause_longer first point rows (Range low high) (reply.Rows upto) le h = h
+  cause_longer first point rows call r le h = tt
 
   longer : (seat : ℕ) (ds : List Done) → AreAnswered log seat ds → HaveCauses p c log ds → HaveCauses p now (log ++ more) ds
   longer seat [] a h = tt
-  longer seat (d ∷ ds) a h = (cause_longer d.first d.point d.call d.reply a.0.answers.within h.0, longer seat ds a.1 h.1)
+  longer seat (d ∷ ds) a h = (cause_longer d.first d.point d.rows d.call d.reply a.0.answers.within h.0, longer seat ds a.1 h.1)
 
   pub causes_on : (after : List LogEntry) → after ≡ log ++ more → (seat : ℕ) (ds : List Done) → AreAnswered log seat ds → HaveCauses p c log ds → HaveCauses p now after ds
   causes_on after e seat ds a h = subst (λ (es : List LogEntry). HaveCauses p now es ds) (sym e) (longer seat ds a h)
 
-pub causes_snoc : (p : ConfigParts) (c : ℕ → ℕ) (log : List LogEntry) (ds : List Done) (d : Done) → HaveCauses p c log ds → HasCause p c log d.first d.point d.call d.reply → HaveCauses p c log (ds ++ d ∷ [])
+pub causes_snoc : (p : ConfigParts) (c : ℕ → ℕ) (log : List LogEntry) (ds : List Done) (d : Done) → HaveCauses p c log ds → HasCause p c log d.first d.point d.rows d.call d.reply → HaveCauses p c log (ds ++ d ∷ [])
 causes_snoc p c log [] d h k = (k, tt)
 causes_snoc p c log (x ∷ ds) d h k = (h.0, causes_snoc p c log ds d h.1 k)
 
 -- a reply that was decided
-pub decided_cause : (p : ConfigParts) (s : TreeState) (sn : List LogEntry) (i : ℕ) (a : Actor) → a.seen ≤ length sn → (call : Call) (r : Reply) → IsDecided p s i a.first a.point a.seen call r → HasCause p s.counter s.log a.first (point_of sn a.first a.point call r) call r
-decided_cause p s sn i a more (Put key value) reply.Full h = let n = h.absent in record { spent = h.spent; absent = record { at = n.at; from = n.from; below = omega (arith, n.below, more); absent = n.absent } }
-decided_cause p s sn i a more (Put key value) (reply.Worn version) h = h
-decided_cause p s sn i a more (Del key) (reply.Worn version) h = h
-decided_cause p s sn i a more call r h = tt
+pub decided_cause : (p : ConfigParts) (s : TreeState) (sn : List LogEntry) (i : ℕ) (a : Actor) → a.seen ≤ length sn → (rows : List Row) (call : Call) (r : Reply) → IsDecided p s i a.first a.point a.seen call r → HasCause p s.counter s.log a.first (point_of sn a.first a.point call r) rows call r
+decided_cause p s sn i a more rows (Put key value) reply.Full h = let n = h.absent in record { spent = h.spent; absent = record { at = n.at; from = n.from; below = omega (arith, n.below, more); absent = n.absent } }
+decided_cause p s sn i a more rows (Put key value) (reply.Worn version) h = h
+decided_cause p s sn i a more rows (Del key) (reply.Worn version) h = h
+decided_cause p s sn i a more rows (Range low high) r h = absurd h
+decided_cause p s sn i a more rows call r h = tt
+
+-- the bound that a range's rows give it
+module _ (p : ConfigParts) (high : ℕ) (rows : List Row) where
+  abbrev upto : ℕ
+  upto = upto_of p.rows high rows
+
+  early : upto < high → (length rows ≡ p.rows) × (upto ≡ last_key rows + 1)
+  early lt = (grind (arith, nat_tests), grind (arith, nat_tests))
+
+  pub ends_by_rows : length rows ≤ p.rows → EndsByRows p high upto rows
+  ends_by_rows few = record { few = few; within = grind (arith, nat_tests); early = early; full = λ is lt. grind (arith, nat_tests) }

@@ -13,6 +13,7 @@ use Rattle.sh_map.specs.declared.call.Reply.{Reply}
 use Rattle.sh_map.specs.declared.call.Reply.TheVariants as reply
 use Rattle.sh_map.specs.declared.log.Entry.{Entry as LogEntry}
 use Rattle.sh_map.specs.declared.book.Done.{Done}
+use Rattle.sh_map.specs.declared.book.Row.{Row}
 use Rattle.sh_map.specs.Map.{get}
 use Rattle.sh_map.specs.Log.{map_of, map_at}
 use Rattle.sh_map.specs.Made.{entries_by}
@@ -26,6 +27,8 @@ use Rattle.sh_state.specs.Change.{Change}
 use Rattle.sh_state.proofs.Joins.{nothing_done}
 use Rattle.sh_state.proofs.Puts.{put_else, put_case}
 use Rattle.sh_acts.specs.Acts.{with_hold}
+use Rattle.sh_readers.specs.Hand.{AreRowsOf}
+use Rattle.sh_readers.proofs.RowLemmas.{rows_linked}
 use Rattle.sh_acts.specs.Counters.{Bounded}
 use Rattle.sh_decide.specs.declared.state.Posting.{Posting}
 use Rattle.sh_client.specs.declared.state.Want.TheVariants as want
@@ -33,7 +36,7 @@ use Rattle.sh_client.specs.declared.state.Phase.{Phase}
 use Rattle.sh_client.specs.declared.state.Phase.TheVariants.{Idle, Read, ReadLocked, Seek, Ended}
 use Rattle.sh_client.specs.Giving.{makes}
 use Rattle.sh_client.specs.Machine.{Machine, Registers}
-use Rattle.sh_client.specs.Rests.{rests}
+use Rattle.sh_client.specs.Rests.{rests, rows_for}
 use Rattle.sh_client.specs.Wants.{want_in, load_of}
 use Rattle.sh_core.specs.Actors.{Actor, ending, actor_stepped, done_of, IsAnswered, AreAnswered, made_by, updates}
 use Rattle.sh_core.specs.Fits.{AreSpares, HadNone, IsDecided, Owes, Fits}
@@ -74,7 +77,7 @@ goes_on p s t i n a m k l rise more within w same = record {
 
 -- its call has ended
 pub ends_now : (p : ConfigParts) (s t : TreeState) (i : ℕ) (a : Actor) (m : Machine) (sn : List LogEntry) → KeepsActor p s i a → t.log ≡ s.log → ((server : ℕ) → s.counter server ≤ t.counter server) → length sn ≤ length s.log → a.seen ≤ length sn → IsAtWork p t i (length sn) a.point (length sn) m
-    → IsAnswered s.log i (done_of i a sn m) → let d : Done = done_of i a sn m in HasCause p s.counter s.log d.first d.point d.call d.reply → a.first ≤ d.point → d.point + made m.registers.call m.registers.reply ≤ length sn → pending i a.client.registers a.client.phase ≡ entries_by i m.registers.call m.registers.reply → pending i m.registers m.phase ≡ [] → KeepsActor p t i (ending i a sn m)
+    → IsAnswered s.log i (done_of i a sn m) → let d : Done = done_of i a sn m in HasCause p s.counter s.log d.first d.point d.rows d.call d.reply → a.first ≤ d.point → d.point + made m.registers.call m.registers.reply ≤ length sn → pending i a.client.registers a.client.phase ≡ entries_by i m.registers.call m.registers.reply → pending i m.registers m.phase ≡ [] → KeepsActor p t i (ending i a sn m)
 ends_now p s t i a m sn k l rise within more w ans cause from past was none =
     let d : Done = done_of i a sn m in
     record {
@@ -98,12 +101,12 @@ pub record IsEnding (log : List LogEntry) (i n : ℕ) (d : Done) : Type 0 where
   pub from : d.first ≤ d.point
   pub past : d.point + made d.call d.reply ≤ n
 
-module _ (p : ConfigParts) (s : TreeState) (sn rest : List LogEntry) (i : ℕ) (a : Actor) (whole : s.log ≡ sn ++ rest) (more : a.seen ≤ length sn) (began : a.first ≤ a.seen) where
+module _ (p : ConfigParts) (s : TreeState) (sn rest : List LogEntry) (i : ℕ) (a : Actor) (rows : List Row) (whole : s.log ≡ sn ++ rest) (more : a.seen ≤ length sn) (began : a.first ≤ a.seen) where
   shorter : length sn ≤ length s.log
   shorter = omega (arith, ap length whole, length-append sn rest)
 
   abbrev done : Call → Reply → Done
-  done c r = record { n = a.number; seat = i; call = c; reply = r; first = a.first; point = point_of sn a.first a.point c r; rows = [] }
+  done c r = record { n = a.number; seat = i; call = c; reply = r; first = a.first; point = point_of sn a.first a.point c r; rows = rows_for c rows }
 
   absent_ends : (key : ℕ) → HadNone s.log a.first a.seen key → IsEnding s.log i (length sn) (done (call.Del key) reply.None)
   absent_ends key h =
@@ -111,17 +114,17 @@ module _ (p : ConfigParts) (s : TreeState) (sn rest : List LogEntry) (i : ℕ) (
       let there : get (map_at sn h.at) key ≡ None = ap (λ (es : List LogEntry). get (map_of es) key) (sym (take-append-le h.at sn rest le)) ∙ subst (λ (es : List LogEntry). get (map_at es h.at) key ≡ None) whole h.absent in
       let l = least_is sn a.first key None h.at h.from le there in
       let l' : IsLeastPoint s.log a.first key None (least_point sn a.first key None) = subst (λ (es : List LogEntry). IsLeastPoint es a.first key None (least_point sn a.first key None)) (sym whole) (least_longer a.first key None (least_point sn a.first key None) sn rest l) in
-      record { answered = record { seat_is = refl; answers = record { within = l'.within; row = l'.here }; least = l' }; from = l'.from; past = omega (arith, l.within) }
+      record { answered = record { seat_is = refl; answers = record { within = l'.within; row = l'.here }; least = l'; rows = refl }; from = l'.from; past = omega (arith, l.within) }
 
   -- an update, or a node or a pool that is used up
   pub decided_ends : (c : Call) (r : Reply) → IsDecided p s i a.first a.point a.seen c r → IsEnding s.log i (length sn) (done c r)
-  decided_ends (call.Put key value) (reply.Some old) h = record { answered = record { seat_is = refl; answers = record { within = omega (arith, h.below, more, shorter); row = let e = h.stands in let q = h.is in cc }; least = tt }; from = h.from; past = omega (arith, h.below, more) }
-  decided_ends (call.Put key value) reply.None h = record { answered = record { seat_is = refl; answers = record { within = omega (arith, h.below, more, shorter); row = let e = h.stands in let q = h.is in cc }; least = tt }; from = h.from; past = omega (arith, h.below, more) }
-  decided_ends (call.Del key) (reply.Some old) h = record { answered = record { seat_is = refl; answers = record { within = omega (arith, h.below, more, shorter); row = let e = h.stands in let q = h.is in cc }; least = tt }; from = h.from; past = omega (arith, h.below, more) }
+  decided_ends (call.Put key value) (reply.Some old) h = record { answered = record { seat_is = refl; answers = record { within = omega (arith, h.below, more, shorter); row = let e = h.stands in let q = h.is in cc }; least = tt; rows = refl }; from = h.from; past = omega (arith, h.below, more) }
+  decided_ends (call.Put key value) reply.None h = record { answered = record { seat_is = refl; answers = record { within = omega (arith, h.below, more, shorter); row = let e = h.stands in let q = h.is in cc }; least = tt; rows = refl }; from = h.from; past = omega (arith, h.below, more) }
+  decided_ends (call.Del key) (reply.Some old) h = record { answered = record { seat_is = refl; answers = record { within = omega (arith, h.below, more, shorter); row = let e = h.stands in let q = h.is in cc }; least = tt; rows = refl }; from = h.from; past = omega (arith, h.below, more) }
   decided_ends (call.Del key) reply.None h = absent_ends key h
-  decided_ends (call.Put key value) reply.Full h = record { answered = record { seat_is = refl; answers = record { within = shorter; row = tt }; least = tt }; from = omega (arith, began, more); past = omega arith }
-  decided_ends (call.Put key value) (reply.Worn version) h = record { answered = record { seat_is = refl; answers = record { within = shorter; row = tt }; least = tt }; from = omega (arith, began, more); past = omega arith }
-  decided_ends (call.Del key) (reply.Worn version) h = record { answered = record { seat_is = refl; answers = record { within = shorter; row = tt }; least = tt }; from = omega (arith, began, more); past = omega arith }
+  decided_ends (call.Put key value) reply.Full h = record { answered = record { seat_is = refl; answers = record { within = shorter; row = tt }; least = tt; rows = refl }; from = omega (arith, began, more); past = omega arith }
+  decided_ends (call.Put key value) (reply.Worn version) h = record { answered = record { seat_is = refl; answers = record { within = shorter; row = tt }; least = tt; rows = refl }; from = omega (arith, began, more); past = omega arith }
+  decided_ends (call.Del key) (reply.Worn version) h = record { answered = record { seat_is = refl; answers = record { within = shorter; row = tt }; least = tt; rows = refl }; from = omega (arith, began, more); past = omega arith }
   decided_ends c r h = absurd h
 
 -- ---- the client's part
@@ -149,8 +152,8 @@ same_grows s t i e n h le = record { more = []; longer = h.log ∙ sym (append-n
 
 -- its duty stays: the seat has the same node to post
 pub work_anew : (p : ConfigParts) (s t : TreeState) (i f q e n : ℕ) (r : Registers) (ph : Phase) (w : IsAtWork p s i f q e (at p i r ph)) → ((k : ℕ) → t.post k ≡ s.post k) → (x : Registers) (to : Phase) → x.call ≡ r.call → skips_counted x.tally ≡ skips_counted r.tally
-    → Fits p t i f q n x w.duty to → Owes t i f q n x.call x.reply w.duty → AreSpares t i x.spare → Hands t i (holding p x to) → IsAtWork p t i f q n (at p i x to)
-work_anew p s t i f q e n r ph w post x to call sum fits owes spares hands = record {
+    → Fits p t i f q n x w.duty to → Owes t i f q n x.call x.reply w.duty → AreSpares t i x.spare → AreRowsOf t x.cached → Hands t i (holding p x to) → IsAtWork p t i f q n (at p i x to)
+work_anew p s t i f q e n r ph w post x to call sum fits owes spares cached hands = record {
   seated = subst (IsSeated p i p i) (sym call) w.seated;
   duty = w.duty;
   fits = fits;
@@ -158,18 +161,20 @@ work_anew p s t i f q e n r ph w post x to call sum fits owes spares hands = rec
   hands = hands;
   waits = waits_on s t i post w.duty w.waits;
   spares = spares;
+  cached = cached;
   skips = skips_on s t i (skips_counted r.tally) (skips_counted x.tally) post sum w.skips;
 }
 
--- registers of the same call, with the same reply, spare nodes and skipped posts
+-- registers of the same call, with the same reply, spare nodes, skipped posts and cached nodes
 pub record SameCall (r x : Registers) : Type 0 where
   pub call_is : x.call ≡ r.call
   pub reply_is : x.reply ≡ r.reply
   pub spare_is : x.spare ≡ r.spare
   pub skips_are : skips_counted x.tally ≡ skips_counted r.tally
+  pub cached_is : x.cached ≡ r.cached
 
 pub same_call : (r : Registers) → SameCall r r
-same_call r = record { call_is = refl; reply_is = refl; spare_is = refl; skips_are = refl }
+same_call r = record { call_is = refl; reply_is = refl; spare_is = refl; skips_are = refl; cached_is = refl }
 
 -- so what the seat owes stays, and its spare nodes do
 pub owes_with : (s t : TreeState) (i f q e n : ℕ) (p : ConfigParts) (r x : Registers) (duty : Option Posting) → SameNodes s t → e ≤ n → SameCall r x → Owes s i f q e r.call r.reply duty → Owes t i f q n x.call x.reply duty
@@ -179,13 +184,16 @@ owes_with s t i f q e n p r x duty same le with o =
 pub spares_with : (s t : TreeState) (i : ℕ) (r x : Registers) → SameNodes s t → x.spare ≡ r.spare → AreSpares s i r.spare → AreSpares t i x.spare
 spares_with s t i r x same is h = subst (AreSpares t i) (sym is) (λ k is. same.class k ∙ h k is)
 
+pub cached_with : (p : ConfigParts) (s t : TreeState) (r x : Registers) → SameNodes s t → x.cached ≡ r.cached → AreRowsOf s r.cached → AreRowsOf t x.cached
+cached_with p s t r x same is h = subst (AreRowsOf t) (sym is) (rows_linked p s t (λ k l a q. same.class k ∙ q) r.cached h)
+
 module _ (p : ConfigParts) (s t : TreeState) (i f q e n : ℕ) (r : Registers) (ph : Phase) (w : IsAtWork p s i f q e (at p i r ph)) (same : SameNodes s t) (le : e ≤ n) where
   pub work_with : (x : Registers) (to : Phase) → SameCall r x → Fits p t i f q n x w.duty to → Hands t i (holding p x to) → IsAtWork p t i f q n (at p i x to)
-  work_with x to with fits hands = work_anew p s t i f q e n r ph w same.post x to with.call_is with.skips_are fits (owes_with s t i f q e n p r x w.duty same le with w.owes) (spares_with s t i r x same with.spare_is w.spares) hands
+  work_with x to with fits hands = work_anew p s t i f q e n r ph w same.post x to with.call_is with.skips_are fits (owes_with s t i f q e n p r x w.duty same le with w.owes) (spares_with s t i r x same with.spare_is w.spares) (cached_with p s t r x same with.cached_is w.cached) hands
 
   -- with nothing to post its call has ended, with any reply
-  pub work_ended : (x : Registers) → x.call ≡ r.call → skips_counted x.tally ≡ skips_counted r.tally → x.spare ≡ r.spare → w.duty ≡ None → Hands t i None → IsAtWork p t i n q n (at p i x Ended)
-  work_ended x call sum spare none hands = record {
+  pub work_ended : (x : Registers) → x.call ≡ r.call → skips_counted x.tally ≡ skips_counted r.tally → x.spare ≡ r.spare → x.cached ≡ r.cached → w.duty ≡ None → Hands t i None → IsAtWork p t i n q n (at p i x Ended)
+  work_ended x call sum spare cached none hands = record {
     seated = subst (IsSeated p i p i) (sym call) w.seated;
     duty = None;
     fits = refl;
@@ -193,6 +201,7 @@ module _ (p : ConfigParts) (s t : TreeState) (i f q e n : ℕ) (r : Registers) (
     hands = hands;
     waits = waits_on s t i same.post None (subst (Waits s i) none w.waits);
     spares = spares_with s t i r x same spare w.spares;
+    cached = cached_with p s t r x same cached w.cached;
     skips = skips_on s t i (skips_counted r.tally) (skips_counted x.tally) same.post sum w.skips;
   }
 
@@ -292,19 +301,19 @@ module _ (p : ConfigParts) (ok : IsSetting p) (words : List ℕ) (Has Now : ℕ 
 
   -- The scene stays, and no counter is to be counted on now: the log and the posts are those of before, so the reply may be
   -- a new one where there is no duty.
-  pub quiet_by : (ph to : Phase) (x : Registers) (k : KeepsActor p s i (actor_in p i a r ph)) → x.call ≡ r.call → skips_counted x.tally ≡ skips_counted r.tally → Fits p s i a.first a.point N x k.work.duty to → Owes s i a.first a.point N x.call x.reply k.work.duty → AreSpares s i x.spare → Hands s i (holding p x to)
+  pub quiet_by : (ph to : Phase) (x : Registers) (k : KeepsActor p s i (actor_in p i a r ph)) → x.call ≡ r.call → skips_counted x.tally ≡ skips_counted r.tally → Fits p s i a.first a.point N x k.work.duty to → Owes s i a.first a.point N x.call x.reply k.work.duty → AreSpares s i x.spare → AreRowsOf s x.cached → Hands s i (holding p x to)
       → pending i x to ≡ pending i r ph → ((server : ℕ) → WantsAdd p server (at p i x to) → ⊥) → Moves Has i (next a N (at p i x to)) Now → Inv p words (s.log ++ []) Now Out
-  quiet_by ph to x k call sum fits owes spares hands pend calm mv =
+  quiet_by ph to x k call sum fits owes spares cached hands pend calm mv =
       let m : Machine = at p i x to in
       one_log p ok words Has Now Out i s b words s refl
       (moves_by p ok words Has Now Out i s b words s (next a N m) (nothing_done p (λ o. o ≢ Seat i) s, b.ground)
-      (goes_on p s s i N (actor_in p i a r ph) m k refl (λ server. omega arith) k.seen (omega arith) (work_anew p s s i a.first a.point a.seen N r ph k.work (λ n. refl) x to call sum fits owes spares hands) pend) (λ server. refl) calm mv)
+      (goes_on p s s i N (actor_in p i a r ph) m k refl (λ server. omega arith) k.seen (omega arith) (work_anew p s s i a.first a.point a.seen N r ph k.work (λ n. refl) x to call sum fits owes spares cached hands) pend) (λ server. refl) calm mv)
 
   -- the same, in a phase that counts on no counter
-  pub quiet_with : (ph to : Phase) (x : Registers) (k : KeepsActor p s i (actor_in p i a r ph)) → x.call ≡ r.call → skips_counted x.tally ≡ skips_counted r.tally → Fits p s i a.first a.point N x k.work.duty to → Owes s i a.first a.point N x.call x.reply k.work.duty → AreSpares s i x.spare → Hands s i (holding p x to)
+  pub quiet_with : (ph to : Phase) (x : Registers) (k : KeepsActor p s i (actor_in p i a r ph)) → x.call ≡ r.call → skips_counted x.tally ≡ skips_counted r.tally → Fits p s i a.first a.point N x k.work.duty to → Owes s i a.first a.point N x.call x.reply k.work.duty → AreSpares s i x.spare → AreRowsOf s x.cached → Hands s i (holding p x to)
       → pending i x to ≡ pending i r ph → IsCalm to → Moves Has i (next a N (at p i x to)) Now → Inv p words (s.log ++ []) Now Out
-  quiet_with ph to x k call sum fits owes spares hands pend calm mv = quiet_by ph to x k call sum fits owes spares hands pend (λ server q. no_add p server (at p i x to) to calm q) mv
+  quiet_with ph to x k call sum fits owes spares cached hands pend calm mv = quiet_by ph to x k call sum fits owes spares cached hands pend (λ server q. no_add p server (at p i x to) to calm q) mv
 
   -- nothing but the client has changed
   pub quiet : (ph to : Phase) (x : Registers) (k : KeepsActor p s i (actor_in p i a r ph)) → SameCall r x → Fits p s i a.first a.point N x k.work.duty to → Hands s i (holding p x to) → pending i x to ≡ pending i r ph → IsCalm to → Moves Has i (next a N (at p i x to)) Now → Inv p words (s.log ++ []) Now Out
-  quiet ph to x k with fits hands pend calm mv = quiet_with ph to x k with.call_is with.skips_are fits (owes_with s s i a.first a.point a.seen N p r x k.work.duty (same_here s) k.seen with k.work.owes) (spares_with s s i r x (same_here s) with.spare_is k.work.spares) hands pend calm mv
+  quiet ph to x k with fits hands pend calm mv = quiet_with ph to x k with.call_is with.skips_are fits (owes_with s s i a.first a.point a.seen N p r x k.work.duty (same_here s) k.seen with k.work.owes) (spares_with s s i r x (same_here s) with.spare_is k.work.spares) (cached_with p s s r x (same_here s) with.cached_is k.work.cached) hands pend calm mv

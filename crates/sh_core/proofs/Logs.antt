@@ -1,9 +1,6 @@
 -- The log and the ended calls, some entries or one call longer; and the least point.
-use Rattle.std.proofs.Common.{◌≡◌, ◌≢◌, ℕ, zero, suc, ◌+◌, ◌-◌, ◌<◌, ◌≤◌, Bool, true, false, List, [], ◌∷◌, ◌++◌, length, Option, Some, None, refl, sym, ap, ◌∙◌, subst, arith, append-nil, append_assoc, ne_eqb, eq-eqb}
-use Rattle.std.specs.Prelude.{◌==◌, if◌then◌else◌}
-use mathlib.Core.Logic.{dite}
-use native.Mathlib.Decide.{ℕ_discrete}
-use Rattle.std.proofs.lemmas.Slice.Eq.{bytes_eq-Decides}
+use Rattle.std.proofs.Common.{◌≡◌, ℕ, ◌+◌, ◌≤◌, List, [], ◌∷◌, ◌++◌, Some, None, refl, sym, ap, ◌∙◌, subst, arith, append-nil, append_assoc, ne_eqb, eq-eqb}
+use Rattle.std.specs.Prelude.{◌==◌}
 use Rattle.std.proofs.lemmas.List.Elements.{filter-append}
 use Rattle.sh_map.specs.declared.call.Call.{Call}
 use Rattle.sh_map.specs.declared.call.Call.TheVariants as call
@@ -11,10 +8,7 @@ use Rattle.sh_map.specs.declared.call.Reply.{Reply}
 use Rattle.sh_map.specs.declared.call.Reply.TheVariants as reply
 use Rattle.sh_map.specs.declared.log.Entry.{Entry}
 use Rattle.sh_map.specs.declared.book.Done.{Done}
-use Rattle.sh_map.specs.Map.{get}
-use Rattle.sh_map.specs.Log.{map_at}
 use Rattle.sh_map.specs.Made.{entries_by}
-use Rattle.sh_map.specs.Points.{IsLeastPoint, had_same, least_from, least_point}
 use Rattle.sh_map.specs.Book.{made}
 use Rattle.sh_map.proofs.BookLemmas.{Answers-push, IsLeastPoint-push}
 use Rattle.sh_state.specs.Change.{HasNoneOf}
@@ -57,7 +51,7 @@ answered_push : (i : ℕ) (log : List Entry) (e : Entry) (ds : List Done) → Ar
 answered_push i log e [] h = tt
 answered_push i log e (d ∷ ds) h =
     let a = h.0 in
-    (record { seat_is = a.seat_is; answers = Answers-push log e d a.answers; least = least_push d log e d.call d.reply a.least }, answered_push i log e ds h.1)
+    (record { seat_is = a.seat_is; answers = Answers-push log e d a.answers; least = least_push d log e d.call d.reply a.least; rows = a.rows }, answered_push i log e ds h.1)
 
 pub answered_longer : (i : ℕ) (ds : List Done) (log more : List Entry) → AreAnswered log i ds → AreAnswered (log ++ more) i ds
 answered_longer i ds log more h = grows (λ (es : List Entry). AreAnswered es i ds) (λ es e k. answered_push i es e ds k) log more h

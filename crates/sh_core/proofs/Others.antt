@@ -28,9 +28,13 @@ use Rattle.sh_acts.specs.Counters.{Bounded}
 use Rattle.sh_acts.specs.Images.{IsEntryOf, IsPairOf}
 use Rattle.sh_readers.specs.Knows.{fed_from, fed_words}
 use Rattle.sh_readers.specs.Hand.{IsNamed}
+use Rattle.sh_readers.specs.Ranges.{IsGathered}
+use Rattle.sh_readers.proofs.RowLemmas.{rows_linked}
+use Rattle.sh_readers.proofs.Gathering.{gathered_more}
 use Rattle.sh_readers.proofs.Known.{known_on}
 use Rattle.sh_decide.specs.declared.state.Posting.{Posting}
 use Rattle.sh_decide.specs.declared.state.Aim.{Aim}
+use Rattle.sh_decide.specs.declared.state.Aim.TheVariants.{Own, Gathers, Posts}
 use Rattle.sh_client.specs.declared.state.Then.{Then}
 use Rattle.sh_client.specs.declared.state.Then.TheVariants.{Ends, Starts, Takes}
 use Rattle.sh_client.specs.declared.state.Write.{Write}
@@ -45,7 +49,7 @@ use Rattle.sh_client.specs.declared.state.Filling.TheVariants.{RightHalf, NewRoo
 use Rattle.sh_client.specs.Machine.{Registers}
 use Rattle.sh_decide.specs.Aims.{aimed_key, target}
 use Rattle.sh_core.specs.Actors.{Actor, AreAnswered, made_by}
-use Rattle.sh_core.specs.Fits.{HasEntry, IsPosting, Owes, HasRead, IsOnWay, AreLast, IsSeeking, FillsFresh, ChangesEntry, ChangesLeaf, CutsLeaf, AddsPair, CutsInner, IsUpdate, PlansPair, PlansHalf, HadNone, IsDecided, IsAtNode, Follows, Plans, storing_hold, IsHolding, IsLeaving, IsBelow, PlansRoot, HoldsNode, Needs, FillsWith, Fits}
+use Rattle.sh_core.specs.Fits.{Gathered, HasEntry, IsPosting, Owes, HasRead, IsOnWay, AreLast, IsSeeking, FillsFresh, ChangesEntry, ChangesLeaf, CutsLeaf, AddsPair, CutsInner, IsUpdate, PlansPair, PlansHalf, HadNone, IsDecided, IsAtNode, Follows, Plans, storing_hold, IsHolding, IsLeaving, IsBelow, PlansRoot, HoldsNode, Needs, FillsWith, Fits}
 use Rattle.sh_core.specs.Keeps.{holding, Hands, Waits, skips_counted, Skips, KeepsActor}
 use Rattle.sh_core.specs.Core.{WantsAdd, SomeAdds, Inv, Moves}
 use Rattle.sh_core.proofs.Causes.{causes_on}
@@ -91,7 +95,7 @@ module _ (p : ConfigParts) (s t : TreeState) (i f q e now : ℕ) (gr : Grows s t
   decided_on c r le h = absurd h
 
   pub at_on : (c : Call) (aim : Aim) (n : ℕ) (duty : Option Posting) → IsAtNode s c aim n duty → IsAtNode t c aim n duty
-  at_on c aim n duty h = record { duty_is = h.duty_is; there = named_on (target aim) n (aimed_key c aim) h.there }
+  at_on c aim n duty h = record { duty_is = h.duty_is; takes = h.takes; there = named_on (target aim) n (aimed_key c aim) h.there }
 
   pub follows_on : (c : Call) (r : Reply) (duty : Option Posting) (after : Then) → e ≤ length s.log → Follows p s i f q e c r duty after → Follows p t i f q now c r duty after
   follows_on c r duty Ends le h = record { none = h.none; decided = decided_on c r le h.decided }
@@ -249,9 +253,14 @@ module _ (p : ConfigParts) (ok : IsSetting p) (Other : Owner → Type 0) (words 
   planned_on : (f q e : ℕ) (r : Registers) (giving : Giving) (duty : Option Posting) → e ≤ length s.log → Owns (s.hold (lock_of p giving.node)) (Seat j) → Plans p s j f q e r giving.node giving.write giving.after duty → Plans p t j f q e r giving.node giving.write giving.after duty
   planned_on f q e r giving duty le o h = plans_on p s t j giving.node (under giving.node o) f q e e (grown e) r giving.write giving.after duty le (λ fresh. filling_on r.spare r.fresh_words fresh (node_size p)) h
 
+  gathered_on : (f : ℕ) (r : Registers) (aim : Aim) → Gathered p s.log f r.call r.rows aim → Gathered p t.log f r.call r.rows aim
+  gathered_on f r Own h = h
+  gathered_on f r (Posts post) h = tt
+  gathered_on f r (Gathers place) h = record { low = h.low; high = h.high; call_is = h.call_is; place_is = h.place_is; within = h.within; left = h.left; gathered = subst (λ (es : List LogEntry). IsGathered es f h.low place r.rows) (sym ch.longer) (gathered_more s.log f h.low ch.more place r.rows h.gathered) }
+
   pub others_fit : (f q e : ℕ) (r : Registers) (duty : Option Posting) (phase : Phase) → e ≤ length s.log → Fits p s j f q e r duty phase → Fits p t j f q e r duty phase
-  others_fit f q e r duty (Root aim) le h = h
-  others_fit f q e r duty (Read aim top) le h = record { duty_is = h.duty_is; on_way = way_on f r.call r.reads aim top h.on_way }
+  others_fit f q e r duty (Root aim) le h = record { duty_is = h.duty_is; rows = gathered_on f r aim h.rows }
+  others_fit f q e r duty (Read aim top) le h = record { duty_is = h.duty_is; rows = gathered_on f r aim h.rows; on_way = way_on f r.call r.reads aim top h.on_way }
   others_fit f q e r duty (Draw aim n) le h = at_node_on r.call aim n duty h
   others_fit f q e r duty (Look aim n) le h = at_node_on r.call aim n duty h
   others_fit f q e r duty (Grab aim n) le h = at_node_on r.call aim n duty h
@@ -297,6 +306,7 @@ module _ (p : ConfigParts) (ok : IsSetting p) (Other : Owner → Type 0) (words 
           hands = others_hands (holding p r m.phase) w.hands;
           waits = others_wait w.duty w.waits;
           spares = λ n is. (ch.fresh j n ne (w.spares n is)).0;
+          cached = rows_linked p s t ch.linked r.cached w.cached;
           skips = others_skip (skips_counted r.tally) w.skips;
         };
         seen = omega (arith, ap length ch.longer, length-append s.log ch.more, k.seen);

@@ -5,6 +5,8 @@ use Rattle.sh_base.specs.Setting.{node_size, last_version, IsNode}
 use Rattle.sh_base.specs.Layout.{lock_of, entry_at}
 use Rattle.sh_map.specs.declared.call.Call.{Call}
 use Rattle.sh_map.specs.declared.call.Call.TheVariants as call
+use Rattle.sh_map.specs.declared.book.Row.{Row}
+use Rattle.sh_map.specs.Calls.{IsKey}
 use Rattle.sh_map.specs.declared.call.Reply.{Reply}
 use Rattle.sh_map.specs.declared.call.Reply.TheVariants as reply
 use Rattle.sh_map.specs.declared.log.Change.TheVariants as change
@@ -33,9 +35,10 @@ use Rattle.sh_state.specs.Nodes.{standing_entries}
 use Rattle.sh_acts.specs.Images.{IsEntryOf, IsPairOf}
 use Rattle.sh_readers.specs.Knows.{IsFed}
 use Rattle.sh_readers.specs.Hand.{IsNamed}
+use Rattle.sh_readers.specs.Ranges.{IsGathered}
 use Rattle.sh_decide.specs.declared.state.Posting.{Posting}
 use Rattle.sh_decide.specs.declared.state.Aim.{Aim}
-use Rattle.sh_decide.specs.declared.state.Aim.TheVariants.{Own, Posts}
+use Rattle.sh_decide.specs.declared.state.Aim.TheVariants.{Own, Gathers, Posts}
 use Rattle.sh_client.specs.declared.state.Then.{Then}
 use Rattle.sh_client.specs.declared.state.Then.TheVariants.{Ends, Starts, Takes}
 use Rattle.sh_client.specs.declared.state.Write.{Write}
@@ -49,7 +52,7 @@ use Rattle.sh_client.specs.declared.state.Need.TheVariants.{ToSplit, ToGrow}
 use Rattle.sh_client.specs.declared.state.Filling.{Filling}
 use Rattle.sh_client.specs.declared.state.Filling.TheVariants.{RightHalf, NewRoot}
 use Rattle.sh_client.specs.Machine.{Registers}
-use Rattle.sh_decide.specs.Aims.{aimed_key, post_of, target}
+use Rattle.sh_decide.specs.Aims.{aim_of, aimed_key, post_of, takes_lock, target}
 use Rattle.sh_decide.specs.Deciding.{decision_of}
 
 -- ---- a post under way
@@ -81,7 +84,26 @@ Owes s seat first point seen call reply (Some post) = IsPosting s seat first poi
 -- the post that a descent is for
 abbrev pub duty_of : Aim → Option Posting
 duty_of Own = None
+duty_of (Gathers place) = None
 duty_of (Posts post) = Some post
+
+-- ---- ranges
+
+-- a range has gathered the rows of its keys below a place, and has room for more
+pub record HasGathered (p : ConfigParts) (log : List LogEntry) (first : ℕ) (asked : Call) (rows : List Row) (place : ℕ) : Type 0 where
+  pub low : ℕ
+  pub high : ℕ
+  pub call_is : asked ≡ call.Range low high
+  pub place_is : IsKey place
+  pub within : place ≤ high
+  pub left : length rows < p.rows
+  pub gathered : IsGathered log first low place rows
+
+-- so has a descent that gathers rows; a range has no other descent
+abbrev pub Gathered : ConfigParts → List LogEntry → (first : ℕ) → Call → List Row → Aim → Type 0
+Gathered p log first call rows Own = aim_of call ≡ Own
+Gathered p log first call rows (Posts post) = Unit {0}
+Gathered p log first call rows (Gathers place) = HasGathered p log first call rows place
 
 -- ---- READs
 
@@ -289,12 +311,18 @@ pub record EndsDecided (p : ConfigParts) (s : TreeState) (seat first point seen 
 -- a descent has come to such a node
 pub record IsAtNode (s : TreeState) (call : Call) (aim : Aim) (n : ℕ) (duty : Option Posting) : Type 0 where
   pub duty_is : duty ≡ duty_of aim
+  pub takes : takes_lock call aim ≡ true
   pub there : IsThere s call aim n
+
+-- a descent that takes a lock starts again
+pub record IsToStart (call : Call) (aim : Aim) (duty : Option Posting) : Type 0 where
+  pub duty_is : duty ≡ duty_of aim
+  pub takes : takes_lock call aim ≡ true
 
 -- behind the lock the call ends, or a descent goes on
 abbrev pub Follows : ConfigParts → TreeState → (seat first point seen : ℕ) → Call → Reply → Option Posting → Then → Type 0
 Follows p s seat first point seen call reply duty Ends = EndsDecided p s seat first point seen call reply duty
-Follows p s seat first point seen call reply duty (Starts aim) = duty ≡ duty_of aim
+Follows p s seat first point seen call reply duty (Starts aim) = IsToStart call aim duty
 Follows p s seat first point seen call reply duty (Takes aim node) = IsAtNode s call aim node duty
 
 -- what is to be stored before the lock of node n is given back, and what follows
@@ -365,10 +393,16 @@ pub record PlansRoot (p : ConfigParts) (s : TreeState) (seat : ℕ) (r : Registe
 
 -- ---- by phases
 
--- a READ without a lock, on the way
-pub record ReadsOnWay (p : ConfigParts) (s : TreeState) (first : ℕ) (call : Call) (reads : Reads) (aim : Aim) (top : Bool) (duty : Option Posting) : Type 0 where
+-- a descent is to begin at the root
+pub record IsAtRoot (p : ConfigParts) (s : TreeState) (first : ℕ) (r : Registers) (aim : Aim) (duty : Option Posting) : Type 0 where
   pub duty_is : duty ≡ duty_of aim
-  pub on_way : IsOnWay p s first call reads aim top
+  pub rows : Gathered p s.log first r.call r.rows aim
+
+-- a READ without a lock, on the way
+pub record ReadsOnWay (p : ConfigParts) (s : TreeState) (first : ℕ) (r : Registers) (aim : Aim) (top : Bool) (duty : Option Posting) : Type 0 where
+  pub duty_is : duty ≡ duty_of aim
+  pub rows : Gathered p s.log first r.call r.rows aim
+  pub on_way : IsOnWay p s first r.call r.reads aim top
 
 -- the lock is held of the node that is READ, where a descent has come
 pub record HoldsNode (p : ConfigParts) (s : TreeState) (seat : ℕ) (r : Registers) (aim : Aim) (depth : ℕ) (duty : Option Posting) : Type 0 where
@@ -433,8 +467,8 @@ pub record IsToLeave (p : ConfigParts) (s : TreeState) (seat first point seen : 
   pub follows : Follows p s seat first point seen r.call r.reply duty after
 
 abbrev pub Fits : ConfigParts → TreeState → (seat first point seen : ℕ) → Registers → Option Posting → Phase → Type 0
-Fits p s i f q e r duty (Root aim) = duty ≡ duty_of aim
-Fits p s i f q e r duty (Read aim top) = ReadsOnWay p s f r.call r.reads aim top duty
+Fits p s i f q e r duty (Root aim) = IsAtRoot p s f r aim duty
+Fits p s i f q e r duty (Read aim top) = ReadsOnWay p s f r aim top duty
 Fits p s i f q e r duty (Draw aim n) = IsAtNode s r.call aim n duty
 Fits p s i f q e r duty (Look aim n) = IsAtNode s r.call aim n duty
 Fits p s i f q e r duty (Grab aim n) = IsAtNode s r.call aim n duty

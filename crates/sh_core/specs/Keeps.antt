@@ -10,9 +10,10 @@ use Rattle.sh_map.specs.Calls.{IsInRange}
 use Rattle.sh_map.specs.Made.{entries_by}
 use Rattle.sh_tree.specs.Lists.{is_in, AreDifferent}
 use Rattle.sh_state.specs.TreeState.{Pending, Skipped, Seat, Owns, TreeState}
+use Rattle.sh_readers.specs.Hand.{AreRowsOf}
 use Rattle.sh_decide.specs.declared.state.Posting.{Posting}
 use Rattle.sh_decide.specs.declared.state.Aim.{Aim}
-use Rattle.sh_decide.specs.declared.state.Aim.TheVariants.{Own, Posts}
+use Rattle.sh_decide.specs.declared.state.Aim.TheVariants.{Own, Gathers, Posts}
 use Rattle.sh_client.specs.declared.state.Then.{Then}
 use Rattle.sh_client.specs.declared.state.Then.TheVariants.{Ends, Starts, Takes}
 use Rattle.sh_client.specs.declared.state.Write.{Write}
@@ -66,6 +67,7 @@ Waits s seat (Some post) = (n : ℕ) → n ≢ post.node → s.post n ≢ Pendin
 -- The entries of the call under way: none on the way to its leaf, and its own once it is stored. A post comes behind it.
 abbrev pub pending_aim : (seat : ℕ) → Call → Reply → Aim → List LogEntry
 pending_aim seat call reply Own = []
+pending_aim seat call reply (Gathers place) = []
 pending_aim seat call reply (Posts post) = entries_by seat call reply
 
 abbrev pub pending_then : (seat : ℕ) → Call → Reply → Then → List LogEntry
@@ -130,6 +132,7 @@ pub record IsAtWork (p : ConfigParts) (s : TreeState) (seat first point seen : �
   pub hands : Hands s seat (holding p m.registers m.phase)
   pub waits : Waits s seat duty
   pub spares : AreSpares s seat m.registers.spare
+  pub cached : AreRowsOf s m.registers.cached
   pub skips : Skips s seat (skips_counted m.registers.tally)
 
 -- The log's entries of the seat are those of its ended calls, once and in order, and behind them at most the one of its

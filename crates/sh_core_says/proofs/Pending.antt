@@ -10,7 +10,7 @@ use Rattle.sh_map.specs.Made.{entries_by}
 use Rattle.sh_state.specs.TreeState.{TreeState}
 use Rattle.sh_decide.specs.declared.state.Posting.{Posting}
 use Rattle.sh_decide.specs.declared.state.Aim.{Aim}
-use Rattle.sh_decide.specs.declared.state.Aim.TheVariants.{Own, Posts}
+use Rattle.sh_decide.specs.declared.state.Aim.TheVariants.{Own, Gathers, Posts}
 use Rattle.sh_client.specs.declared.state.Then.{Then}
 use Rattle.sh_client.specs.declared.state.Then.TheVariants.{Ends, Starts, Takes}
 use Rattle.sh_client.specs.declared.state.Write.{Write}
@@ -43,11 +43,12 @@ module _ (p : ConfigParts) (s : TreeState) (i f q e : ℕ) (r : Registers) (duty
 
   aimed : (aim : Aim) → duty ≡ duty_of aim → May (pending_aim i r.call r.reply aim)
   aimed Own is = inl refl
+  aimed (Gathers place) is = inl refl
   aimed (Posts post) is = posted post is
 
   followed : (after : Then) → Follows p s i f q e r.call r.reply duty after → May (pending_then i r.call r.reply after)
   followed Ends h = decided p s i f q e r.call r.reply h.decided
-  followed (Starts aim) h = aimed aim h
+  followed (Starts aim) h = aimed aim h.duty_is
   followed (Takes aim n) h = aimed aim h.duty_is
 
   halves : (n fresh : ℕ) (write : Write) (after : Then) → PlansHalf p s i r fresh n write after duty → May (pending_write i r.call r.reply write after)
@@ -62,7 +63,7 @@ module _ (p : ConfigParts) (s : TreeState) (i f q e : ℕ) (r : Registers) (duty
   plans n write after h = inl refl
 
   pub pending_stands : (ph : Phase) → Fits p s i f q e r duty ph → May (pending i r ph)
-  pending_stands (Root aim) h = aimed aim h
+  pending_stands (Root aim) h = aimed aim h.duty_is
   pending_stands (Read aim top) h = aimed aim h.duty_is
   pending_stands (Draw aim n) h = aimed aim h.duty_is
   pending_stands (Look aim n) h = aimed aim h.duty_is

@@ -20,7 +20,7 @@ all_calls P (d ∷ ds) h = ((subst (λ (t : Bool). AllByRecursion P (cond t (d �
     tail seat false k = k
 
 pub refusals_have_causes : (p : ConfigParts) → RefusalsHaveCauses p
-refusals_have_causes p words log Has Out dones inv book = all_calls (λ (d : Done). HasCause p c log d.first d.point d.call d.reply) dones of_seat
+refusals_have_causes p words log Has Out dones inv book = all_calls (λ (d : Done). HasCause p c log d.first d.point d.rows d.call d.reply) dones of_seat
   where
     c : ℕ → ℕ
     c = counter_in p words
@@ -31,5 +31,5 @@ refusals_have_causes p words log Has Out dones inv book = all_calls (λ (d : Don
       | inr h ↦
           let k = inv.kept seat h.0 h.1 in
           let own = causes_on p inv.scene.counter c (λ server lt. omega (arith, inv.ground.shows.each (Counter server) lt)) inv.scene.log [] log (sym inv.log_is ∙ sym (append-nil inv.scene.log)) seat h.0.dones k.answered k.causes in
-          all_numbered (λ (d : Done). HasCause p c log d.first d.point d.call d.reply) (λ n d k. k) h.0.dones (calls_by seat dones) (sym (book.own seat h.0 h.1)) own
+          all_numbered (λ (d : Done). HasCause p c log d.first d.point d.rows d.call d.reply) (λ n d k. k) h.0.dones (calls_by seat dones) (sym (book.own seat h.0 h.1)) own
     ]

@@ -6,6 +6,7 @@ use Rattle.std.proofs.lemmas.List.{ext_get_or}
 use Rattle.std.proofs.lemmas.Option.{slice_get-get_or}
 use Rattle.std.proofs.Math.Seq.{get_or-append_seam}
 use Rattle.sh_base.specs.declared.config.ConfigParts.{ConfigParts}
+use Rattle.sh_readers.proofs.RowLemmas.{rows_linked}
 use Rattle.sh_base.specs.declared.event.Event.TheVariants.{Store}
 use Rattle.sh_base.specs.Setting.{node_size, IsSetting}
 use Rattle.sh_base.specs.Layout.{lock_of, node_word, rear_at, entry_at}
@@ -130,8 +131,8 @@ module _ (p : ConfigParts) (ok : IsSetting p) (words : List ℕ) (Has Now : ℕ 
     x tally = at p seat (record r { tally = tally }) (release giving.node carry giving.after)
 
     released_work : (tally : Tally) (image : List ℕ) (class : ℕ → Class) (post : ℕ → ParentLink) (es : List LogEntry) (q e : ℕ) (duty : Option Posting) → let z : TreeState = t image class post es in
-        Follows p z seat a.first q e r.call r.reply duty giving.after → Owes z seat a.first q e r.call r.reply duty → Waits z seat duty → AreSpares z seat r.spare → Skips z seat (skips_counted tally) → IsAtWork p z seat a.first q e (x tally)
-    released_work tally image class post es q e duty follows owes waits spares skips =
+        ((n l a : ℕ) → s.class n ≡ Linked l a → class n ≡ Linked l a) → Follows p z seat a.first q e r.call r.reply duty giving.after → Owes z seat a.first q e r.call r.reply duty → Waits z seat duty → AreSpares z seat r.spare → Skips z seat (skips_counted tally) → IsAtWork p z seat a.first q e (x tally)
+    released_work tally image class post es q e duty linked follows owes waits spares skips =
         let z : TreeState = t image class post es in
         let l : ℕ = lock_of p giving.node in
         let y : LockState = Held (Seat seat) u.depth in
@@ -143,6 +144,7 @@ module _ (p : ConfigParts) (ok : IsSetting p) (words : List ℕ) (Has Now : ℕ 
           hands = subst (Hands z seat) (sym (release_holding p (record r { tally = tally }) giving.node carry giving.after)) (λ k ne o. hands_keep s seat l y K.work.hands k ne o);
           waits = waits;
           spares = spares;
+          cached = rows_linked p s z linked r.cached K.work.cached;
           skips = skips;
         }
 
@@ -173,7 +175,7 @@ module _ (p : ConfigParts) (ok : IsSetting p) (words : List ℕ) (Has Now : ℕ 
     over_work : (tally : Tally) (image : List ℕ) (entry : LogEntry) → entries_by seat r.call r.reply ≡ entry ∷ [] → skips_counted tally ≡ skips_counted r.tally → giving.after ≡ Ends → K.work.duty ≡ None → IsAtWork p (t image s.class s.post (entry ∷ [])) seat a.first N (N + 1) (x tally)
     over_work tally image entry is sum ends none =
         let z : TreeState = t image s.class s.post (entry ∷ []) in
-        released_work tally image s.class s.post (entry ∷ []) N (N + 1) None
+        released_work tally image s.class s.post (entry ∷ []) N (N + 1) None (λ n l a q. q)
         (subst (Follows p z seat a.first N (N + 1) r.call r.reply None) (sym ends) record { none = refl; decided = decided_by_entry p z seat a.first N (N + 1) r.call r.reply (entry_here entry is) }) tt
         (subst (Waits s seat) none K.work.waits) K.work.spares (skips_on s z seat (skips_counted r.tally) (skips_counted tally) (λ y. refl) sum K.work.skips)
 
@@ -203,7 +205,8 @@ module _ (p : ConfigParts) (ok : IsSetting p) (words : List ℕ) (Has Now : ℕ 
         let z : TreeState = t image class (put links fresh (Pending seat)) es in
         let mid : TreeState = record s { post = links } in
         released_work tally image class (put links fresh (Pending seat)) es q e (Some post)
-        (subst (Follows p z seat a.first q e r.call r.reply (Some post)) (sym after) refl)
+        (λ n l a w. put_else s.class fresh (Linked below separator) n (λ (u : n ≡ fresh). let v : Fresh seat ≡ Linked l a = sym f.own ∙ sym (ap s.class u) ∙ w in cc) ∙ w)
+        (subst (Follows p z seat a.first q e r.call r.reply (Some post)) (sym after) record { duty_is = refl; takes = refl })
         record { below = below; level = refl; linked = put_here s.class fresh (Linked below separator); some = some; past = past; mine = put_here links fresh (Pending seat); entry = entry }
         (λ n ne w. waits n (sym (put_else links fresh (Pending seat) n ne) ∙ w))
         (λ n is. put_else s.class fresh (Linked below separator) n (λ w. omega (arith, w, is.0, f.under)) ∙ K.work.spares n is)
@@ -297,7 +300,7 @@ module _ (p : ConfigParts) (ok : IsSetting p) (words : List ℕ) (Has Now : ℕ 
         let was_off : s.post y.child ≢ Skipped seat = λ q. let z : Pending seat ≡ Skipped seat = sym of.mine ∙ q in cc in
         let decided = decided_by_entry p z seat a.first a.point N r.call r.reply (entry_now carry done g h post f.plan.duty_is) in
         goes_released carry done g h r.tally (now WholeInner) image s.class links act
-        (released_work carry done g h r.tally image s.class links [] a.point N None (subst (Follows p z seat a.first a.point N r.call r.reply None) (sym f.ends) record { none = refl; decided = decided }) tt
+        (released_work carry done g h r.tally image s.class links [] a.point N None (λ n l a q. q) (subst (Follows p z seat a.first a.point N r.call r.reply None) (sym f.ends) record { none = refl; decided = decided }) tt
         (waits_no_more s seat post Posted (λ q. cc) (subst (Waits s seat) f.plan.duty_is (k WholeInner h).work.waits)) (k WholeInner h).work.spares (skips_kept s z seat (skips_counted r.tally) y.child Posted (λ n. refl) was_off (λ q. cc) (k WholeInner h).work.skips))
         (ap (pending_then seat r.call r.reply) f.ends) mv
 

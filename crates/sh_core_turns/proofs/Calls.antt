@@ -1,16 +1,127 @@
 -- A call begins, or is taken away when it has ended.
-use Rattle.std.proofs.Common.{◌≢◌, List, ◌++◌, length, None, refl, ap, ◌∙◌, subst, arith}
+use Rattle.std.proofs.Common.{◌≡◌, ◌≢◌, ℕ, ◌<◌, ◌≤◌, Bool, true, false, List, [], ◌++◌, length, Option, Some, None, refl, sym, ap, ◌∙◌, subst, arith}
+use Rattle.std.specs.Prelude.{if◌then◌else◌}
+use Rattle.std.specs.Option.{option_map}
+use Rattle.std.proofs.lemmas.Bool.Decides.{nat_tests}
 use Rattle.sh_base.specs.declared.config.ConfigParts.{ConfigParts}
 use Rattle.sh_base.specs.Setting.{IsSetting}
+use Rattle.sh_base.proofs.LayoutLemmas.{node_size_is}
+use Rattle.sh_map.specs.declared.call.Call.{Call}
+use Rattle.sh_map.specs.declared.call.Call.TheVariants as call
+use Rattle.sh_map.specs.declared.call.Reply.{Reply}
 use Rattle.sh_map.specs.declared.log.Entry.{Entry as LogEntry}
-use Rattle.sh_state.specs.TreeState.{Seat}
+use Rattle.sh_map.specs.Calls.{IsInRange}
+use Rattle.sh_image.specs.Inner.{Inner}
+use Rattle.sh_image.specs.declared.inner.Image.TheVariants.{Inner as InnerImage}
+use Rattle.sh_descend.specs.Descent.{child_of, hop_of}
+use Rattle.sh_descend.specs.declared.Hop.TheVariants.{Down}
+use Rattle.sh_cache.specs.Cached.{found, FoundBy}
+use Rattle.sh_cache.proofs.FindLemmas.{found_by}
+use Rattle.sh_state.specs.TreeState.{Seat, TreeState}
 use Rattle.sh_state.proofs.Joins.{nothing_done}
+use Rattle.sh_readers.specs.Hand.{AreRowsOf, IsNamed}
+use Rattle.sh_readers.proofs.HandLemmas.{down_named}
+use Rattle.sh_readers.proofs.RowLemmas.{row_found}
+use Rattle.sh_readers.proofs.Gathering.{gathered_begin}
+use Rattle.sh_decide.specs.declared.state.Aim.TheVariants.{Own}
+use Rattle.sh_decide.specs.Aims.{aim_of, aimed_key, call_key, takes_lock, target}
+use Rattle.sh_client.specs.declared.state.Origin.{Origin}
+use Rattle.sh_client.specs.declared.state.Phase.TheVariants.{Read, Draw}
+use Rattle.sh_client.specs.Machine.{Machine, began_cached, reading, to}
+use Rattle.sh_client.specs.Cached.{origin_in}
+use Rattle.sh_client.specs.Feeds.{began_at, begun, calling, from_cached, rows_before}
 use Rattle.sh_client.specs.Rests.{rests}
 use Rattle.sh_core.specs.Actors.{actor_begun, rested, updates}
-use Rattle.sh_core.specs.Keeps.{Hands, Waits}
+use Rattle.sh_core.specs.Fits.{AreSpares, Fits, Gathered, duty_of}
+use Rattle.sh_core.specs.Keeps.{Hands, Skips, Waits, holding, pending, pending_aim, skips_counted}
 use Rattle.sh_core.specs.Core.{Inv, BeginKeeps, RestKeeps}
 use Rattle.sh_core.proofs.Logs.{in_order_later}
-use Rattle.sh_core.proofs.Frame.{nothing_left, before, moves_to}
+use Rattle.sh_core.proofs.Frame.{IsCalm, nothing_left, before, moves_to}
+
+-- What a client is that has begun a call: at the root, or at the child of a cached node.
+record Begun (p : ConfigParts) (s : TreeState) (i n : ℕ) (old m : Machine) (call : Call) : Type 0 where
+  pub seated : (m.setting ≡ old.setting) × (m.seat ≡ old.seat)
+  pub call_is : m.registers.call ≡ call
+  pub spare_is : m.registers.spare ≡ old.registers.spare
+  pub cached_is : m.registers.cached ≡ old.registers.cached
+  pub skips_are : skips_counted m.registers.tally ≡ skips_counted old.registers.tally
+  pub fits : Fits p s i n 0 n m.registers None m.phase
+  pub free : holding p m.registers m.phase ≡ None
+  pub made : pending i m.registers m.phase ≡ []
+  pub calm : IsCalm m.phase
+
+module _ (p : ConfigParts) (ok : IsSetting p) (s : TreeState) (i n : ℕ) (old : Machine) where
+  -- a range has gathered nothing
+  gathers_none : (call : Call) → IsInRange p call → Gathered p s.log n call (rows_before call old.registers.rows) (aim_of call)
+  gathers_none (call.Get key) h = refl
+  gathers_none (call.Put key value) h = refl
+  gathers_none (call.Del key) h = refl
+  gathers_none (call.Range low high) h = record { low = low; high = high; call_is = refl; place_is = h.0; within = h.1; left = omega (arith, ok.ranged.rows.0); gathered = gathered_begin s.log n low }
+
+  no_duty : (call : Call) → None ≡ duty_of (aim_of call)
+  no_duty (call.Get key) = refl
+  no_duty (call.Put key value) = refl
+  no_duty (call.Del key) = refl
+  no_duty (call.Range low high) = refl
+
+  none_made : (call : Call) (r : Reply) → pending_aim i call r (aim_of call) ≡ []
+  none_made (call.Get key) r = refl
+  none_made (call.Put key value) r = refl
+  none_made (call.Del key) r = refl
+  none_made (call.Range low high) r = refl
+
+  at_leaf : (call : Call) → target (aim_of call) ≡ 0
+  at_leaf (call.Get key) = refl
+  at_leaf (call.Put key value) = refl
+  at_leaf (call.Del key) = refl
+  at_leaf (call.Range low high) = refl
+
+  for_key : (call : Call) → aimed_key call (aim_of call) ≡ call_key call
+  for_key (call.Get key) = refl
+  for_key (call.Put key value) = refl
+  for_key (call.Del key) = refl
+  for_key (call.Range low high) = refl
+
+  takes_own : (call : Call) → takes_lock call Own ≡ true → takes_lock call (aim_of call) ≡ true
+  takes_own (call.Get key) e = cc
+  takes_own (call.Put key value) e = refl
+  takes_own (call.Del key) e = refl
+  takes_own (call.Range low high) e = cc
+
+  goes_down : (row : Inner) (key : ℕ) → row.level ≡ 1 → row.low ≤ key → key < row.high → hop_of (InnerImage row) key 0 ≡ Down (child_of row.pairs key)
+  goes_down row key level from below = grind (arith, nat_tests, level, from, below)
+
+  -- the child of a cached node is a leaf that begins no later than the key
+  named_child : (call : Call) (row : Inner) → AreRowsOf s old.registers.cached → found old.registers.cached (call_key call) ≡ Some row → IsNamed s (target (aim_of call)) (child_of row.pairs (call_key call)) (aimed_key call (aim_of call))
+  named_child call row h e =
+      let key : ℕ = call_key call in
+      let f = row_found s key old.registers.cached row h (subst (FoundBy old.registers.cached key) e (found_by old.registers.cached key)) in
+      let named = (down_named s 1 row.low key 0 (InnerImage row) f.0 f.1 0 (child_of row.pairs key) refl (goes_down row key f.0.level_is f.1 f.2)).0 in
+      subst (λ (z : ℕ × ℕ). IsNamed s z.0 (child_of row.pairs (call_key call)) z.1) (λ j. (sym (at_leaf call) j, sym (for_key call) j)) named
+
+  begins : (call : Call) → IsInRange p call → AreRowsOf s old.registers.cached → Begun p s i n old (begun old call) call
+  begins call lawful rows = by (found old.registers.cached (call_key call)) refl
+    where
+      C : Machine
+      C = calling old call
+
+      at_child_of : (o : Origin) (t : Bool) → takes_lock call Own ≡ t → IsNamed s (target (aim_of call)) o.child (aimed_key call (aim_of call)) → let m : Machine = began_cached (from_cached C o.low) in Begun p s i n old (if t then to m (Draw (aim_of call) o.child) else reading m o.child (Read (aim_of call) false)) call
+      at_child_of o true e named = record { seated = (refl, refl); call_is = refl; spare_is = refl; cached_is = refl; skips_are = refl; fits = record { duty_is = no_duty call; takes = takes_own call e; there = named }; free = refl; made = none_made call old.registers.reply; calm = tt }
+      at_child_of o false e named = record {
+        seated = (refl, refl);
+        call_is = refl;
+        spare_is = refl;
+        cached_is = refl;
+        skips_are = refl;
+        fits = record { duty_is = no_duty call; rows = gathers_none call lawful; on_way = record { level = target (aim_of call); named = named; reach = omega arith; left = omega (arith, node_size_is p); known = tt } };
+        free = refl;
+        made = none_made call old.registers.reply;
+        calm = tt;
+      }
+
+      by : (o : Option Inner) → found old.registers.cached (call_key call) ≡ o → Begun p s i n old (began_at C call (option_map (origin_in (call_key call)) o)) call
+      by None e = record { seated = (refl, refl); call_is = refl; spare_is = refl; cached_is = refl; skips_are = refl; fits = record { duty_is = no_duty call; rows = gathers_none call lawful }; free = refl; made = none_made call old.registers.reply; calm = tt }
+      by (Some row) e = at_child_of (origin_in (call_key call) row) (takes_lock call Own) refl (named_child call row rows e)
 
 module _ (p : ConfigParts) (ok : IsSetting p) where
   pub begin_keeps : BeginKeeps p
@@ -19,25 +130,27 @@ module _ (p : ConfigParts) (ok : IsSetting p) where
       let k = inv.kept i a h in
       let w = k.work in
       let no = nothing_left p s i a.first a.point a.seen a.client.registers w.duty a.client.phase rest w.fits in
+      let z = begins p ok s i n a.client call lawful w.cached in
       subst (λ (es : List LogEntry). Inv p words es Now Out) inv.log_is
       (moves_to p ok words Has Now Out i s (before p words log Has Out inv) words s (actor_begun a number call n) (nothing_done p (λ o. o ≢ Seat i) s, inv.ground) record {
         work = record {
-          seated = record { setting_is = w.seated.setting_is; seat_is = w.seated.seat_is; within = w.seated.within; in_range = lawful };
+          seated = record { setting_is = z.seated.0 ∙ w.seated.setting_is; seat_is = z.seated.1 ∙ w.seated.seat_is; within = w.seated.within; in_range = subst (IsInRange p) (sym z.call_is) lawful };
           duty = None;
-          fits = refl;
+          fits = z.fits;
           owes = tt;
-          hands = subst (Hands s i) no.free w.hands;
+          hands = subst (Hands s i) (no.free ∙ sym z.free) w.hands;
           waits = subst (Waits s i) no.none w.waits;
-          spares = w.spares;
-          skips = w.skips;
+          spares = subst (AreSpares s i) (sym z.spare_is) w.spares;
+          cached = subst (AreRowsOf s) (sym z.cached_is) w.cached;
+          skips = subst (Skips s i) (sym z.skips_are) w.skips;
         };
         seen = omega (arith, ap length inv.log_is, within);
         first = omega arith;
         answered = k.answered;
         causes = k.causes;
         ordered = in_order_later 0 a.dones a.first n k.ordered (omega (arith, k.first, past));
-        mine = k.mine ∙ ap (λ (es : List LogEntry). updates a.dones ++ es) no.made;
-      } (λ server. refl) tt mv)
+        mine = k.mine ∙ ap (λ (es : List LogEntry). updates a.dones ++ es) (no.made ∙ sym z.made);
+      } (λ server. refl) z.calm mv)
 
   pub rest_keeps : RestKeeps p
   rest_keeps words log Has Now Out i a inv h ended mv =
@@ -55,6 +168,7 @@ module _ (p : ConfigParts) (ok : IsSetting p) where
           hands = subst (Hands s i) no.free w.hands;
           waits = w.waits;
           spares = w.spares;
+          cached = w.cached;
           skips = w.skips;
         };
         seen = k.seen;

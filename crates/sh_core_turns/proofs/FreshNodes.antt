@@ -2,6 +2,7 @@
 -- over the counters begins.
 use Rattle.std.proofs.Common.{◌≡◌, ℕ, ◌++◌, List, [], length, Option, Some, None, refl, sym, ◌∙◌, ap, subst, arith}
 use Rattle.sh_base.specs.declared.config.ConfigParts.{ConfigParts}
+use Rattle.sh_readers.specs.Hand.{AreRowsOf}
 use Rattle.sh_base.specs.Setting.{IsSetting}
 use Rattle.sh_base.specs.Layout.{lock_of}
 use Rattle.sh_map.specs.Calls.{IsInRange}
@@ -17,7 +18,7 @@ use Rattle.sh_read.specs.Reads.{Reads}
 use Rattle.sh_state.specs.TreeState.{LockState, Owns, Seat, TreeState}
 use Rattle.sh_state.specs.Ground.{Ground}
 use Rattle.sh_decide.specs.declared.state.Posting.{Posting}
-use Rattle.sh_decide.specs.declared.state.Aim.TheVariants.{Own, Posts}
+use Rattle.sh_decide.specs.declared.state.Aim.TheVariants.{Own, Gathers, Posts}
 use Rattle.sh_client.specs.declared.state.Write.TheVariants.{LeftLeaf, LeftInner}
 use Rattle.sh_client.specs.declared.state.Filling.{Filling}
 use Rattle.sh_client.specs.declared.state.Filling.TheVariants.{RightHalf, NewRoot}
@@ -47,6 +48,7 @@ pub record Begins (p : ConfigParts) (s : TreeState) (seat first point seen : ℕ
   pub call_is : registers.call ≡ r.call
   pub skips_are : skips_counted registers.tally ≡ skips_counted r.tally
   pub spare_is : registers.spare ≡ rest
+  pub cached_is : registers.cached ≡ r.cached
   pub fills : FillsWith p s seat registers fresh 0 duty filling
   pub owes : Owes s seat first point seen registers.call registers.reply duty
   pub lock_is : filling_lock p filling ≡ need_lock p r need
@@ -73,6 +75,7 @@ module _ (p : ConfigParts) (ok : IsSetting p) (words : List ℕ) (s : TreeState)
         call_is = refl;
         skips_are = refl;
         spare_is = refl;
+        cached_is = refl;
         fills = record {
           real = (g.sits r.reads.node 0 there.low there.linked).real;
           held = h.holds.held;
@@ -83,6 +86,7 @@ module _ (p : ConfigParts) (ok : IsSetting p) (words : List ℕ) (s : TreeState)
         lock_is = refl;
         pending_is = refl;
       }
+  begins (ToSplit (Gathers place) depth) h = absurd (let z = h.holds.at.takes in cc)
   begins (ToSplit (Posts post) depth) h =
       let there = h.holds.at.there in
       let owed : IsPosting s seat first point seen r.call r.reply post = subst (Owes s seat first point seen r.call r.reply) h.holds.at.duty_is owes in
@@ -96,6 +100,7 @@ module _ (p : ConfigParts) (ok : IsSetting p) (words : List ℕ) (s : TreeState)
         call_is = refl;
         skips_are = refl;
         spare_is = refl;
+        cached_is = refl;
         fills = record {
           real = (g.sits r.reads.node post.level there.low there.linked).real;
           held = h.holds.held;
@@ -115,6 +120,7 @@ module _ (p : ConfigParts) (ok : IsSetting p) (words : List ℕ) (s : TreeState)
         call_is = refl;
         skips_are = refl;
         spare_is = refl;
+        cached_is = refl;
         fills = record { below = h; ready_is = refl; filling = none_filled s seat fresh rest x.fresh_words taken; last = taken.follows };
         owes = owes;
         lock_is = refl;
@@ -127,7 +133,7 @@ needs_on p s t seat r v duty gr nodes holds (ToSplit aim depth) h =
     let n : ℕ = r.reads.node in
     let there = h.holds.at.there in
     record {
-      holds = record { at = record { duty_is = h.holds.at.duty_is; there = named_on p s t seat 0 0 0 0 gr (target aim) n (aimed_key r.call aim) there }; held = ap (λ (f : ℕ → LockState). f (lock_of p n)) holds ∙ h.holds.held };
+      holds = record { at = record { duty_is = h.holds.at.duty_is; takes = h.holds.at.takes; there = named_on p s t seat 0 0 0 0 gr (target aim) n (aimed_key r.call aim) there }; held = ap (λ (f : ℕ → LockState). f (lock_of p n)) holds ∙ h.holds.held };
       to_split = let z = h.to_split in record { standing = z.standing ∙ ap (λ (f : ℕ → List ℕ). f n) (sym nodes); image = z.image; accepted_is = z.accepted_is; split = z.split };
     }
 needs_on p s t seat r v duty gr nodes holds (ToGrow post root) h = below_on p s t seat 0 0 0 0 gr post root duty h
@@ -156,8 +162,8 @@ module _ (p : ConfigParts) (ok : IsSetting p) (words : List ℕ) (Has Now : ℕ 
           let owes = owes_on p s s seat a.first a.point a.seen (length s.log) (same_grows s s seat a.seen (length s.log) (same_here s) k.seen) r.call r.reply k.work.duty k.work.owes in
           let z = begins p ok words s b.ground seat a.first a.point (length s.log) x k.work.seated.in_range k.work.duty owes fresh (without_lowest r.spare) taken to need fits in
           subst Lands (sym z.machine_is) (λ mv. quiet_with p ok words Has Now Out seat s b a r ph (Fill fresh 0 z.filling) z.registers k z.call_is z.skips_are record { fills = z.fills; left = omega (arith, node_size_is p) } z.owes
-          (λ n is. taken.spares n (subst (λ (rest : NodeRange). IsSpare rest n) z.spare_is is)) (subst (Hands s seat) (sym z.lock_is) hands) (z.pending_is ∙ pend) tt mv)
+          (λ n is. taken.spares n (subst (λ (rest : NodeRange). IsSpare rest n) z.spare_is is)) (subst (AreRowsOf s) (sym z.cached_is) k.work.cached) (subst (Hands s seat) (sym z.lock_is) hands) (z.pending_is ∙ pend) tt mv)
       by None low =
           let x : Registers = record r { reads = reads; walk = walk_start p seat } in
           let owes = owes_on p s s seat a.first a.point a.seen (length s.log) (same_grows s s seat a.seen (length s.log) (same_here s) k.seen) r.call r.reply k.work.duty k.work.owes in
-          λ mv. quiet_by p ok words Has Now Out seat s b a r ph (Seek need) x k refl refl record { needs = needs_on p s s seat (record r { reads = reads }) (walk_start p seat) k.work.duty (same_grows s s seat 0 0 (same_here s) (omega arith)) refl refl need fits; seeking = begins_walk p ok s seat r.spare (none_spare s seat r.spare k.work.spares low) } owes k.work.spares (subst (Hands s seat) (sym (need_lock_is p (record r { reads = reads }) (walk_start p seat) need)) hands) pend (λ server q. cc) mv
+          λ mv. quiet_by p ok words Has Now Out seat s b a r ph (Seek need) x k refl refl record { needs = needs_on p s s seat (record r { reads = reads }) (walk_start p seat) k.work.duty (same_grows s s seat 0 0 (same_here s) (omega arith)) refl refl need fits; seeking = begins_walk p ok s seat r.spare (none_spare s seat r.spare k.work.spares low) } owes k.work.spares k.work.cached (subst (Hands s seat) (sym (need_lock_is p (record r { reads = reads }) (walk_start p seat) need)) hands) pend (λ server q. cc) mv

@@ -18,7 +18,7 @@ use Rattle.sh_acts.specs.Acts.{skipped}
 use Rattle.sh_state.proofs.Joins.{nothing_done}
 use Rattle.sh_decide.specs.declared.state.Posting.{Posting}
 use Rattle.sh_decide.specs.declared.state.Aim.{Aim}
-use Rattle.sh_decide.specs.declared.state.Aim.TheVariants.{Own, Posts}
+use Rattle.sh_decide.specs.declared.state.Aim.TheVariants.{Own, Gathers, Posts}
 use Rattle.sh_decide.specs.declared.state.Decision.{Decision}
 use Rattle.sh_decide.specs.declared.state.Decision.TheVariants as decision
 use Rattle.sh_decide.specs.Deciding.{decided_by, decided_here}
@@ -38,18 +38,15 @@ use Rattle.sh_core.specs.Keeps.{KeepsActor}
 use Rattle.sh_core.proofs.Others.{owes_on}
 use Rattle.sh_core.proofs.Frame.{Before, Claim, actor_in, at, moves_to, next, one_log, quiet_with, same_grows, same_here}
 use Rattle.sh_core_turns.proofs.Skipping.{keeps_skipped, skips_act, worn_more}
-use Rattle.sh_core_turns.proofs.UnderLock.{Feeds, K, Lands, M, locked_read, rd, real}
+use Rattle.sh_core_turns.proofs.UnderLock.{calm, kept, Feeds, Lands, M, locked_read, rd, real}
 use Rattle.sh_core_turns.proofs.LeafDecisions.{own_here}
 use Rattle.sh_core_turns.proofs.InnerHalves.{IsFor, adds, decides, post_below}
 use Rattle.sh_core_turns.proofs.FreshNodes.{needs_land}
 
 module _ (p : ConfigParts) (ok : IsSetting p) (words : List ℕ) (Has Now : ℕ → Actor → Type 0) (Out : ℕ → ℕ → ℕ → Type 0) (i : ℕ) (s : TreeState) (b : Before p words Has Out s) (a : Actor) (r : Registers) (post : Posting) (depth : ℕ)
-    (h : Has i (actor_in p i a r (ReadLocked (Posts post) depth))) where
+    (k : KeepsActor p s i (actor_in p i a r (ReadLocked (Posts post) depth))) where
   abbrev ph : Phase
   ph = ReadLocked (Posts post) depth
-
-  abbrev k : KeepsActor p s i (actor_in p i a r ph)
-  k = K p ok words Has Now Out i s b a r (Posts post) depth h
 
   abbrev n : ℕ
   n = r.reads.node
@@ -61,13 +58,13 @@ module _ (p : ConfigParts) (ok : IsSetting p) (words : List ℕ) (Has Now : ℕ 
   node = inner_in (s.node n)
 
   abbrev read : Reads
-  read = rd p ok words Has Now Out i s b a r (Posts post) depth h
+  read = rd p ok words Has Now Out i s b a r (Posts post) depth k
 
   abbrev m : Machine
-  m = M p ok words Has Now Out i s b a r (Posts post) depth h
+  m = M p ok words Has Now Out i s b a r (Posts post) depth k
 
   abbrev To : Machine → Type 0
-  To m = Lands p ok words Has Now Out i s b a r (Posts post) depth h m
+  To m = Lands p ok words Has Now Out i s b a r (Posts post) depth k m
 
   owes : Owes s i a.first a.point N r.call r.reply k.work.duty
   owes = owes_on p s s i a.first a.point a.seen N (same_grows s s i a.seen N (same_here s) k.seen) r.call r.reply k.work.duty k.work.owes
@@ -85,7 +82,7 @@ module _ (p : ConfigParts) (ok : IsSetting p) (words : List ℕ) (Has Now : ℕ 
       one_log p ok words Has Now Out i s b words (skipped s post.node i) refl
       (moves_to p ok words Has Now Out i s b words (skipped s post.node i) (next a N (at p i (record r { tally = tally; reads = read }) (Waiting depth (giving_of n Nothing Ends))))
       (skips_act p ok words s s i a r ph k now same post f.at.duty_is)
-      (keeps_skipped p ok words s s i a r ph k now same post f.at.duty_is tally read r.walk (worn_more p ok words s s i a r ph k now same post f.at.duty_is) n depth f.held (real p ok words Has Now Out i s b a r (Posts post) depth h) k.work.hands refl)
+      (keeps_skipped p ok words s s i a r ph k now same post f.at.duty_is tally read r.walk (worn_more p ok words s s i a r ph k now same post f.at.duty_is) n depth f.held (real p ok words Has Now Out i s b a r (Posts post) depth k) k.work.hands refl)
       (λ server. refl) tt mv)
 
   adds_pair : post.separator < node.high → IsFor p node decision.Add → To (did m (Posts post) depth (InnerImage node) decision.Add)
@@ -94,8 +91,8 @@ module _ (p : ConfigParts) (ok : IsSetting p) (words : List ℕ) (Has Now : ℕ 
       let body : List ℕ = inner_words p (with_pair node (pair_of post)) in
       let plans = subst (λ (duty : Option Posting). PlansInner p s i body n duty Ends) (sym f.at.duty_is) (adds p ok words s b.ground i a.first a.point N r.call r.reply post owed n f.at.there lt d) in
       quiet_with p ok words Has Now Out i s b a r ph (Waiting depth (giving_of n WholeInner Ends)) (record r { reads = read; body = body }) k refl refl
-      record { real = real p ok words Has Now Out i s b a r (Posts post) depth h; held = f.held; plans = plans }
-      owes k.work.spares k.work.hands refl tt mv
+      record { real = real p ok words Has Now Out i s b a r (Posts post) depth k; held = f.held; plans = plans }
+      owes k.work.spares k.work.cached k.work.hands refl tt mv
 
   module _ (is : read.loaded ≡ s.node n) (accepted_is : accepted p read ≡ Some (InnerImage node)) (here : hop_of (InnerImage node) post.separator post.level ≡ Here) where
     below : post.separator < node.high
@@ -116,9 +113,10 @@ module _ (p : ConfigParts) (ok : IsSetting p) (words : List ℕ) (Has Now : ℕ 
 
 -- a READ under a lock, whatever it is for
 module _ (p : ConfigParts) (ok : IsSetting p) (words : List ℕ) (Has Now : ℕ → Actor → Type 0) (Out : ℕ → ℕ → ℕ → Type 0) (i : ℕ) (s : TreeState) (b : Before p words Has Out s) (a : Actor) (r : Registers) where
-  pub locked_reads : (aim : Aim) (depth : ℕ) (h : Has i (actor_in p i a r (ReadLocked aim depth))) → Feeds p ok words Has Now Out i s b a r aim depth h (nat_lt (suc (length r.reads.loaded)) (node_size p))
-  locked_reads Own depth h = locked_read p ok words Has Now Out i s b a r Own depth h (own_here p ok words Has Now Out i s b a r depth h)
-  locked_reads (Posts post) depth h = locked_read p ok words Has Now Out i s b a r (Posts post) depth h (post_here p ok words Has Now Out i s b a r post depth h)
+  pub locked_reads : (aim : Aim) (depth : ℕ) (k : KeepsActor p s i (actor_in p i a r (ReadLocked aim depth))) → Feeds p ok words Has Now Out i s b a r aim depth k (nat_lt (suc (length r.reads.loaded)) (node_size p))
+  locked_reads Own depth k = locked_read p ok words Has Now Out i s b a r Own depth k (own_here p ok words Has Now Out i s b a (calm p ok words Has Now Out i s b a r Own depth k) depth (kept p ok words Has Now Out i s b a r Own depth k))
+  locked_reads (Posts post) depth k = locked_read p ok words Has Now Out i s b a r (Posts post) depth k (post_here p ok words Has Now Out i s b a (calm p ok words Has Now Out i s b a r (Posts post) depth k) post depth (kept p ok words Has Now Out i s b a r (Posts post) depth k))
+  locked_reads (Gathers place) depth k = absurd (let z = k.work.fits.holds.at.takes in cc)
 
   pub locked_claim : (aim : Aim) (depth : ℕ) → Claim p ok words Has Now Out i s b a r (ReadLocked aim depth) (Load (node_word p r.reads.node + (node_size p - 1 - length r.reads.loaded)))
-  locked_claim aim depth h = (locked_reads aim depth h).1
+  locked_claim aim depth h = (locked_reads aim depth (b.kept i (actor_in p i a r (ReadLocked aim depth)) h)).1

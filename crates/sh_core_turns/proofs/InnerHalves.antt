@@ -51,7 +51,7 @@ module _ (p : ConfigParts) (ok : IsSetting p) (words : List ℕ) (s : TreeState)
   node = inner_in (s.node n)
 
   stands : StandsWell p s (s.node n) there.low (Posts post)
-  stands = stands_well p ok words s g seat first point seen n call reply (Posts post) (Some post) refl posting there
+  stands = stands_well p ok words s g seat first point seen n call reply (Posts post) (Some post) refl tt posting there
 
   pub decides : IsFor p node (decided_here p call (Posts post) (InnerImage node))
   decides = by (has_separator node.pairs post.separator) (nat_lt node.version (last_version p)) (nat_lt (length node.pairs) (2 * p.leaf)) stands.right refl refl

@@ -339,7 +339,7 @@ module _ (p : ConfigParts) (ok : IsSetting p) (words : List ℕ) (s : TreeState)
   leaf = leaf_in p (s.node n)
 
   stands : StandsWell p s (s.node n) there.low Own
-  stands = stands_well p ok words s g 0 0 0 0 n call reply.None Own None refl tt there
+  stands = stands_well p ok words s g 0 0 0 0 n call reply.None Own None refl tt tt there
 
   pub own_below : hop_of (LeafImage leaf) (call_key call) 0 ≡ Here → (low_in (s.node n) ≤ call_key call) × (call_key call < high_in (s.node n))
   own_below here = (omega (arith, there.below, (g.sits n 0 there.low there.linked).low_is), (here_is s 0 there.low (call_key call) 0 (LeafImage leaf) stands.image there.below here).1)

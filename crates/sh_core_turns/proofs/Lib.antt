@@ -12,6 +12,7 @@ pub mod Locks
 pub mod LeafHalves
 pub mod InnerHalves
 pub mod FreshNodes
+pub mod Learning
 pub mod UnderLock
 pub mod OnWay
 pub mod LeafDecisions

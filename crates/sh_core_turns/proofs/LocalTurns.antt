@@ -22,12 +22,14 @@ use Rattle.sh_client.specs.declared.state.Phase.TheVariants.{Root, Draw, Look, G
 use Rattle.sh_client.specs.declared.state.Giving.{Giving}
 use Rattle.sh_client.specs.Machine.{Machine, Registers}
 use Rattle.sh_client.specs.Giving.{carried, released, writes_nothing}
+use Rattle.sh_client.specs.Rests.{rows_for}
 use Rattle.sh_core.specs.Actors.{Actor, becomes, ending, actor_stepped, actor_turned}
 use Rattle.sh_core.specs.Fits.{Carries, Fits, Follows, Plans}
 use Rattle.sh_core.specs.Keeps.{holding, Hands, pending, pending_then, pending_write, KeepsActor}
 use Rattle.sh_core.specs.Core.{Inv, Moves}
 use Rattle.sh_core.proofs.Causes.{decided_cause}
 use Rattle.sh_core.proofs.Others.{follows_on}
+use Rattle.sh_core_turns.proofs.Standing.{to_root}
 use Rattle.sh_core.proofs.Frame.{next, actor_in, at, goes_on, ends_now, decided_ends, same_call, work_with, work_ended, same_here, same_grows, IsCalm, Before, stays}
 
 -- a lock that is handed over isn't at the bound
@@ -132,8 +134,8 @@ module _ (p : ConfigParts) (ok : IsSetting p) (words : List ℕ) (Has Now : ℕ 
   leave n word Ends h mv =
       let k = b.kept i (actor_in p i a r (Leave n None Ends)) h in
       let f = k.work.fits.follows in
-      let end = decided_ends p s sn rest i a whole more k.first r.call r.reply f.decided in
+      let end = decided_ends p s sn rest i a r.rows whole more k.first r.call r.reply f.decided in
       stays p ok words Has Now Out i s b (ending i (actor_in p i a r (Leave n None Ends)) sn (at p i r Ended))
-      (ends_now p s s i (actor_in p i a r (Leave n None Ends)) (at p i r Ended) sn k refl (λ server. omega arith) short more (work_ended p s s i a.first a.point a.seen N r (Leave n None Ends) k.work (same_here s) more r refl refl refl f.none k.work.hands) end.answered (decided_cause p s sn i a more r.call r.reply f.decided) end.from end.past refl refl) tt mv
-  leave n word (Starts aim) h mv = let k = b.kept i (actor_in p i a r (Leave n None (Starts aim))) h in goes (Leave n None (Starts aim)) (Root aim) k k.work.fits.follows k.work.hands refl tt mv
+      (ends_now p s s i (actor_in p i a r (Leave n None Ends)) (at p i r Ended) sn k refl (λ server. omega arith) short more (work_ended p s s i a.first a.point a.seen N r (Leave n None Ends) k.work (same_here s) more r refl refl refl refl f.none k.work.hands) end.answered (decided_cause p s sn i a more (rows_for r.call r.rows) r.call r.reply f.decided) end.from end.past refl refl) tt mv
+  leave n word (Starts aim) h mv = let k = b.kept i (actor_in p i a r (Leave n None (Starts aim))) h in goes (Leave n None (Starts aim)) (Root aim) k (to_root p s i a.first r aim k.work.duty k.work.fits.follows) k.work.hands refl tt mv
   leave n word (Takes aim node) h mv = let k = b.kept i (actor_in p i a r (Leave n None (Takes aim node))) h in goes (Leave n None (Takes aim node)) (Draw aim node) k k.work.fits.follows k.work.hands refl tt mv

@@ -17,7 +17,7 @@ use Rattle.sh_acts.proofs.Events.{free_lock}
 use Rattle.sh_readers.specs.Hand.{IsNamed}
 use Rattle.sh_decide.specs.declared.state.Posting.{Posting}
 use Rattle.sh_decide.specs.declared.state.Aim.{Aim}
-use Rattle.sh_decide.specs.declared.state.Aim.TheVariants.{Own, Posts}
+use Rattle.sh_decide.specs.declared.state.Aim.TheVariants.{Own, Gathers, Posts}
 use Rattle.sh_decide.specs.Aims.{is_node, aimed_key, target}
 use Rattle.sh_client.specs.declared.state.Then.{Then}
 use Rattle.sh_client.specs.declared.state.Phase.TheVariants.{Root, Read, Grab, ReadLocked, Unlock, Leave}
@@ -48,12 +48,12 @@ module _ (p : ConfigParts) (ok : IsSetting p) (words : List ℕ) (Has Now : ℕ 
       let short : length (s.node n) ≤ node_size p - 0 = omega (arith, b.ground.long n) in
       let there = named_on p s t i 0 0 0 0 (same_grows s t i 0 0 (same_hold s l x) (omega arith)) (target aim) n (aimed_key r.call aim) f.there in
       advance p ok words Has Now Out i s b a r (set words (lock_word p l) (compute_of p i + 1)) t (Grab aim n) (ReadLocked aim 0) (record r { reads = reads_start n }) k (same_hold s l x) (take_act p words s b.ground i l lt free) (λ server. refl)
-      record { call_is = refl; reply_is = refl; spare_is = refl; skips_are = refl }
-      record { holds = record { at = record { duty_is = f.duty_is; there = there }; held = put_here s.hold l x }; reading = record { left = omega (arith, node_size_is p); standing = drop_of_length-le (s.node n) short } }
+      record { call_is = refl; reply_is = refl; spare_is = refl; skips_are = refl; cached_is = refl }
+      record { holds = record { at = record { duty_is = f.duty_is; takes = f.takes; there = there }; held = put_here s.hold l x }; reading = record { left = omega (arith, node_size_is p); standing = drop_of_length-le (s.node n) short } }
       (hands_take s i l x k.work.hands) refl tt mv
   takes aim n false e h mv =
       let k = b.kept i (actor_in p i a r (Grab aim n)) h in
-      quiet p ok words Has Now Out i s b a r (Grab aim n) (Grab aim n) r k (same_call r) record { duty_is = k.work.fits.duty_is; there = k.work.fits.there } k.work.hands refl tt mv
+      quiet p ok words Has Now Out i s b a r (Grab aim n) (Grab aim n) r k (same_call r) record { duty_is = k.work.fits.duty_is; takes = k.work.fits.takes; there = k.work.fits.there } k.work.hands refl tt mv
 
   pub grab : (aim : Aim) (n : ℕ) → Claim p ok words Has Now Out i s b a r (Grab aim n) (Exchange (lock_word p (lock_of p n)) 0 (compute_of p i + 1))
   grab aim n h mv = takes aim n (get_or words (lock_word p (lock_of p n)) 0 == 0) refl h mv
@@ -78,6 +78,7 @@ module _ (p : ConfigParts) (ok : IsSetting p) (words : List ℕ) (Has Now : ℕ 
 
   reaches : (aim : Aim) (duty : Option Posting) → duty ≡ duty_of aim → Owes s i a.first a.point a.seen r.call r.reply duty → Reaches true (target aim) s.height
   reaches Own duty e o = omega arith
+  reaches (Gathers place) duty e o = omega arith
   reaches (Posts post) duty e o =
       let w = subst (Owes s i a.first a.point a.seen r.call r.reply) e o in
       let le = b.ground.heights post.node w.below post.separator w.linked in
@@ -88,7 +89,7 @@ module _ (p : ConfigParts) (ok : IsSetting p) (words : List ℕ) (Has Now : ℕ 
       let k = b.kept i (actor_in p i a r (Root aim)) h in
       let n : ℕ = get_or words root_word 0 in
       let named : IsNamed s s.height n (aimed_key r.call aim) = record { low = 0; linked = ap s.class root_is ∙ b.ground.root; below = omega arith } in
-      subst (λ (t : Bool). Moves Has i (becomes i (actor_in p i a r (Root aim)) s.log [] (if t then at p i (record r { reads = reads_start n }) (Read aim true) else at p i r (Root aim))) Now → Inv p words (s.log ++ []) Now Out) (sym root_named)
-      (λ mv. quiet p ok words Has Now Out i s b a r (Root aim) (Read aim true) (record r { reads = reads_start n }) k record { call_is = refl; reply_is = refl; spare_is = refl; skips_are = refl }
-      record { duty_is = k.work.fits; on_way = record { level = s.height; named = named; reach = reaches aim k.work.duty k.work.fits k.work.owes; left = omega (arith, node_size_is p); known = tt } }
+      subst (λ (t : Bool). Moves Has i (becomes i (actor_in p i a r (Root aim)) s.log [] (if t then at p i (record r { reads = reads_start n; origin = None }) (Read aim true) else at p i r (Root aim))) Now → Inv p words (s.log ++ []) Now Out) (sym root_named)
+      (λ mv. quiet p ok words Has Now Out i s b a r (Root aim) (Read aim true) (record r { reads = reads_start n; origin = None }) k record { call_is = refl; reply_is = refl; spare_is = refl; skips_are = refl; cached_is = refl }
+      record { duty_is = k.work.fits.duty_is; rows = k.work.fits.rows; on_way = record { level = s.height; named = named; reach = reaches aim k.work.duty k.work.fits.duty_is k.work.owes; left = omega (arith, node_size_is p); known = tt } }
       k.work.hands refl tt mv)

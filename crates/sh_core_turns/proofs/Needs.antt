@@ -2,6 +2,8 @@
 use Rattle.std.proofs.Common.{◌≡◌, ℕ, ◌+◌, ◌≤◌, List, [], length, Some, refl, sym, ap, ◌∙◌, subst, arith, append-nil}
 use Rattle.std.proofs.lemmas.Bool.Decides.{nat_tests}
 use Rattle.sh_base.specs.declared.config.ConfigParts.{ConfigParts}
+use Rattle.sh_readers.specs.Hand.{AreRowsOf}
+use Rattle.sh_readers.proofs.RowLemmas.{rows_linked}
 use Rattle.sh_base.specs.declared.event.Event.{Event}
 use Rattle.sh_base.specs.declared.event.Event.TheVariants.{Add}
 use Rattle.sh_base.specs.Setting.{IsSetting}
@@ -23,7 +25,7 @@ use Rattle.sh_state.specs.Change.{Change}
 use Rattle.sh_state.proofs.Puts.{put_case}
 use Rattle.sh_acts.specs.Acts.{drawn, skipped}
 use Rattle.sh_acts.proofs.Own.{drawn_mine}
-use Rattle.sh_decide.specs.declared.state.Aim.TheVariants.{Own, Posts}
+use Rattle.sh_decide.specs.declared.state.Aim.TheVariants.{Own, Gathers, Posts}
 use Rattle.sh_client.specs.declared.state.Need.{Need}
 use Rattle.sh_client.specs.declared.state.Need.TheVariants.{ToSplit, ToGrow}
 use Rattle.sh_client.specs.declared.state.Then.TheVariants.{Ends}
@@ -120,7 +122,7 @@ module _ (p : ConfigParts) (ok : IsSetting p) (words : List ℕ) (Has : ℕ → 
           let same = counts_alone p seat s now f c in
           let x : Registers = record r { walk = v } in
           counts_to f x ph (chunk.Event e) c
-          (work_with p s t seat a.first a.point a.seen N r ph K.work same K.seen x ph record { call_is = refl; reply_is = refl; spare_is = refl; skips_are = refl }
+          (work_with p s t seat a.first a.point a.seen N r ph K.work same K.seen x ph record { call_is = refl; reply_is = refl; spare_is = refl; skips_are = refl; cached_is = refl }
           record { needs = needs_on p s t seat r v K.work.duty (same_grows s t seat 0 0 same (omega arith)) refl refl need K.work.fits.needs; seeking = here } (subst (Hands t seat) (sym (need_lock_is p r v need)) (hands_same s t seat refl (need_lock p r need) K.work.hands)))
           refl (λ server q. ap chunk.Event (event_is e (Add (counter_word p server)) (sym (ap count_of at) ∙ q)))
 
@@ -137,7 +139,7 @@ module _ (p : ConfigParts) (ok : IsSetting p) (words : List ℕ) (Has : ℕ → 
           let x : Machine = at p seat z.registers (Fill fresh 0 z.filling) in
           let spares = subst (AreSpares t seat) (sym z.spare_is) taken.spares in
           let hands = subst (Hands t seat) (sym (z.lock_is ∙ need_lock_is p r v need)) (hands_same s t seat refl (need_lock p r need) K.work.hands) in
-          let work = work_anew p s t seat a.first a.point a.seen N r ph K.work (λ n. refl) z.registers (Fill fresh 0 z.filling) z.call_is z.skips_are record { fills = z.fills; left = omega (arith, node_size_is p) } z.owes spares hands in
+          let work = work_anew p s t seat a.first a.point a.seen N r ph K.work (λ n. refl) z.registers (Fill fresh 0 z.filling) z.call_is z.skips_are record { fills = z.fills; left = omega (arith, node_size_is p) } z.owes spares (subst (AreRowsOf t) (sym z.cached_is) (rows_linked p s t act.0.linked r.cached K.work.cached)) hands in
           subst (λ (m : Machine). Reached p seat s now (counted_on s server) w (becomes seat (actor_in p seat a r ph) s.log [] m)) (sym z.machine_is)
           record { scene = t; act = act; log = refl; counts = λ u. refl; keeps = goes_on p s t seat N (actor_in p seat a r ph) x K refl (counted_rise s server) K.seen (omega arith) work z.pending_is; adds = λ u q. absurd (cc) }
 
@@ -162,8 +164,9 @@ module _ (p : ConfigParts) (ok : IsSetting p) (words : List ℕ) (Has : ℕ → 
       let to : Phase = Waiting depth (giving_of n Nothing Ends) in
       counts_to need h now v f x to chunk.AllSpent c
       (work_anew p s t seat a.first a.point a.seen N r (Seek need) k.work (λ n. refl) x to refl refl
-      record { real = (b.ground.sits n 0 there.low there.linked).real; held = z.holds.held; plans = record { none = z.holds.at.duty_is; decided = end.0 } } (subst (Owes t seat a.first a.point N r.call reply.Full) (sym z.holds.at.duty_is) tt) k.work.spares k.work.hands)
+      record { real = (b.ground.sits n 0 there.low there.linked).real; held = z.holds.held; plans = record { none = z.holds.at.duty_is; decided = end.0 } } (subst (Owes t seat a.first a.point N r.call reply.Full) (sym z.holds.at.duty_is) tt) k.work.spares (rows_linked p s t (λ m l a q. q) r.cached k.work.cached) k.work.hands)
       end.1 (λ server q. absurd (cc))
+  spent (ToSplit (Gathers place) depth) h now v f c all = absurd (let z = (K (ToSplit (Gathers place) depth) h).work.fits.needs.holds.at.takes in cc)
   spent (ToSplit (Posts post) depth) h now v f c all =
       let need : Need = ToSplit (Posts post) depth in
       let ph : Phase = Seek need in

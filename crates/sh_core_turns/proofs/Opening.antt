@@ -26,6 +26,7 @@ new_keeps p s seat lt hands waits skips made = record {
     hands = hands;
     waits = waits;
     spares = λ n is. absurd (omega (arith, is.0, is.1));
+    cached = tt;
     skips = record { nodes = []; once = tt; are = λ n. ((λ e. absurd (cc)), (λ e. absurd (skips n e))); counted = refl };
   };
   seen = omega arith;

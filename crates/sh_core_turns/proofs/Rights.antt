@@ -19,12 +19,14 @@ use Rattle.sh_client.specs.declared.state.Then.TheVariants.{Ends, Starts, Takes}
 use Rattle.sh_client.specs.declared.state.Phase.{Phase}
 use Rattle.sh_client.specs.declared.state.Phase.TheVariants.{Root, Draw, Look, ReadLocked, Leave, Ended}
 use Rattle.sh_client.specs.Machine.{Machine, Registers, handed_over}
+use Rattle.sh_client.specs.Rests.{rows_for}
 use Rattle.sh_core.specs.Actors.{Actor, ending, actor_stepped, actor_turned}
 use Rattle.sh_core.specs.Fits.{Fits}
 use Rattle.sh_core.specs.Keeps.{holding, Hands, pending, KeepsActor}
 use Rattle.sh_core.specs.Core.{Inv, Moves, SomeAdds}
 use Rattle.sh_core.proofs.Causes.{decided_cause}
 use Rattle.sh_core.proofs.Others.{at_on, seat_apart, adds_before, bounded_less, step_to}
+use Rattle.sh_core_turns.proofs.Standing.{to_root}
 use Rattle.sh_core.proofs.Frame.{next, actor_in, at, goes_on, ends_now, decided_ends, work_with, work_ended, same_grows, IsCalm, no_add, Before, same_hold, hands_take, hands_drop}
 
 module _ (p : ConfigParts) (ok : IsSetting p) (words : List ℕ) (Has Now : ℕ → Actor → Type 0) (Out After : ℕ → ℕ → ℕ → Type 0) (i : ℕ) (s : TreeState) (b : Before p words Has Out s)
@@ -60,7 +62,7 @@ module _ (p : ConfigParts) (ok : IsSetting p) (words : List ℕ) (Has Now : ℕ 
       let y : Registers = record r { reads = reads_start n } in
       hands_to (λ o. (o ≢ Grant (compute_of p i)) × (o ≢ Seat i)) (λ j ne. (λ q. cc, seat_apart j i ne)) l x (next a (length sn) (at p i y (ReadLocked aim depth))) ch
       (goes_on p s t i (length sn) (actor_in p i a r (Look aim n)) (at p i y (ReadLocked aim depth)) k refl (λ server. omega arith) more short
-      (work_with p s t i a.first a.point a.seen (length sn) r (Look aim n) k.work same more y (ReadLocked aim depth) record { call_is = refl; reply_is = refl; spare_is = refl; skips_are = refl } record {
+      (work_with p s t i a.first a.point a.seen (length sn) r (Look aim n) k.work same more y (ReadLocked aim depth) record { call_is = refl; reply_is = refl; spare_is = refl; skips_are = refl; cached_is = refl } record {
         holds = record { at = at_on p s t i 0 0 0 0 (same_grows s t i 0 0 same (omega arith)) r.call aim n k.work.duty f; held = put_here s.hold l x };
         reading = record { left = omega (arith, node_size_is p); standing = drop_of_length-le (s.node n) short_node };
       }
@@ -104,18 +106,18 @@ module _ (p : ConfigParts) (ok : IsSetting p) (words : List ℕ) (Has Now : ℕ 
         let q : Machine = at p i given_over to in
         puts_out after k (next a (length sn) q)
         (goes_on p s T i (length sn) (actor_in p i a r (Leave n (Some depth) after)) q k refl (λ server. omega arith) more short
-        (work_with p s T i a.first a.point a.seen (length sn) r (Leave n (Some depth) after) k.work (same_hold s (lock_of p n) (Held (Grant (compute_of p i)) depth)) more given_over to record { call_is = refl; reply_is = refl; spare_is = refl; skips_are = refl } fits (subst (Hands T i) (sym off) (dropped after k))) same) calm mv
+        (work_with p s T i a.first a.point a.seen (length sn) r (Leave n (Some depth) after) k.work (same_hold s (lock_of p n) (Held (Grant (compute_of p i)) depth)) more given_over to record { call_is = refl; reply_is = refl; spare_is = refl; skips_are = refl; cached_is = refl } fits (subst (Hands T i) (sym off) (dropped after k))) same) calm mv
 
     pub parts_with : (word : ℕ) (after : Then) → Has i (actor_in p i a r (Leave n (Some depth) after)) → Moves Has i (actor_stepped i (actor_in p i a r (Leave n (Some depth) after)) sn word) Now → Inv p words s.log Now After
     parts_with word Ends h mv =
         let k = b.kept i (actor_in p i a r (Leave n (Some depth) Ends)) h in
         let f = k.work.fits.follows in
-        let end = decided_ends p s sn rest i a whole more k.first r.call r.reply f.decided in
+        let end = decided_ends p s sn rest i a r.rows whole more k.first r.call r.reply f.decided in
         let q : Machine = at p i given_over Ended in
         puts_out Ends k (ending i (actor_in p i a r (Leave n (Some depth) Ends)) sn q)
         (ends_now p s T i (actor_in p i a r (Leave n (Some depth) Ends)) q sn k refl (λ server. omega arith) short more
-        (work_ended p s T i a.first a.point a.seen (length sn) r (Leave n (Some depth) Ends) k.work (same_hold s (lock_of p n) (Held (Grant (compute_of p i)) depth)) more given_over refl refl refl f.none (dropped Ends k)) end.answered (decided_cause p s sn i a more r.call r.reply f.decided) end.from end.past refl refl) tt mv
-    parts_with word (Starts aim) h mv = let k = b.kept i (actor_in p i a r (Leave n (Some depth) (Starts aim))) h in goes_off (Starts aim) (Root aim) k k.work.fits.follows refl refl tt mv
+        (work_ended p s T i a.first a.point a.seen (length sn) r (Leave n (Some depth) Ends) k.work (same_hold s (lock_of p n) (Held (Grant (compute_of p i)) depth)) more given_over refl refl refl refl f.none (dropped Ends k)) end.answered (decided_cause p s sn i a more (rows_for r.call r.rows) r.call r.reply f.decided) end.from end.past refl refl) tt mv
+    parts_with word (Starts aim) h mv = let k = b.kept i (actor_in p i a r (Leave n (Some depth) (Starts aim))) h in goes_off (Starts aim) (Root aim) k (to_root p T i a.first given_over aim k.work.duty k.work.fits.follows) refl refl tt mv
     parts_with word (Takes aim node) h mv =
         let k = b.kept i (actor_in p i a r (Leave n (Some depth) (Takes aim node))) h in
         goes_off (Takes aim node) (Draw aim node) k (at_on p s T i 0 0 0 0 (same_grows s T i 0 0 (same_hold s (lock_of p n) (Held (Grant (compute_of p i)) depth)) (omega arith)) r.call aim node k.work.duty k.work.fits.follows) refl refl tt mv

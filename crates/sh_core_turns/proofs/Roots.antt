@@ -5,6 +5,7 @@ use mathlib.Core.Logic.{dite}
 use native.Mathlib.Decide.{ℕ_discrete}
 use Rattle.std.proofs.lemmas.List.{ext_get_or}
 use Rattle.sh_base.specs.declared.config.ConfigParts.{ConfigParts}
+use Rattle.sh_readers.proofs.RowLemmas.{rows_linked}
 use Rattle.sh_base.specs.declared.event.Event.TheVariants.{Exchange}
 use Rattle.sh_base.specs.Setting.{node_size, IsSetting}
 use Rattle.sh_base.specs.Layout.{root_word}
@@ -22,6 +23,7 @@ use Rattle.sh_decide.specs.declared.state.Posting.{Posting}
 use Rattle.sh_decide.specs.declared.state.Aim.TheVariants.{Posts}
 use Rattle.sh_client.specs.declared.state.Phase.TheVariants.{Root, Swap, Ended}
 use Rattle.sh_client.specs.Machine.{Registers}
+use Rattle.sh_client.specs.Rests.{rows_for}
 use Rattle.sh_core.specs.Actors.{Actor, becomes, ending}
 use Rattle.sh_core.specs.Fits.{Owes}
 use Rattle.sh_core.specs.Keeps.{skips_counted, Waits}
@@ -51,7 +53,7 @@ module _ (p : ConfigParts) (ok : IsSetting p) (words : List ℕ) (Has Now : ℕ 
       let ch = root_act p words s b.ground seat fresh root c post.separator ok root_is child w.some w.past w.mine f.filling.own words_are in
       let t : TreeState = grown s fresh c in
       let decided = decided_by_entry p s seat a.first a.point a.seen r.call r.reply w.entry in
-      let end = decided_ends p s s.log [] seat a (sym (append-nil s.log)) k.seen k.first r.call r.reply decided in
+      let end = decided_ends p s s.log [] seat a r.rows (sym (append-nil s.log)) k.seen k.first r.call r.reply decided in
       let off : s.post c ≢ Skipped seat = λ q. let z : Pending seat ≡ Skipped seat = sym w.mine ∙ q in cc in
       one_log p ok words Has Now Out seat s b (set words root_word fresh) t refl
       (moves_to p ok words Has Now Out seat s b (set words root_word fresh) t (ending seat (actor_in p seat a r (Swap post root fresh)) s.log (at p seat r Ended)) ch
@@ -62,15 +64,17 @@ module _ (p : ConfigParts) (ok : IsSetting p) (words : List ℕ) (Has Now : ℕ 
         owes = tt;
         hands = k.work.hands;
         waits = waits_no_more s seat post Posted (λ q. cc) (subst (Waits s seat) f.below.duty_is k.work.waits);
+        cached = rows_linked p s t ch.0.linked r.cached k.work.cached;
         spares = λ n is. put_else s.class fresh (Linked (suc s.height) 0) n (λ q. omega (arith, q, is.0, f.filling.under)) ∙ k.work.spares n is;
         skips = skips_kept s t seat (skips_counted r.tally) c Posted (λ n. refl) off (λ q. cc) k.work.skips;
-      } end.answered (decided_cause p s s.log seat a k.seen r.call r.reply decided) end.from end.past refl refl) (λ server. refl) tt mv)
+      } end.answered (decided_cause p s s.log seat a k.seen (rows_for r.call r.rows) r.call r.reply decided) end.from end.past refl refl) (λ server. refl) tt mv)
   swaps post root fresh false e h mv =
       let k = b.kept seat (actor_in p seat a r (Swap post root fresh)) h in
       let f = k.work.fits in
-      quiet_with p ok words Has Now Out seat s b a r (Swap post root fresh) (Root (Posts post)) (record r { spare = with_lowest fresh r.spare }) k refl refl f.below.duty_is
+      quiet_with p ok words Has Now Out seat s b a r (Swap post root fresh) (Root (Posts post)) (record r { spare = with_lowest fresh r.spare }) k refl refl record { duty_is = f.below.duty_is; rows = tt }
       (owes_on p s s seat a.first a.point a.seen (length s.log) (same_grows s s seat a.seen (length s.log) (same_here s) k.seen) r.call r.reply k.work.duty k.work.owes)
       (λ x is. dite (ℕ_discrete x fresh) (λ (q : x ≡ fresh). ap s.class q ∙ f.filling.own) (λ (ne : x ≢ fresh). k.work.spares x (omega (arith, is.0, ne, f.last), omega (arith, is.1, f.last))))
+      k.work.cached
       k.work.hands refl tt mv
 
   pub swap : (post : Posting) (root fresh : ℕ) → Claim p ok words Has Now Out seat s b a r (Swap post root fresh) (Exchange root_word root fresh)

@@ -16,7 +16,7 @@ use Rattle.sh_descend.specs.Descent.{hop_of}
 use Rattle.sh_state.specs.TreeState.{TreeState}
 use Rattle.sh_decide.specs.declared.state.Posting.{Posting}
 use Rattle.sh_decide.specs.declared.state.Aim.{Aim}
-use Rattle.sh_decide.specs.declared.state.Aim.TheVariants.{Own, Posts}
+use Rattle.sh_decide.specs.declared.state.Aim.TheVariants.{Own, Gathers, Posts}
 use Rattle.sh_decide.specs.declared.state.Decision.TheVariants as decision
 use Rattle.sh_decide.specs.Aims.{aimed_key, target}
 use Rattle.sh_decide.specs.Deciding.{decided_by, decided_here}
@@ -46,6 +46,7 @@ split_kind p c aim image hop e = kind aim image (sym (ap (decided_by p c aim ima
     kind : (aim : Aim) (image : Image) → decided_here p c aim image ≡ decision.Split → is_other_kind aim image ≡ false
     kind Own (LeafImage a) e = refl
     kind Own (InnerImage a) e = cc
+    kind (Gathers place) image e = cc
     kind (Posts post) (LeafImage a) e = cc
     kind (Posts post) (InnerImage a) e = refl
 
@@ -64,8 +65,8 @@ module _ (p : ConfigParts) (ok : IsSetting p) (words : List ℕ) (Has : ℕ → 
 
   sound : (ph : Phase) (e : Event) → want_in (at p i r ph) ph ≡ want.Event e → Sound ph e
   sound (Root aim) e q h = subst (Sound (Root aim)) (event_is _ e q) (λ h. ap not (root_named p ok words Has Has Out i s b a r)) h
-  sound (Read aim top) e q h = subst (Sound (Read aim top)) (load_is p r.reads e q) (λ h. (way_read p ok words Has Has Out i s b a r aim top h).0) h
-  sound (ReadLocked aim depth) e q h = subst (Sound (ReadLocked aim depth)) (load_is p r.reads e q) (λ h. (locked_reads p ok words Has Has Out i s b a r aim depth h).0) h
+  sound (Read aim top) e q h = subst (Sound (Read aim top)) (load_is p r.reads e q) (λ h. (way_read p ok words Has Has Out i s b a r aim top (b.kept i (actor_in p i a r (Read aim top)) h)).0) h
+  sound (ReadLocked aim depth) e q h = subst (Sound (ReadLocked aim depth)) (load_is p r.reads e q) (λ h. (locked_reads p ok words Has Has Out i s b a r aim depth (b.kept i (actor_in p i a r (ReadLocked aim depth)) h)).0) h
   sound (Seek need) e q h =
       let k = b.kept i (actor_in p i a r (Seek need)) h in
       walks_well (splits_other_kind (at p i r (Seek need)) need) (walk_wants p (walk_fed p r.walk (found_by words e))) (no_other_kind p s i r k.work.duty (Seek need) need k.work.fits.needs)

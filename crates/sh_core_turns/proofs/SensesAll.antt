@@ -1,5 +1,5 @@
 -- A client starts again in the senseless cases, and in no other.
-use Rattle.std.proofs.Common.{◌≡◌, ◌≢◌, ℕ, ◌+◌, Bool, true, false, List, ◌∷◌, length, Option, Some, None, refl, sym, ap, ◌∙◌}
+use Rattle.std.proofs.Common.{◌≡◌, ℕ, ◌+◌, Bool, true, false, List, ◌∷◌, length, Option, Some, None, refl, sym, ap, ◌∙◌}
 use Rattle.std.specs.Prelude.{◌==◌, ◌&&◌, ◌*◌, not, if◌then◌else◌, nat_lt}
 use Rattle.sh_base.specs.declared.config.ConfigParts.{ConfigParts}
 use Rattle.sh_base.specs.Setting.{node_size, last_version, last_entry_version}
@@ -25,7 +25,7 @@ use Rattle.sh_descend.specs.declared.Hop.TheVariants.{Here, Right, Down, Restart
 use Rattle.sh_descend.specs.Descent.{hop_of, level_of}
 use Rattle.sh_decide.specs.declared.state.Posting.{Posting}
 use Rattle.sh_decide.specs.declared.state.Aim.{Aim}
-use Rattle.sh_decide.specs.declared.state.Aim.TheVariants.{Own, Posts}
+use Rattle.sh_decide.specs.declared.state.Aim.TheVariants.{Own, Gathers, Posts}
 use Rattle.sh_decide.specs.declared.state.Way.{Way}
 use Rattle.sh_decide.specs.declared.state.Way.TheVariants as way
 use Rattle.sh_decide.specs.declared.state.Decision.{Decision}
@@ -34,13 +34,16 @@ use Rattle.sh_client.specs.declared.state.Need.{Need}
 use Rattle.sh_client.specs.declared.state.Need.TheVariants.{ToSplit, ToGrow}
 use Rattle.sh_client.specs.declared.state.Phase.{Phase}
 use Rattle.sh_client.specs.declared.state.Phase.TheVariants.{Root, Read, ReadLocked, Seek}
-use Rattle.sh_client.specs.Machine.{Machine, sparing, to}
-use Rattle.sh_decide.specs.Aims.{is_node, aimed_key, takes_lock, target}
+use Rattle.sh_client.specs.Machine.{Machine, reading, sparing, to}
+use Rattle.sh_decide.specs.Aims.{aimed_key, end_of, is_node, takes_lock, target}
 use Rattle.sh_decide.specs.Leaves.{are_keys_once, index_of, version_at}
-use Rattle.sh_decide.specs.Ways.{is_below, way_by, way_here}
+use Rattle.sh_decide.specs.Ways.{is_below, way_by, way_here, way_of}
 use Rattle.sh_decide.specs.Deciding.{change_at, decided_by, decided_here, has_separator, post_in, put_in, put_into, del_in, unless_worn, update_in}
 use Rattle.sh_client.specs.Splitting.{chunk_taken, root_grown, halved_by, needing, sought_by, walked}
-use Rattle.sh_client.specs.Feeds.{arrived, did, fed_in, held_by, hold_by, loaded, read_by, reading, went}
+use Rattle.sh_client.specs.Feeds.{arrived, did, fed_in, from_root, held_by, hold_by, loaded, read_by, went}
+use Rattle.sh_client.specs.Cached.{learning, settling}
+use Rattle.sh_client.specs.Ranges.{gathering, is_whole, range_ended}
+use Rattle.sh_client.specs.declared.state.Edge.{Edge}
 use Rattle.sh_core_turns.specs.Senses.{is_other_kind, is_wrong, is_wrong_by, is_wrong_here, lacks_answer, of_image, of_read, of_walk, strays, strays_by, is_at_root, gives_back, leaves_off, starts_again, is_senseless_in, splits_other_kind, IsMade, AreAllCases}
 use Rattle.sh_core_turns.proofs.Senses.{split_kind}
 
@@ -53,39 +56,63 @@ module _ (m : Machine) where
   grows_over : (top : Bool) (aim : Aim) (image : Image) → (top && is_below aim image) ≡ true → false ≡ is_at_root (root_grown m aim m.registers.reads.node).phase
   grows_over true Own image e = cc
   grows_over false Own image e = cc
+  grows_over true (Gathers place) image e = cc
+  grows_over false (Gathers place) image e = cc
   grows_over top (Posts post) image e = grows post m.registers.reads.node (lowest m.registers.spare)
 
-  covers : (c : Call) (aim : Aim) (image : Image) → ((low high : ℕ) → c ≢ call.Range low high) → lacks_answer c aim image ≡ is_at_root (went m aim image (way_here c aim m.registers.reads.node image)).phase
-  covers c (Posts post) (LeafImage a) h = refl
-  covers c (Posts post) (InnerImage a) h = refl
-  covers (call.Range low high) Own image h = absurd (h low high refl)
-  covers c Own (LeafImage a) h = refl
-  covers c Own (InnerImage a) h = refl
+  ranges : (place : ℕ) (a : Leaf) (whole real : Bool) (edge : Edge) (x : Machine) → (if whole then false else not real) ≡ is_at_root (if whole then range_ended x else (if real then reading x edge.next (Read (Gathers edge.high) false) else to x (Root (Gathers edge.high)))).phase
+  ranges place a true real edge x = refl
+  ranges place a false true edge x = refl
+  ranges place a false false edge x = refl
+
+  covers : (aim : Aim) (image : Image) → let c : Call = m.registers.call in lacks_answer m.setting c m.registers.rows aim image ≡ is_at_root (went m aim image (way_here c aim m.registers.reads.node image)).phase
+  covers (Posts post) (LeafImage a) = refl
+  covers (Posts post) (InnerImage a) = refl
+  covers (Gathers place) (InnerImage a) = refl
+  covers (Gathers place) (LeafImage a) =
+      let x : Machine = gathering m place (LeafImage a) in
+      ranges place a (is_whole m.setting.rows (end_of m.registers.call) a.high x.registers.rows) (is_node m.setting a.next) record { high = a.high; next = a.next } x
+  covers Own image = owns m.registers.call image
+    where
+      owns : (c : Call) (image : Image) → lacks_answer m.setting c m.registers.rows Own image ≡ is_at_root (went m Own image (way_here c Own m.registers.reads.node image)).phase
+      owns (call.Get key) (LeafImage a) = refl
+      owns (call.Get key) (InnerImage a) = refl
+      owns (call.Put key value) (LeafImage a) = refl
+      owns (call.Put key value) (InnerImage a) = refl
+      owns (call.Del key) (LeafImage a) = refl
+      owns (call.Del key) (InnerImage a) = refl
+      owns (call.Range low high) (LeafImage a) = refl
+      owns (call.Range low high) (InnerImage a) = refl
 
   off_root : (aim : Aim) (image : Image) (n t : Bool) (v w : Way) → is_at_root (went m aim image v).phase ≡ false → is_at_root (went m aim image w).phase ≡ false → not n ≡ is_at_root (went m aim image (if n then (if t then v else w) else way.Root)).phase
   off_root aim image true true v w h k = sym h
   off_root aim image true false v w h k = sym k
   off_root aim image false t v w h k = refl
 
-  leads : (p : ConfigParts) (c : Call) (aim : Aim) (image : Image) (hop : Hop) → ((low high : ℕ) → c ≢ call.Range low high) → strays_by p c aim image hop ≡ is_at_root (went m aim image (way_by p c aim m.registers.reads.node image hop)).phase
-  leads p c aim image Here h = covers c aim image h
-  leads p c aim image (Right r) h = off_root aim image (is_node p r) (takes_lock c aim && (level_of image == target aim)) (way.LockRight r) (way.Right r) refl refl
-  leads p c aim image (Down r) h = off_root aim image (is_node p r) (takes_lock c aim && (level_of image == target aim + 1)) (way.Lock r) (way.Read r) refl refl
-  leads p c aim image Restart h = refl
+  leads : (aim : Aim) (image : Image) (hop : Hop) → let c : Call = m.registers.call in strays_by m.setting c m.registers.rows aim image hop ≡ is_at_root (went m aim image (way_by m.setting c aim m.registers.reads.node image hop)).phase
+  leads aim image Here = covers aim image
+  leads aim image (Right r) = off_root aim image (is_node m.setting r) (takes_lock m.registers.call aim && (level_of image == target aim)) (way.LockRight r) (way.Right r) refl refl
+  leads aim image (Down r) = off_root aim image (is_node m.setting r) (takes_lock m.registers.call aim && (level_of image == target aim + 1)) (way.Lock r) (way.Read r) refl refl
+  leads aim image Restart = refl
 
-  arrives : (aim : Aim) (top : Bool) (o : Option Image) → ((low high : ℕ) → m.registers.call ≢ call.Range low high) → of_image (λ (x : Image). strays m.setting m.registers.call aim top x) o ≡ is_at_root (arrived m aim top o).phase
-  arrives aim top None h = refl
-  arrives aim top (Some image) h = by (top && is_below aim image) refl
+  goes : (aim : Aim) (top : Bool) (image : Image) → strays m.setting m.registers.call m.registers.rows aim top image ≡ is_at_root (went m aim image (way_of m.setting m.registers.call aim top m.registers.reads.node image)).phase
+  goes aim top image = by (top && is_below aim image) refl
     where
-      by : (t : Bool) → (top && is_below aim image) ≡ t → (if t then false else strays_by m.setting m.registers.call aim image (hop_of image (aimed_key m.registers.call aim) (target aim))) ≡ is_at_root (went m aim image (if t then way.Grow else way_by m.setting m.registers.call aim m.registers.reads.node image (hop_of image (aimed_key m.registers.call aim) (target aim)))).phase
+      by : (t : Bool) → (top && is_below aim image) ≡ t → (if t then false else strays_by m.setting m.registers.call m.registers.rows aim image (hop_of image (aimed_key m.registers.call aim) (target aim))) ≡ is_at_root (went m aim image (if t then way.Grow else way_by m.setting m.registers.call aim m.registers.reads.node image (hop_of image (aimed_key m.registers.call aim) (target aim)))).phase
       by true e = grows_over top aim image e
-      by false e = leads m.setting m.registers.call aim image (hop_of image (aimed_key m.registers.call aim) (target aim)) h
+      by false e = leads aim image (hop_of image (aimed_key m.registers.call aim) (target aim))
 
-  reads : (aim : Aim) (top : Bool) (v : Progress) → ((low high : ℕ) → m.registers.call ≢ call.Range low high) → of_read false (of_image (λ (x : Image). strays m.setting m.registers.call aim top x) (accepted m.setting m.registers.reads)) v ≡ is_at_root (read_by m aim top v).phase
-  reads aim top More h = refl
-  reads aim top Accepted h = arrives aim top (accepted m.setting m.registers.reads) h
-  reads aim top (Again rear front) h = refl
-  reads aim top Odd h = refl
+-- what was learnt of the image is nothing to that
+module _ (m : Machine) where
+  arrives : (aim : Aim) (top : Bool) (o : Option Image) → of_image (λ (x : Image). strays m.setting m.registers.call m.registers.rows aim top x) o ≡ is_at_root (arrived m aim top o).phase
+  arrives aim top None = refl
+  arrives aim top (Some image) = goes (learning m aim image) aim top image
+
+  reads : (aim : Aim) (top : Bool) (v : Progress) → of_read false (of_image (λ (x : Image). strays m.setting m.registers.call m.registers.rows aim top x) (accepted m.setting m.registers.reads)) v ≡ is_at_root (read_by m aim top v).phase
+  reads aim top More = refl
+  reads aim top Accepted = arrives aim top (accepted m.setting m.registers.reads)
+  reads aim top (Again rear front) = refl
+  reads aim top Odd = refl
 
 -- ---- READs under a lock
 
@@ -131,6 +158,7 @@ decides_here p c Own (LeafImage a) h = by (are_keys_once a.entries)
     by true = sym (updates p a c h)
     by false = refl
 decides_here p c Own (InnerImage a) h = refl
+decides_here p c (Gathers place) image h = cc
 decides_here p c (Posts post) (LeafImage a) h = refl
 decides_here p c (Posts post) (InnerImage a) h = by (has_separator a.pairs post.separator)
   where
@@ -157,6 +185,7 @@ module _ (m : Machine) where
   halves x aim depth fresh None = (refl, λ loaded. refl)
   halves x Own depth fresh (Some (LeafImage a)) = (refl, λ loaded. refl)
   halves x Own depth fresh (Some (InnerImage a)) = (refl, λ loaded. refl)
+  halves x (Gathers place) depth fresh (Some image) = (refl, λ loaded. refl)
   halves x (Posts post) depth fresh (Some (LeafImage a)) = (refl, λ loaded. refl)
   halves x (Posts post) depth fresh (Some (InnerImage a)) = (refl, λ loaded. refl)
 
@@ -171,16 +200,21 @@ module _ (m : Machine) where
   does aim depth image decision.Split h = splits aim depth (lowest m.registers.spare) (h refl)
   does aim depth image d h = refl
 
-  holds : (aim : Aim) (depth : ℕ) (o : Option Image) → seen ≡ o → takes_lock m.registers.call aim ≡ true → of_image (λ (x : Image). is_wrong m.setting m.registers.call aim x) o ≡ is_off (held_by m aim depth o)
+module _ (m : Machine) where
+  abbrev read : Option Image
+  read = accepted m.setting m.registers.reads
+
+  holds : (aim : Aim) (depth : ℕ) (o : Option Image) → read ≡ o → takes_lock m.registers.call aim ≡ true → of_image (λ (x : Image). is_wrong m.setting m.registers.call aim x) o ≡ is_off (held_by m aim depth o)
   holds aim depth None is h = refl
   holds aim depth (Some image) is h =
       let hop : Hop = hop_of image (aimed_key m.registers.call aim) (target aim) in
-      decides m.setting m.registers.call aim image hop h ∙ does aim depth image (decided_by m.setting m.registers.call aim image hop) (λ d. ap (of_image (λ (x : Image). is_other_kind aim x)) is ∙ split_kind m.setting m.registers.call aim image hop d)
+      decides m.setting m.registers.call aim image hop h ∙ does (settling m aim image) aim depth image (decided_by m.setting m.registers.call aim image hop) (λ d. ap (of_image (λ (x : Image). is_other_kind aim x)) is ∙ split_kind m.setting m.registers.call aim image hop d)
 
   seeks : (need : Need) (w : ChunkWant) → of_walk (splits_other_kind m need) w ≡ gives_back (sought_by m need w).phase
   seeks need (chunk.Event e) = refl
-  seeks (ToSplit aim depth) (chunk.Got server number) = (halves (chunk_taken m server number) aim depth (first_node m.setting server number) seen).0
+  seeks (ToSplit aim depth) (chunk.Got server number) = (halves m (chunk_taken m server number) aim depth (first_node m.setting server number) read).0
   seeks (ToSplit Own depth) chunk.AllSpent = refl
+  seeks (ToSplit (Gathers place) depth) chunk.AllSpent = refl
   seeks (ToSplit (Posts post) depth) chunk.AllSpent = refl
   seeks (ToGrow post root) (chunk.Got server number) = refl
   seeks (ToGrow post root) chunk.AllSpent = refl
@@ -207,13 +241,13 @@ module _ (m : Machine) (word : ℕ) where
   feeds aim depth true h = refl
   feeds aim depth false h = sees aim depth (seen_of m.setting (word ∷ m.registers.reads.loaded)) h
 
-  roots : (aim : Aim) (t : Bool) → not t ≡ is_at_root (if t then reading m word (Read aim true) else to m (Root aim)).phase
+  roots : (aim : Aim) (t : Bool) → not t ≡ is_at_root (if t then reading (from_root m) word (Read aim true) else to m (Root aim)).phase
   roots aim true = refl
   roots aim false = refl
 
   in_phase : (ph : Phase) → IsMade m.registers.call ph → is_senseless_in m word ph ≡ starts_again ph (fed_in m word ph)
   in_phase (Root aim) h = roots aim (is_node m.setting word)
-  in_phase (Read aim top) h = reads (loaded m word) aim top (progress_of m.setting m.registers.reads word) h
+  in_phase (Read aim top) h = reads (loaded m word) aim top (progress_of m.setting m.registers.reads word)
   in_phase (ReadLocked aim depth) h = feeds aim depth (nat_lt (length (word ∷ m.registers.reads.loaded)) (node_size m.setting)) h
   in_phase (Seek need) h = seeks (walked m word) need (walk_wants m.setting (walk_fed m.setting m.registers.walk word))
   in_phase ph h = refl

@@ -4,6 +4,7 @@ use Rattle.std.specs.Prelude.{◌-◌, ◌^◌}
 use Rattle.std.specs.List.{AllByRecursion}
 use Rattle.std.proofs.lemmas.Bool.Decides.{nat_tests}
 use Rattle.sh_base.specs.declared.config.ConfigParts.{ConfigParts}
+use Rattle.sh_readers.proofs.RowLemmas.{rows_linked}
 use Rattle.sh_base.specs.Setting.{IsNode, IsSetting}
 use Rattle.sh_base.specs.Layout.{lock_of}
 use Rattle.sh_base.proofs.LayoutLemmas.{nodes_small}
@@ -27,6 +28,7 @@ use Rattle.sh_client.specs.declared.state.Phase.TheVariants.{Waiting, Ended}
 use Rattle.sh_client.specs.declared.state.Tally.{Tally}
 use Rattle.sh_client.specs.Machine.{Registers, up}
 use Rattle.sh_client.specs.Splitting.{giving_of}
+use Rattle.sh_client.specs.Rests.{rows_for}
 use Rattle.sh_core.specs.Actors.{Actor, ending}
 use Rattle.sh_core.specs.Fits.{Owes, Fits}
 use Rattle.sh_core.specs.Keeps.{holding, pending, skips_counted, Hands, Waits, Skips, IsAtWork, KeepsActor}
@@ -99,6 +101,7 @@ module _ (p : ConfigParts) (ok : IsSetting p) (now : List ℕ) (s u : TreeState)
       hands = hands;
       waits = waits_no_more u seat post (Skipped seat) (λ q. cc) (λ n ne c. subst (Waits s seat) duty k.work.waits n ne (sym (same.post n) ∙ c));
       spares = λ n is. same.class n ∙ k.work.spares n is;
+      cached = rows_linked p s t (λ n l a q. same.class n ∙ q) r.cached k.work.cached;
       skips = subst (Skips t seat) (sym sum) (skips_more u seat (skips_counted r.tally) post.node (λ q. let z : Pending seat ≡ Skipped seat = sym owed.mine ∙ q in cc) here);
     }
 
@@ -114,5 +117,5 @@ module _ (p : ConfigParts) (ok : IsSetting p) (now : List ℕ) (s u : TreeState)
     keeps_ended hands was =
         let w = subst (Owes s seat a.first a.point a.seen r.call r.reply) duty k.work.owes in
         let decided = decided_by_entry p s seat a.first a.point a.seen r.call r.reply w.entry in
-        let end = decided_ends p s s.log [] seat a (sym (append-nil s.log)) k.seen k.first r.call r.reply decided in
-        ends_now p s t seat (actor_in p seat a r ph) (at p seat x Ended) s.log k same.log same.counts (omega arith) k.seen (work_skipped N Ended refl hands) end.answered (decided_cause p s s.log seat a k.seen r.call r.reply decided) end.from end.past was refl
+        let end = decided_ends p s s.log [] seat a r.rows (sym (append-nil s.log)) k.seen k.first r.call r.reply decided in
+        ends_now p s t seat (actor_in p seat a r ph) (at p seat x Ended) s.log k same.log same.counts (omega arith) k.seen (work_skipped N Ended refl hands) end.answered (decided_cause p s s.log seat a k.seen (rows_for r.call r.rows) r.call r.reply decided) end.from end.past was refl

@@ -10,6 +10,8 @@ use Rattle.sh_base.specs.Layout.{node_word}
 use Rattle.sh_map.specs.declared.call.Call.{Call}
 use Rattle.sh_map.specs.declared.call.Call.TheVariants as call
 use Rattle.sh_map.specs.declared.call.Reply.{Reply}
+use Rattle.sh_map.specs.declared.book.Row.{Row}
+use Rattle.sh_map.specs.declared.log.Entry.{Entry as LogEntry}
 use Rattle.sh_map.specs.Calls.{IsInRange, IsKey}
 use Rattle.sh_image.specs.declared.inner.Pair.{Pair}
 use Rattle.sh_image.specs.declared.inner.Image.{Image}
@@ -33,14 +35,15 @@ use Rattle.sh_readers.specs.Hand.{IsImageOf, IsNamed}
 use Rattle.sh_readers.proofs.HandLemmas.{down_inner, down_named, here_is, inner_image, never_restart, right_named}
 use Rattle.sh_decide.specs.declared.state.Posting.{Posting}
 use Rattle.sh_decide.specs.declared.state.Aim.{Aim}
-use Rattle.sh_decide.specs.declared.state.Aim.TheVariants.{Own, Posts}
-use Rattle.sh_decide.specs.Aims.{is_node, aimed_key, target}
+use Rattle.sh_decide.specs.declared.state.Aim.TheVariants.{Own, Gathers, Posts}
+use Rattle.sh_decide.specs.Aims.{is_node, aimed_key, takes_lock, target}
 use Rattle.sh_decide.specs.declared.state.Decision.TheVariants as decision
 use Rattle.sh_decide.specs.Deciding.{decided_by, has_separator}
 use Rattle.sh_decide.proofs.IndexLemmas.{once_is}
 use Rattle.sh_client.specs.declared.state.Want.TheVariants as want
 use Rattle.sh_client.specs.Wants.{load_of}
-use Rattle.sh_core.specs.Fits.{IsThere, Owes, duty_of}
+use Rattle.sh_client.specs.Machine.{Registers}
+use Rattle.sh_core.specs.Fits.{Gathered, IsAtRoot, IsThere, IsToStart, Owes, duty_of}
 use Rattle.sh_core_turns.specs.Senses.{is_wrong_here}
 
 pub is_lt : (a b : ℕ) → nat_lt a b ≡ true → a < b
@@ -62,13 +65,56 @@ is_number p n h = between n (nodes p) h.first h.last
 pub names_node : (p : ConfigParts) (words : List ℕ) (s : TreeState) → Ground p words s → (level n key : ℕ) → IsNamed s level n key → is_node p n ≡ true
 names_node p words s g level n key h = is_number p n (g.sits n level h.low h.linked).real
 
+-- the place that a range has reached is a key
+abbrev pub IsPlaceKey : Aim → Type 0
+IsPlaceKey (Gathers place) = IsKey place
+IsPlaceKey aim = Unit {0}
+
+pub place_key : (p : ConfigParts) (log : List LogEntry) (first : ℕ) (c : Call) (rows : List Row) (aim : Aim) → Gathered p log first c rows aim → IsPlaceKey aim
+place_key p log first c rows Own h = tt
+place_key p log first c rows (Posts post) h = tt
+place_key p log first c rows (Gathers place) h = h.place_is
+
+-- a range takes no lock
+abbrev pub CanLock : Aim → Type 0
+CanLock (Gathers place) = ⊥
+CanLock aim = Unit {0}
+
+pub can_lock : (c : Call) (aim : Aim) → takes_lock c aim ≡ true → CanLock aim
+can_lock c Own h = tt
+can_lock c (Posts post) h = tt
+can_lock c (Gathers place) h = cc
+
+pub locked_key : (c : Call) (aim : Aim) → takes_lock c aim ≡ true → IsPlaceKey aim
+locked_key c Own h = tt
+locked_key c (Posts post) h = tt
+locked_key c (Gathers place) h = cc
+
 -- the key of a descent is a key
-pub aim_key : (p : ConfigParts) (s : TreeState) (seat first point seen : ℕ) (c : Call) (reply : Reply) (aim : Aim) (duty : Option Posting) → IsInRange p c → duty ≡ duty_of aim → Owes s seat first point seen c reply duty → IsKey (aimed_key c aim)
-aim_key p s seat first point seen (call.Get key) r Own duty h is o = h
-aim_key p s seat first point seen (call.Put key value) r Own duty h is o = h.0
-aim_key p s seat first point seen (call.Del key) r Own duty h is o = h
-aim_key p s seat first point seen (call.Range low high) r Own duty h is o = h.0
-aim_key p s seat first point seen c r (Posts post) duty h is o = let w = subst (Owes s seat first point seen c r) is o in (w.some, w.past)
+pub aim_key : (p : ConfigParts) (s : TreeState) (seat first point seen : ℕ) (c : Call) (reply : Reply) (aim : Aim) (duty : Option Posting) → IsInRange p c → duty ≡ duty_of aim → Owes s seat first point seen c reply duty → IsPlaceKey aim → IsKey (aimed_key c aim)
+aim_key p s seat first point seen (call.Get key) r Own duty h is o q = h
+aim_key p s seat first point seen (call.Put key value) r Own duty h is o q = h.0
+aim_key p s seat first point seen (call.Del key) r Own duty h is o q = h
+aim_key p s seat first point seen (call.Range low high) r Own duty h is o q = h.0
+aim_key p s seat first point seen c r (Gathers place) duty h is o q = q
+aim_key p s seat first point seen c r (Posts post) duty h is o q = let w = subst (Owes s seat first point seen c r) is o in (w.some, w.past)
+
+-- what a range has gathered stays, with the same rows
+pub gathered_as : (p : ConfigParts) (log : List LogEntry) (first : ℕ) (r x : Registers) (aim : Aim) → x.call ≡ r.call → x.rows ≡ r.rows → Gathered p log first r.call r.rows aim → Gathered p log first x.call x.rows aim
+gathered_as p log first r x aim call rows h = subst (λ (z : Call × List Row). Gathered p log first z.0 z.1 aim) (λ j. (sym call j, sym rows j)) h
+
+-- a descent that takes a lock gathers nothing
+pub takes_gathered : (p : ConfigParts) (log : List LogEntry) (first : ℕ) (c : Call) (rows : List Row) (aim : Aim) → takes_lock c aim ≡ true → Gathered p log first c rows aim
+takes_gathered p log first c rows (Posts post) h = tt
+takes_gathered p log first c rows (Gathers place) h = cc
+takes_gathered p log first (call.Put key value) rows Own h = refl
+takes_gathered p log first (call.Del key) rows Own h = refl
+takes_gathered p log first (call.Get key) rows Own h = cc
+takes_gathered p log first (call.Range low high) rows Own h = cc
+
+-- a descent that takes a lock starts again at the root
+pub to_root : (p : ConfigParts) (s : TreeState) (seat first : ℕ) (r : Registers) (aim : Aim) (duty : Option Posting) → IsToStart r.call aim duty → IsAtRoot p s first r aim duty
+to_root p s seat first r aim duty h = record { duty_is = h.duty_is; rows = takes_gathered p s.log first r.call r.rows aim h.takes }
 
 -- all words of a READ are loaded: their image is accepted
 pub whole_accepted : (p : ConfigParts) (node : ℕ) (ws : List ℕ) (image : Image) → nat_lt (length ws) (node_size p) ≡ false → image_in (seen_of p ws) ≡ Some image → accepted p (reads_with node ws) ≡ Some image
@@ -118,6 +164,7 @@ split_here p c aim image Restart d = cc
 -- a leaf for a call, and an inner node for a post
 abbrev pub standing_image : ConfigParts → (node : List ℕ) → Aim → Image
 standing_image p node Own = LeafImage (leaf_in p node)
+standing_image p node (Gathers place) = LeafImage (leaf_in p node)
 standing_image p node (Posts post) = InnerImage (inner_in node)
 
 -- its words spell that image, in which nothing is wrong
@@ -139,12 +186,13 @@ module _ (p : ConfigParts) (ok : IsSetting p) (words : List ℕ) (s : TreeState)
       let z = g.sits n 0 low linked in
       record { level_is = refl; low_is = z.low_is; fences = z.fences; past = z.past; next = z.next; children = λ below q. absurd (omega (arith, q)); sorted = tt }
 
-  pub stands_well : (seat first point seen n : ℕ) (c : Call) (reply : Reply) (aim : Aim) (duty : Option Posting) → duty ≡ duty_of aim → Owes s seat first point seen c reply duty → (there : IsThere s c aim n) → StandsWell p s (s.node n) there.low aim
-  stands_well seat first point seen n c r Own duty is owes there =
+  pub stands_well : (seat first point seen n : ℕ) (c : Call) (reply : Reply) (aim : Aim) (duty : Option Posting) → duty ≡ duty_of aim → CanLock aim → Owes s seat first point seen c reply duty → (there : IsThere s c aim n) → StandsWell p s (s.node n) there.low aim
+  stands_well seat first point seen n c r (Gathers place) duty is takes owes there = absurd takes
+  stands_well seat first point seen n c r Own duty is takes owes there =
       let z = (g.sits n 0 there.low there.linked).body in
       let a : Leaf = leaf_in p (s.node n) in
       record { image = leaf_stands n there.low there.linked; seen = spelled_seen n (seen_as (LeafImage a)) z.spells; right = ap not (sym (once_is a.entries true ((λ t. z.once), (λ t. refl)))) }
-  stands_well seat first point seen n c r (Posts post) duty is owes there =
+  stands_well seat first point seen n c r (Posts post) duty is takes owes there =
       let w = subst (Owes s seat first point seen c r) is owes in
       let linked : s.class n ≡ Linked (suc w.below) there.low = there.linked ∙ ap (λ (l : ℕ). Linked l there.low) w.level in
       let a : Inner = inner_in (s.node n) in

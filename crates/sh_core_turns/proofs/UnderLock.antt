@@ -32,6 +32,7 @@ use Rattle.sh_client.specs.declared.state.Phase.{Phase}
 use Rattle.sh_client.specs.declared.state.Phase.TheVariants.{ReadLocked, Waiting}
 use Rattle.sh_client.specs.Machine.{Machine, Registers, up}
 use Rattle.sh_client.specs.Feeds.{did, held_by, hold_by}
+use Rattle.sh_client.specs.Cached.{settled}
 use Rattle.sh_client.specs.Splitting.{giving_of}
 use Rattle.sh_core.specs.Actors.{Actor, becomes}
 use Rattle.sh_core.specs.Fits.{AreLast, Follows}
@@ -39,10 +40,11 @@ use Rattle.sh_core.specs.Keeps.{pending_aim, pending_then, KeepsActor}
 use Rattle.sh_core.specs.Core.{Inv, Moves}
 use Rattle.sh_core.proofs.Frame.{Before, SameCall, actor_in, at, quiet}
 use Rattle.sh_core_turns.specs.Senses.{is_wrong, is_wrong_by, of_image, of_read}
-use Rattle.sh_core_turns.proofs.Standing.{StandsWell, aim_key, hop_leads, is_lt, names_node, not_lt, standing_accepted, standing_image, stands_well}
+use Rattle.sh_core_turns.proofs.Learning.{settles}
+use Rattle.sh_core_turns.proofs.Standing.{StandsWell, aim_key, hop_leads, is_lt, names_node, not_lt, standing_accepted, standing_image, stands_well, can_lock, locked_key}
 
 module _ (p : ConfigParts) (ok : IsSetting p) (words : List ℕ) (Has Now : ℕ → Actor → Type 0) (Out : ℕ → ℕ → ℕ → Type 0) (i : ℕ) (s : TreeState) (b : Before p words Has Out s) (a : Actor) (r : Registers) (aim : Aim) (depth : ℕ)
-    (h : Has i (actor_in p i a r (ReadLocked aim depth))) where
+    (K : KeepsActor p s i (actor_in p i a r (ReadLocked aim depth))) where
   abbrev ph : Phase
   ph = ReadLocked aim depth
 
@@ -52,9 +54,6 @@ module _ (p : ConfigParts) (ok : IsSetting p) (words : List ℕ) (Has Now : ℕ 
 
   abbrev pub LandsWell : (senseless : Bool) → Machine → Type 0
   LandsWell senseless m = (senseless ≡ false) × Lands m
-
-  abbrev pub K : KeepsActor p s i (actor_in p i a r ph)
-  K = b.kept i (actor_in p i a r ph) h
 
   abbrev n : ℕ
   n = r.reads.node
@@ -108,29 +107,22 @@ module _ (p : ConfigParts) (ok : IsSetting p) (words : List ℕ) (Has Now : ℕ 
   key = aimed_key r.call aim
 
   is_key : IsKey key
-  is_key = aim_key p s i a.first a.point a.seen r.call r.reply aim K.work.duty K.work.seated.in_range K.work.fits.holds.at.duty_is K.work.owes
+  is_key = aim_key p s i a.first a.point a.seen r.call r.reply aim K.work.duty K.work.seated.in_range K.work.fits.holds.at.duty_is K.work.owes (locked_key r.call aim K.work.fits.holds.at.takes)
 
   well : StandsWell p s (s.node n) K.work.fits.holds.at.there.low aim
-  well = stands_well p ok words s b.ground i a.first a.point a.seen n r.call r.reply aim K.work.duty K.work.fits.holds.at.duty_is K.work.owes K.work.fits.holds.at.there
+  well = stands_well p ok words s b.ground i a.first a.point a.seen n r.call r.reply aim K.work.duty K.work.fits.holds.at.duty_is (can_lock r.call aim K.work.fits.holds.at.takes) K.work.owes K.work.fits.holds.at.there
 
   -- the descent starts again
   pub restarts : Lands (did M aim depth image decision.Restart)
-  restarts mv = gives (record r { reads = rd }) (Starts aim) record { call_is = refl; reply_is = refl; spare_is = refl; skips_are = refl } K.work.fits.holds.at.duty_is refl mv
+  restarts mv = gives (record r { reads = rd }) (Starts aim) record { call_is = refl; reply_is = refl; spare_is = refl; skips_are = refl; cached_is = refl } record { duty_is = K.work.fits.holds.at.duty_is; takes = K.work.fits.holds.at.takes } refl mv
 
   -- the lock to the right is taken
   goes_right : (next : ℕ) → IsNamed s (target aim) next key → Lands (did M aim depth image (decision.Right next))
-  goes_right next named mv = gives (record r { reads = rd; tally = record r.tally { rights = up r.tally.rights } }) (Takes aim next) record { call_is = refl; reply_is = refl; spare_is = refl; skips_are = refl } record { duty_is = K.work.fits.holds.at.duty_is; there = named } refl mv
-
-  -- what is wrong of an image, and where the word that is fed leads
-  abbrev wrong : Image → Bool
-  wrong x = is_wrong p r.call aim x
-
-  abbrev pub Feeds : (t : Bool) → Type 0
-  Feeds t = LandsWell (of_read true (of_image wrong (accepted p (if t then rd else reads_left (seen_of p ws) rd))) (if t then More else answer_to (seen_of p ws))) (hold_by (with (if t then rd else reads_left (seen_of p ws) rd)) aim depth (if t then More else answer_to (seen_of p ws)))
+  goes_right next named mv = gives (record r { reads = rd; tally = record r.tally { rights = up r.tally.rights } }) (Takes aim next) record { call_is = refl; reply_is = refl; spare_is = refl; skips_are = refl; cached_is = refl } record { duty_is = K.work.fits.holds.at.duty_is; takes = K.work.fits.holds.at.takes; there = named } refl mv
 
   -- what is left is the decision where the node covers the key
   module _ (here : ws ≡ s.node n → accepted p rd ≡ Some image → hop_of image key (target aim) ≡ Here → Lands (did M aim depth image (decided_here p r.call aim image))) where
-    by_hop : (hop : Hop) → hop_of image key (target aim) ≡ hop → ws ≡ s.node n → accepted p rd ≡ Some image → LandsWell (is_wrong_by p aim image hop) (did M aim depth image (decided_by p r.call aim image hop))
+    pub by_hop : (hop : Hop) → hop_of image key (target aim) ≡ hop → ws ≡ s.node n → accepted p rd ≡ Some image → LandsWell (is_wrong_by p aim image hop) (did M aim depth image (decided_by p r.call aim image hop))
     by_hop Here e is acc = (well.right, here is acc e)
     by_hop (Right next) e is acc =
         let there = K.work.fits.holds.at.there in
@@ -142,23 +134,60 @@ module _ (p : ConfigParts) (ok : IsSetting p) (words : List ℕ) (Has Now : ℕ 
         absurd (omega (arith, down.1, down.3))
     by_hop Restart e is acc = let there = K.work.fits.holds.at.there in absurd (hop_leads s (target aim) there.low key (target aim) image well.image there.below is_key.1 (omega arith) Restart e)
 
-    sees : (x : Image) → LandsWell (of_image wrong (accepted p rd)) (held_by M aim depth (accepted p rd)) → LandsWell (of_read true (of_image wrong (accepted p (reads_left (seen_as x) rd))) (answer_to (seen_as x))) (hold_by (with (reads_left (seen_as x) rd)) aim depth (answer_to (seen_as x)))
+-- ---- the word is fed
+module _ (p : ConfigParts) (ok : IsSetting p) (words : List ℕ) (Has Now : ℕ → Actor → Type 0) (Out : ℕ → ℕ → ℕ → Type 0) (i : ℕ) (s : TreeState) (b : Before p words Has Out s) (a : Actor) (r : Registers) (aim : Aim) (depth : ℕ)
+    (K : KeepsActor p s i (actor_in p i a r (ReadLocked aim depth))) where
+  abbrev at_phase : Phase
+  at_phase = ReadLocked aim depth
+
+  abbrev loaded : List ℕ
+  loaded = ws p ok words Has Now Out i s b a r aim depth K
+
+  abbrev now : Reads
+  now = rd p ok words Has Now Out i s b a r aim depth K
+
+  abbrev stood : Image
+  stood = image p ok words Has Now Out i s b a r aim depth K
+
+  abbrev machine : Reads → Machine
+  machine reads = at p i (record r { reads = reads }) at_phase
+
+  abbrev Leads : (senseless : Bool) → Machine → Type 0
+  Leads senseless m = LandsWell p ok words Has Now Out i s b a r aim depth K senseless m
+
+  -- what is wrong of an image, and where the word that is fed leads
+  abbrev wrong : Image → Bool
+  wrong x = is_wrong p r.call aim x
+
+  abbrev pub Feeds : (t : Bool) → Type 0
+  Feeds t = Leads (of_read true (of_image wrong (accepted p (if t then now else reads_left (seen_of p loaded) now))) (if t then More else answer_to (seen_of p loaded))) (hold_by (machine (if t then now else reads_left (seen_of p loaded) now)) aim depth (if t then More else answer_to (seen_of p loaded)))
+
+  -- the client behind the image, which was its first one or a later one
+  abbrev pub calm : Registers
+  calm = settled aim stood r
+
+  abbrev pub kept : KeepsActor p s i (actor_in p i a calm at_phase)
+  kept = settles p s i a r aim depth K stood
+
+  module _ (here : loaded ≡ s.node r.reads.node → accepted p now ≡ Some stood → hop_of stood (aimed_key r.call aim) (target aim) ≡ Here → Lands p ok words Has Now Out i s b a calm aim depth kept (did (M p ok words Has Now Out i s b a calm aim depth kept) aim depth stood (decided_here p r.call aim stood))) where
+    sees : (x : Image) → Leads (of_image wrong (accepted p now)) (held_by (machine now) aim depth (accepted p now)) → Leads (of_read true (of_image wrong (accepted p (reads_left (seen_as x) now))) (answer_to (seen_as x))) (hold_by (machine (reads_left (seen_as x) now)) aim depth (answer_to (seen_as x)))
     sees (LeafImage y) z = z
     sees (InnerImage y) z = z
 
-    loads : (t : Bool) → nat_lt (length ws) (node_size p) ≡ t → Feeds t
+    loads : (t : Bool) → nat_lt (length loaded) (node_size p) ≡ t → Feeds t
     loads true e =
         let f = K.work.fits.holds in (
           refl,
-          λ mv. quiet p ok words Has Now Out i s b a r ph ph (record r { reads = rd }) K record { call_is = refl; reply_is = refl; spare_is = refl; skips_are = refl }
-              record { holds = record { at = f.at; held = f.held }; reading = record { left = is_lt (length ws) (node_size p) e; standing = more } } K.work.hands refl tt mv,
+          λ mv. quiet p ok words Has Now Out i s b a r at_phase at_phase (record r { reads = now }) K record { call_is = refl; reply_is = refl; spare_is = refl; skips_are = refl; cached_is = refl }
+              record { holds = record { at = f.at; held = f.held }; reading = record { left = is_lt (length loaded) (node_size p) e; standing = more p ok words Has Now Out i s b a r aim depth K } } K.work.hands refl tt mv,
         )
     loads false e =
-        let le = not_lt (length ws) (node_size p) e in
-        let is = whole (omega (arith, le, K.work.fits.reading.left)) in
-        let acc = standing_accepted p ok words s b.ground n image ws well.seen is in
-        subst (λ (v : Seen). LandsWell (of_read true (of_image wrong (accepted p (reads_left v rd))) (answer_to v)) (hold_by (with (reads_left v rd)) aim depth (answer_to v))) (sym (ap (seen_of p) is ∙ well.seen))
-        (sees image (subst (λ (o : Option Image). LandsWell (of_image wrong o) (held_by M aim depth o)) (sym acc) (by_hop (hop_of image key (target aim)) refl is acc)))
+        let le = not_lt (length loaded) (node_size p) e in
+        let is = whole p ok words Has Now Out i s b a r aim depth K (omega (arith, le, K.work.fits.reading.left)) in
+        let stands = well p ok words Has Now Out i s b a r aim depth K in
+        let acc = standing_accepted p ok words s b.ground r.reads.node stood loaded stands.seen is in
+        subst (λ (v : Seen). Leads (of_read true (of_image wrong (accepted p (reads_left v now))) (answer_to v)) (hold_by (machine (reads_left v now)) aim depth (answer_to v))) (sym (ap (seen_of p) is ∙ stands.seen))
+        (sees stood (subst (λ (o : Option Image). Leads (of_image wrong o) (held_by (machine now) aim depth o)) (sym acc) (by_hop p ok words Has Now Out i s b a calm aim depth kept here (hop_of stood (aimed_key r.call aim) (target aim)) refl is acc)))
 
-    pub locked_read : Feeds (nat_lt (length ws) (node_size p))
-    locked_read = loads (nat_lt (length ws) (node_size p)) refl
+    pub locked_read : Feeds (nat_lt (length loaded) (node_size p))
+    locked_read = loads (nat_lt (length loaded) (node_size p)) refl

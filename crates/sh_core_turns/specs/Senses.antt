@@ -1,12 +1,14 @@
 -- The senseless cases: turns in which a client makes nothing of the word that it is fed, and starts again. They are said by
 -- the client alone; no client of a pool comes to one.
-use Rattle.std.specs.Prelude.{◌≡◌, ◌≢◌, ℕ, ◌&&◌, not, if◌then◌else◌, Bool, true, false, List, [], ◌∷◌, Option, Some, None}
+use Rattle.std.specs.Prelude.{◌≡◌, ℕ, ◌&&◌, not, if◌then◌else◌, Bool, true, false, List, [], ◌∷◌, Option, Some, None}
 use Rattle.sh_base.specs.declared.config.ConfigParts.{ConfigParts}
 use Rattle.sh_base.specs.declared.event.Event.{Event}
 use Rattle.sh_base.specs.Memory.{found_by}
 use Rattle.sh_map.specs.declared.call.Call.{Call}
 use Rattle.sh_map.specs.declared.call.Call.TheVariants.{Range}
 use Rattle.sh_map.specs.declared.log.Entry.{Entry as LogEntry}
+use Rattle.sh_map.specs.declared.book.Row.{Row}
+use Rattle.sh_image.specs.Leaf.{Leaf}
 use Rattle.sh_image.specs.declared.inner.Image.{Image}
 use Rattle.sh_image.specs.declared.inner.Image.TheVariants.{Leaf as LeafImage, Inner as InnerImage}
 use Rattle.sh_alloc.specs.declared.state.ChunkWant.{ChunkWant}
@@ -19,7 +21,7 @@ use Rattle.sh_descend.specs.Descent.{hop_of}
 use Rattle.sh_descend.specs.declared.Hop.{Hop}
 use Rattle.sh_descend.specs.declared.Hop.TheVariants.{Here, Right, Down, Restart}
 use Rattle.sh_decide.specs.declared.state.Aim.{Aim}
-use Rattle.sh_decide.specs.declared.state.Aim.TheVariants.{Own, Posts}
+use Rattle.sh_decide.specs.declared.state.Aim.TheVariants.{Own, Gathers, Posts}
 use Rattle.sh_client.specs.declared.state.Need.{Need}
 use Rattle.sh_client.specs.declared.state.Need.TheVariants.{ToSplit}
 use Rattle.sh_client.specs.declared.state.Phase.{Phase}
@@ -30,10 +32,11 @@ use Rattle.sh_client.specs.declared.state.Write.{Write}
 use Rattle.sh_client.specs.declared.state.Write.TheVariants.{Nothing}
 use Rattle.sh_client.specs.declared.state.Want.TheVariants as want
 use Rattle.sh_client.specs.Machine.{Machine}
-use Rattle.sh_decide.specs.Aims.{is_node, aimed_key, takes_lock, target}
+use Rattle.sh_decide.specs.Aims.{aimed_key, end_of, is_node, takes_lock, target}
 use Rattle.sh_decide.specs.Leaves.{are_keys_once}
 use Rattle.sh_decide.specs.Deciding.{has_separator}
 use Rattle.sh_decide.specs.Ways.{is_below}
+use Rattle.sh_client.specs.Ranges.{is_whole, rows_with}
 use Rattle.sh_client.specs.Wants.{want_of}
 use Rattle.sh_client.specs.Feeds.{fed_by}
 use Rattle.sh_core.specs.Actors.{Actor}
@@ -41,28 +44,39 @@ use Rattle.sh_core.specs.Core.{Inv}
 
 -- ---- an image that was READ without a lock
 
--- it is an inner node, where a get or a range looks for its leaf
-abbrev pub lacks_answer : Call → Aim → Image → Bool
-lacks_answer call aim (LeafImage a) = false
-lacks_answer call aim (InnerImage a) = not (takes_lock call aim)
+-- a range is to go on behind the leaf's rows, to a number that names no node
+abbrev pub strays_beyond : ConfigParts → Call → List Row → (place : ℕ) → Leaf → Bool
+strays_beyond p call rows place a = if is_whole p.rows (end_of call) a.high (rows_with p call place (LeafImage a) rows) then false else not (is_node p a.next)
+
+abbrev pub is_range : Call → Bool
+is_range (Range low high) = true
+is_range call = false
+
+-- it is an inner node, where a get or a range looks for its leaf; or a range strays behind it, or gathers no rows
+abbrev pub lacks_answer : ConfigParts → Call → List Row → Aim → Image → Bool
+lacks_answer p call rows (Gathers place) (LeafImage a) = strays_beyond p call rows place a
+lacks_answer p call rows (Posts post) (LeafImage a) = false
+lacks_answer p call rows Own (LeafImage a) = is_range call
+lacks_answer p call rows aim (InnerImage a) = not (takes_lock call aim)
 
 -- its hop is Restart, or to a number that names no node
-abbrev pub strays_by : ConfigParts → Call → Aim → Image → Hop → Bool
-strays_by p call aim image Here = lacks_answer call aim image
-strays_by p call aim image (Right next) = not (is_node p next)
-strays_by p call aim image (Down child) = not (is_node p child)
-strays_by p call aim image Restart = true
+abbrev pub strays_by : ConfigParts → Call → List Row → Aim → Image → Hop → Bool
+strays_by p call rows aim image Here = lacks_answer p call rows aim image
+strays_by p call rows aim image (Right next) = not (is_node p next)
+strays_by p call rows aim image (Down child) = not (is_node p child)
+strays_by p call rows aim image Restart = true
 
 -- no hop is asked of the root that a new root goes over
-abbrev pub strays : ConfigParts → Call → Aim → (top : Bool) → Image → Bool
-strays p call aim top image = if top && is_below aim image then false else strays_by p call aim image (hop_of image (aimed_key call aim) (target aim))
+abbrev pub strays : ConfigParts → Call → List Row → Aim → (top : Bool) → Image → Bool
+strays p call rows aim top image = if top && is_below aim image then false else strays_by p call rows aim image (hop_of image (aimed_key call aim) (target aim))
 
 -- ---- an image that was READ under its lock
 
--- it is an inner node where an update looks for its leaf, or a leaf where a post looks for an inner node
+-- it is an inner node where an update looks for its leaf, or a leaf where a post looks for an inner node; a range has none
 abbrev pub is_other_kind : Aim → Image → Bool
 is_other_kind Own (LeafImage a) = false
 is_other_kind Own (InnerImage a) = true
+is_other_kind (Gathers place) image = true
 is_other_kind (Posts post) (LeafImage a) = true
 is_other_kind (Posts post) (InnerImage a) = false
 
@@ -110,7 +124,7 @@ splits_other_kind m need = false
 -- not be torn either; and with a chunk for the split of a node of the other kind.
 abbrev pub is_senseless_in : Machine → (word : ℕ) → Phase → Bool
 is_senseless_in m word (Root aim) = not (is_node m.setting word)
-is_senseless_in m word (Read aim top) = of_read false (of_image (λ (x : Image). strays m.setting m.registers.call aim top x) (accepted m.setting (read_fed m.setting m.registers.reads word))) (progress_of m.setting m.registers.reads word)
+is_senseless_in m word (Read aim top) = of_read false (of_image (λ (x : Image). strays m.setting m.registers.call m.registers.rows aim top x) (accepted m.setting (read_fed m.setting m.registers.reads word))) (progress_of m.setting m.registers.reads word)
 is_senseless_in m word (ReadLocked aim depth) = of_read true (of_image (λ (x : Image). is_wrong m.setting m.registers.call aim x) (accepted m.setting (read_fed m.setting m.registers.reads word))) (progress_of m.setting m.registers.reads word)
 is_senseless_in m word (Seek need) = of_walk (splits_other_kind m need) (walk_wants m.setting (walk_fed m.setting m.registers.walk word))
 is_senseless_in m word phase = false
@@ -150,9 +164,8 @@ starts_again (ReadLocked aim depth) m = leaves_off m.phase m.registers.reads.loa
 starts_again (Seek need) m = gives_back m.phase
 starts_again phase m = false
 
--- only an update and a post take a lock, and ranges have no turns of their own yet
+-- only an update and a post take a lock
 abbrev pub IsMade : Call → Phase → Type 0
-IsMade call (Read aim top) = (low high : ℕ) → call ≢ Range low high
 IsMade call (ReadLocked aim depth) = takes_lock call aim ≡ true
 IsMade call phase = Unit {0}
 

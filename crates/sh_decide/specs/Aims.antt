@@ -6,7 +6,7 @@ use Rattle.sh_map.specs.declared.call.Call.{Call}
 use Rattle.sh_map.specs.declared.call.Call.TheVariants.{Get, Put, Del, Range}
 use Rattle.sh_decide.specs.declared.state.Posting.{Posting}
 use Rattle.sh_decide.specs.declared.state.Aim.{Aim}
-use Rattle.sh_decide.specs.declared.state.Aim.TheVariants.{Own, Posts}
+use Rattle.sh_decide.specs.declared.state.Aim.TheVariants.{Own, Posts, Gathers}
 
 abbrev pub post_of : (separator node level : ℕ) → Posting
 post_of separator node level = record { separator = separator; node = node; level = level }
@@ -31,19 +31,32 @@ written_value p (Put key value) = value
 written_value p (Del key) = replicate p.value_words 0
 written_value p (Range low high) = replicate p.value_words 0
 
+-- what a call's descent is for: a range gathers rows from its low end on
+abbrev pub aim_of : Call → Aim
+aim_of (Range low high) = Gathers low
+aim_of call = Own
+
+-- the high end of a range; no other call has one
+abbrev pub end_of : Call → ℕ
+end_of (Range low high) = high
+end_of call = 0
+
 -- the key that a descent looks for
 abbrev pub aimed_key : Call → Aim → ℕ
 aimed_key call Own = call_key call
+aimed_key call (Gathers place) = place
 aimed_key call (Posts post) = post.separator
 
 -- the level at which it ends
 abbrev pub target : Aim → ℕ
 target Own = 0
+target (Gathers place) = 0
 target (Posts post) = post.level
 
 -- the node at its end is READ under its lock
 abbrev pub takes_lock : Call → Aim → Bool
 takes_lock call (Posts post) = true
+takes_lock call (Gathers place) = false
 takes_lock (Get key) Own = false
 takes_lock (Put key value) Own = true
 takes_lock (Del key) Own = true

@@ -7,7 +7,7 @@ use Rattle.sh_image.specs.declared.inner.Image.{Image}
 use Rattle.sh_image.specs.declared.inner.Image.TheVariants.{Leaf as LeafImage, Inner as InnerImage}
 use Rattle.sh_edit.specs.Splitting.{IsSplit}
 use Rattle.sh_decide.specs.declared.state.Aim.{Aim}
-use Rattle.sh_decide.specs.declared.state.Aim.TheVariants.{Own, Posts}
+use Rattle.sh_decide.specs.declared.state.Aim.TheVariants.{Own, Posts, Gathers}
 use Rattle.sh_decide.specs.declared.state.Way.{Way}
 use Rattle.sh_decide.specs.declared.state.Way.TheVariants as way
 use Rattle.sh_decide.specs.declared.state.Decision.{Decision}
@@ -21,6 +21,7 @@ CanSplit p call Own (LeafImage a) = IsSplit a (written_key call) × (a.version <
 CanSplit p call (Posts post) (InnerImage a) = (length a.pairs ≡ 2 * p.leaf) × (a.version < 2 ^ 64 - 1)
 CanSplit p call Own (InnerImage a) = ⊥
 CanSplit p call (Posts post) (LeafImage a) = ⊥
+CanSplit p call (Gathers place) image = ⊥
 
 -- an image that may be written so: it has the entry, and a version is left
 abbrev pub HasEntryAt : Image → (index : ℕ) → Type 0
@@ -40,6 +41,7 @@ abbrev pub HasRoom : ConfigParts → Aim → Image → Type 0
 HasRoom p (Posts post) (InnerImage a) = length a.pairs < 2 * p.leaf
 HasRoom p (Posts post) (LeafImage a) = ⊥
 HasRoom p Own image = ⊥
+HasRoom p (Gathers place) image = ⊥
 
 -- a decision that the image allows
 abbrev pub Allows : ConfigParts → Call → Aim → Image → Decision → Type 0
@@ -62,3 +64,4 @@ Leads p (way.LockRight node) = IsNode p node
 Leads p way.Root = Unit {0}
 Leads p way.Grow = Unit {0}
 Leads p way.Found = Unit {0}
+Leads p way.Rows = Unit {0}

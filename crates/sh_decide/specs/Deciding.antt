@@ -13,7 +13,7 @@ use Rattle.sh_descend.specs.Descent.{hop_of}
 use Rattle.sh_descend.specs.declared.Hop.{Hop}
 use Rattle.sh_descend.specs.declared.Hop.TheVariants.{Here, Right as HopRight, Down, Restart as HopRestart}
 use Rattle.sh_decide.specs.declared.state.Aim.{Aim}
-use Rattle.sh_decide.specs.declared.state.Aim.TheVariants.{Own, Posts}
+use Rattle.sh_decide.specs.declared.state.Aim.TheVariants.{Own, Posts, Gathers}
 use Rattle.sh_decide.specs.declared.state.Decision.{Decision}
 use Rattle.sh_decide.specs.declared.state.Decision.TheVariants.{Restart, Right, Absent, Entry, Rewrite, Worn, Split, Skip, Add}
 use Rattle.sh_decide.specs.Aims.{is_node, aimed_key, target}
@@ -59,10 +59,12 @@ post_in p a =
     then (if nat_lt (length a.pairs) (2 * p.leaf) then Add else Split)
     else Skip
 
--- Senseless are a leaf with a key twice, a node that has the separator already, and a node of another kind.
+-- Senseless are a leaf with a key twice, a node that has the separator already, and a node of another kind; a range takes no
+-- lock.
 abbrev pub decided_here : ConfigParts → Call → Aim → Image → Decision
 decided_here p call Own (LeafImage a) = if are_keys_once a.entries then update_in p a call else Restart
 decided_here p call Own (InnerImage a) = Restart
+decided_here p call (Gathers place) image = Restart
 decided_here p call (Posts post) (LeafImage a) = Restart
 decided_here p call (Posts post) (InnerImage a) = if has_separator a.pairs post.separator then Restart else post_in p a
 

@@ -4,7 +4,7 @@ ghost use Rattle.sh_base.specs.Parts.{parts_of};
 ghost use Rattle.sh_base.specs.Setting.{IsNode};
 ghost use Rattle.sh_map.specs.Calls.{IsInRange};
 ghost use Rattle.sh_decide.specs.declared.state.Aim.TheVariants.{Own};
-ghost use Rattle.sh_decide.specs.Aims.{call_key, is_node, aimed_key, written_key, written_value, takes_lock, target};
+ghost use Rattle.sh_decide.specs.Aims.{aim_of, aimed_key, call_key, end_of, is_node, takes_lock, target, written_key, written_value};
 
 use crate::Aim;
 use sh_base::{Config, Value};
@@ -58,12 +58,37 @@ pub fn written_value(cfg: &Config, call: &Call) -> Value
     }
 }
 
+/// What a call's descent is for: a range gathers rows from its low end on, and any other call looks for its own leaf.
+pub fn aim_of(call: &Call) -> Aim
+    ensures { result ≡ aim_of call.now }
+{
+    match *call {
+        Call::Get { .. } => Aim::Own,
+        Call::Put { .. } => Aim::Own,
+        Call::Del { .. } => Aim::Own,
+        Call::Range { low, .. } => Aim::Gathers { place: low },
+    }
+}
+
+/// The high end of a range, and 0 of any other call.
+pub fn end_of(call: &Call) -> u64
+    ensures { result ≡ end_of call.now }
+{
+    match *call {
+        Call::Get { .. } => 0,
+        Call::Put { .. } => 0,
+        Call::Del { .. } => 0,
+        Call::Range { high, .. } => high,
+    }
+}
+
 // The key that a descent looks for.
 pub(crate) fn aimed_key(call: &Call, aim: Aim) -> u64
     ensures { result ≡ aimed_key call.now aim }
 {
     match aim {
         Aim::Own => call_key(call),
+        Aim::Gathers { place } => place,
         Aim::Posts { post } => post.separator,
     }
 }
@@ -74,6 +99,7 @@ pub(crate) fn target(aim: Aim) -> u64
 {
     match aim {
         Aim::Own => 0,
+        Aim::Gathers { .. } => 0,
         Aim::Posts { post } => post.level,
     }
 }
@@ -84,12 +110,13 @@ pub(crate) fn takes_lock(call: &Call, aim: Aim) -> bool
 {
     match aim {
         Aim::Own => is_update(call),
+        Aim::Gathers { .. } => false,
         Aim::Posts { .. } => true,
     }
 }
 
-// Whether the call is a put or a delete.
-fn is_update(call: &Call) -> bool
+/// Whether the call is a put or a delete: its leaf is READ under its lock.
+pub fn is_update(call: &Call) -> bool
     ensures { result ≡ takes_lock call.now Own }
 {
     match *call {

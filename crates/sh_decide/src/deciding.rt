@@ -77,6 +77,7 @@ fn in_leaf(cfg: &Config, call: &Call, aim: Aim, leaf: &LeafImage) -> Decision
     ensures allows { Allows (parts_of cfg.now) call.now aim (OfLeaf leaf.now) result }
 {
     match aim {
+        Aim::Gathers { .. } => Decision::Restart,
         Aim::Own => {
             if are_once(leaf) {
                 update(cfg, call, leaf)
@@ -96,6 +97,7 @@ fn in_inner(cfg: &Config, call: &Call, aim: Aim, inner: &InnerImage) -> Decision
 {
     match aim {
         Aim::Own => Decision::Restart,
+        Aim::Gathers { .. } => Decision::Restart,
         Aim::Posts { post } => {
             if has_separator(inner, post.separator) {
                 Decision::Restart

@@ -7,8 +7,8 @@ mod leaves;
 mod state;
 mod ways;
 
-pub use aims::{call_key, node_in, written_key, written_value};
+pub use aims::{aim_of, call_key, end_of, is_update, node_in, written_key, written_value};
 pub use deciding::decision;
 pub use leaves::answer;
 pub use state::{Aim, Decision, Posting, Way};
-pub use ways::way;
+pub use ways::{leads_right, way};

@@ -8,15 +8,16 @@ pub struct Posting {
     pub level: u64,
 }
 
-/// What a descent is for: the call's own leaf, or a post.
+/// What a descent is for: the call's own leaf, the rows of its range from a place on, or a post.
 #[derive(Clone, Copy, Debug, PartialEq, Eq)]
 pub enum Aim {
     Own,
+    Gathers { place: u64 },
     Posts { post: Posting },
 }
 
 /// Where a READ without a lock leads: to the root word again, to a READ of a node below or to the right, to the lock of
-/// a node, here or below or to the right, to a new root, or to the call's reply.
+/// a node, here or below or to the right, to a new root, to the call's reply, or to the rows of its range.
 #[derive(Clone, Copy, Debug, PartialEq, Eq)]
 pub enum Way {
     Root,
@@ -26,6 +27,7 @@ pub enum Way {
     LockRight { node: u32 },
     Grow,
     Found,
+    Rows,
 }
 
 /// What a READ under the lock leads to: the descent starts again, the lock of the node to the right is taken, the key is

@@ -7,7 +7,7 @@ ghost use Rattle.sh_image.specs.Node.{IsImage};
 ghost use Rattle.sh_decide.specs.declared.state.Aim.TheVariants.{Own};
 ghost use Rattle.sh_descend.specs.declared.Hop.TheVariants.{Right as HopRight, Down as HopDown};
 ghost use Rattle.sh_decide.specs.Aims.{aimed_key, target};
-ghost use Rattle.sh_decide.specs.Ways.{found_in, is_below, way_by, way_here, way_of};
+ghost use Rattle.sh_decide.specs.Ways.{found_in, is_below, leads_right, rows_in, way_by, way_here, way_of};
 ghost use Rattle.sh_decide.specs.Allowed.{Leads};
 
 use crate::aims::{aimed_key, is_next, is_node, takes_lock, target};
@@ -37,6 +37,18 @@ pub fn way(cfg: &Config, call: &Call, aim: Aim, top: bool, node: u32, image: &Im
     }
 }
 
+/// Whether the image of a node leads a call that is after this to the right. Condition: the image keeps the rules of a
+/// node.
+pub fn leads_right(cfg: &Config, call: &Call, aim: Aim, image: &Image) -> bool
+    requires { IsImage (parts_of cfg.now) image.now }
+    ensures { result ≡ leads_right call.now aim image.now }
+{
+    match hop(cfg, call, aim, image) {
+        Hop::Right(_) => true,
+        _ => false,
+    }
+}
+
 // The hop to the node that the descent is for.
 pub(crate) fn hop(cfg: &Config, call: &Call, aim: Aim, image: &Image) -> Hop
     requires { IsImage (parts_of cfg.now) image.now }
@@ -62,6 +74,7 @@ fn is_below(aim: Aim, image: &Image) -> bool
 {
     match aim {
         Aim::Own => false,
+        Aim::Gathers { .. } => false,
         Aim::Posts { post } => is_next(post.level, level(image)),
     }
 }
@@ -74,6 +87,7 @@ fn way_here(cfg: &Config, call: &Call, aim: Aim, node: u32, image: &Image) -> Wa
 {
     match aim {
         Aim::Own => own_here(cfg, call, node, image),
+        Aim::Gathers { .. } => rows(cfg, image),
         Aim::Posts { .. } => Way::Lock { node },
     }
 }
@@ -99,6 +113,17 @@ fn found(cfg: &Config, image: &Image) -> Way
 {
     match image {
         Image::Leaf(_) => Way::Found,
+        Image::Inner(_) => Way::Root,
+    }
+}
+
+// The way of a range in its leaf.
+fn rows(cfg: &Config, image: &Image) -> Way
+    ensures exact { result ≡ rows_in image.now }
+    ensures leads { Leads (parts_of cfg.now) result }
+{
+    match image {
+        Image::Leaf(_) => Way::Rows,
         Image::Inner(_) => Way::Root,
     }
 }

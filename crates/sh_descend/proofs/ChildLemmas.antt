@@ -1,14 +1,17 @@
 -- The child that a hop down leads to, pair by pair.
-use Rattle.std.proofs.Common.{◌≡◌, ℕ, zero, suc, ◌+◌, ◌<◌, ◌≤◌, Bool, true, false, List, [], ◌∷◌, length, drop, Some, refl, ap, subst, add-one, inl, inr, arith}
+use Rattle.std.proofs.Common.{◌≡◌, ℕ, zero, suc, ◌+◌, ◌<◌, ◌≤◌, Bool, true, false, List, [], ◌∷◌, length, drop, Some, refl, ap, sym, subst, add-one, inl, inr, arith}
 use Rattle.std.specs.Prelude.{slice_get, ◌==◌, ◌||◌, nat_lt, nat_le, if◌then◌else◌}
 use Rattle.std.proofs.lemmas.Bool.{cases_lt}
 use Rattle.std.proofs.lemmas.Bool.Decides.{nat_tests}
 use Rattle.std.proofs.lemmas.Option.{slice_get_within}
+use Rattle.sh_logic.proofs.Lists.{all_at}
 use Rattle.sh_logic.proofs.Tests.{less_test, not_less_test}
+use Rattle.sh_base.specs.declared.config.ConfigParts.{ConfigParts}
+use Rattle.sh_base.specs.Setting.{IsNode}
 use Rattle.sh_image.specs.declared.inner.Image.{Image}
 use Rattle.sh_image.specs.declared.inner.Image.TheVariants.{Leaf as LeafImage, Inner as InnerImage}
 use Rattle.sh_image.specs.declared.inner.Pair.{Pair}
-use Rattle.sh_image.specs.Inner.{separator_at}
+use Rattle.sh_image.specs.Inner.{no_pair, separator_at, HasChild, Inner, IsInner}
 use Rattle.sh_descend.specs.declared.Hop.{Hop}
 use Rattle.sh_descend.specs.declared.Hop.TheVariants.{Here, Right, Down, Restart}
 use Rattle.sh_descend.specs.Descent.{child_from, child_of, hop_of, image_pairs, Covers, HasSortedPairs, IsSorted}
@@ -65,6 +68,17 @@ covers [] low key sorted h = absurd (omega (arith, sorted.some))
 covers (x ∷ ps) low key sorted h =
     let first : x.separator ≤ key = omega (arith, sorted.first) in
     rw (not_less_test key x.separator first) (covers_from x ps key (λ i b. rw (add-one i) at (sorted.rise i (omega arith))) first)
+
+-- an inner node that keeps the rules has its pairs sorted
+pub pairs_sorted : {p : ConfigParts} (a : Inner) → IsInner p a → IsSorted a.low a.pairs
+pairs_sorted a h = record { some = h.count.0; first = h.separators.first; rise = h.separators.rise }
+
+-- of an inner node the child for a key that isn't below its low fence is a node
+pub child_is_node : {p : ConfigParts} (a : Inner) (key : ℕ) → IsInner p a → a.low ≤ key → IsNode p (child_of a.pairs key)
+child_is_node {p} a key h low =
+    let c = covers a.pairs a.low key (pairs_sorted a h) low in
+    let child = all_at (HasChild p) a.pairs c.index no_pair h.children c.in_range in
+    subst (IsNode p) (sym c.here) (record { first = child.0; last = child.1 })
 
 abbrev child_in : Hop → ℕ
 child_in Here = 0

@@ -34,7 +34,7 @@ abbrev pub child_from : ℕ → List Pair → ℕ → ℕ
 child_from child [] key = child
 child_from child (x ∷ xs) key = if nat_lt key x.separator then child else child_from x.child xs key
 
--- the child with the greatest separator not above the key, where separators rise and the first isn't above it
+-- the child with the greatest separator not above the key, where separators rise, and 0 where the first is above it
 abbrev pub child_of : List Pair → ℕ → ℕ
 child_of pairs key = child_from 0 pairs key
 

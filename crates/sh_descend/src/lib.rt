@@ -1,7 +1,7 @@
 //! Where a client goes from a node: down, right, nowhere, or back to the root.
 #![tactic(auto)]
 
-ghost use Rattle.std.specs.Prelude.{◌≡◌, ◌≤◌, ℕ, length};
+ghost use Rattle.std.specs.Prelude.{◌≡◌, ◌∷◌, [], ℕ};
 ghost use Rattle.sh_image.specs.Inner.{Inner};
 ghost use Rattle.sh_image.specs.declared.inner.Image.{Image};
 ghost use Rattle.sh_descend.specs.Descent.{child_of, high_of, hop_of, level_of, low_of, next_of, image_pairs, Covers, HasSortedPairs};
@@ -55,10 +55,9 @@ pub fn next_hop(image: &Image, key: u64, level: u64) -> Hop
     }
 }
 
-// The child with the greatest separator not above the key. Condition: there is a pair, and the first one's separator
-// isn't above the key.
-fn child(inner: &InnerImage, key: u64) -> u32
-    requires { 1 ≤ length inner.now.pairs }
+/// The child with the greatest separator not above the key, where the separators rise, and 0 where none is at or below
+/// it. It stops at the first separator above the key.
+pub fn child(inner: &InnerImage, key: u64) -> u32
     ensures { result ≡ child_of inner.now.pairs key }
 {
     let mut child = 0;
@@ -84,9 +83,10 @@ mod tests {
     use sh_base::Value;
     use sh_image::{LeafImage, Pair};
 
-    // The hop from an inner node of level 1: keys from 10 on below 20, next node 7, the pairs (10, 1) and (15, 2).
-    #[tactic(auto, using(crate::proofs::ChildLemmas::two_sorted))]
-    fn from_inner(key: u64, level: u64) -> Hop {
+    // An inner node of level 1: keys from 10 on below 20, next node 7, the pairs (10, 1) and (15, 2).
+    fn inner() -> InnerImage
+        ensures { result ≡ record { version = 0; level = 1; low = 10; high = 20; next = 7; pairs = record { separator = 10; child = 1 } ∷ record { separator = 15; child = 2 } ∷ [] } }
+    {
         let mut image = InnerImage::new(0, 1, 10, 20, 7);
         image.push(Pair {
             separator: 10,
@@ -96,13 +96,27 @@ mod tests {
             separator: 15,
             child: 2,
         });
-        next_hop(&Image::Inner(image), key, level)
+        image
+    }
+
+    #[tactic(auto, using(crate::proofs::ChildLemmas::two_sorted))]
+    fn from_inner(key: u64, level: u64) -> Hop {
+        next_hop(&Image::Inner(inner()), key, level)
     }
 
     // The hop from a leaf: keys from 10 on below 20, next leaf 3.
     fn from_leaf(key: u64, level: u64) -> Hop {
         let leaf = LeafImage::new(0, 10, 20, 3, 4, Value::of(&[0]));
         next_hop(&Image::Leaf(leaf), key, level)
+    }
+
+    #[test]
+    fn children_at_the_separators(rt: HostRuntime) {
+        assert_eq!(rt; child(&inner(), 9), 0);
+        assert_eq!(rt; child(&inner(), 10), 1);
+        assert_eq!(rt; child(&inner(), 14), 1);
+        assert_eq!(rt; child(&inner(), 15), 2);
+        assert_eq!(rt; child(&inner(), 20), 2);
     }
 
     #[test]

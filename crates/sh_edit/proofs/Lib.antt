@@ -9,3 +9,4 @@ pub mod SplitLemmas
 pub mod HalvesLemmas
 pub mod PairLemmas
 pub mod RiseLemmas
+pub mod RangeLemmas

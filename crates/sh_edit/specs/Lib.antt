@@ -3,3 +3,4 @@ pub mod Placing
 pub mod Rewriting
 pub mod Splitting
 pub mod Pairing
+pub mod Ranging

@@ -1,8 +1,9 @@
-//! Changes of leaves and inner nodes.
+//! Changes of leaves and inner nodes, and what a range takes of a leaf.
 #![tactic(auto)]
 
 mod inner;
 mod laws;
+mod ranging;
 mod split;
 
 ghost use Rattle.std.specs.Prelude.{◌≡◌, ◌↔◌, IsTrue, ◌-◌, ◌<◌, ◌≤◌, ◌^◌, MatchOption, length, map};
@@ -15,6 +16,7 @@ pub use laws::{
     edits_are_the_maps, edits_keep_keys_apart, entry_writes_are_the_maps,
     inner_nodes_keep_their_pairs, splits_are_the_maps,
 };
+pub use ranging::{ranges_take_least_keys, take_rows, upto};
 use sh_base::Value;
 use sh_image::{LeafEntry, LeafImage};
 use sh_lanes::first_equal;

@@ -1,7 +1,7 @@
 -- The pairs in columns, by their indexes.
-use Rattle.std.proofs.Common.{◌≡◌, ℕ, ◌+◌, ◌<◌, List, [], ◌∷◌, ◌++◌, length, get_or, set, refl, sym, ap, ◌∙◌, inl, inr, length-append, arith}
+use Rattle.std.proofs.Common.{◌≡◌, ℕ, ◌+◌, ◌<◌, ◌≤◌, List, [], ◌∷◌, ◌++◌, length, get_or, set, take, refl, sym, ap, ◌∙◌, inl, inr, length-append, arith}
 use Rattle.std.proofs.lemmas.Bool.{cases_lt}
-use Rattle.std.proofs.lemmas.List.{same_lists, get_or-set_same, get_or-set_other, get_or_append_left}
+use Rattle.std.proofs.lemmas.List.{same_lists, get_or-take, length-take-le, get_or-set_same, get_or-set_other, get_or_append_left}
 use Rattle.std.proofs.lemmas.List.FromFn.{get_or-map-range_with_len, length-map-range_with_len}
 use Rattle.sh_image.specs.declared.inner.Pair.{Pair}
 use Rattle.sh_image.specs.PairColumns.{pair_at, pairs_of_columns}
@@ -42,3 +42,15 @@ pairs_of_push separators children n x a b =
           let is : k ≡ n = omega arith in
           ap (pair_at news newc) is ∙ (λ t. record { separator = get_or-set_same separators n x.separator 0 a t; child = get_or-set_same children n x.child 0 b t }) ∙ sym (at_end old x d k n old_long is)
     ])
+
+-- pairs whose columns begin as two others do
+pub pairs_of_front : (s c news newc r q : List ℕ) (n : ℕ) → news ≡ take n s → newc ≡ take n c → n ≤ length s → n ≤ length c → pairs_of_columns n (news ++ r) (newc ++ q) ≡ pairs_of_columns n s c
+pairs_of_front s c news newc r q n is_s is_c a b =
+    same_lists _ _ (length_pairs_of (news ++ r) (newc ++ q) n ∙ sym (length_pairs_of s c n)) (λ k d h.
+    let below : k < n = omega (arith, length_pairs_of (news ++ r) (newc ++ q) n) in
+    get_or_pairs_of (news ++ r) (newc ++ q) n k d below
+    ∙ (λ t. record { separator = front s news r n k is_s a below t; child = front c newc q n k is_c b below t })
+    ∙ sym (get_or_pairs_of s c n k d below))
+  where
+    front : (xs new r : List ℕ) (n k : ℕ) → new ≡ take n xs → n ≤ length xs → k < n → get_or (new ++ r) k 0 ≡ get_or xs k 0
+    front xs new r n k is a h = get_or_append_left new r 0 k (omega (arith, ap length is, length-take-le n xs a)) ∙ ap (λ l. get_or l k 0) is ∙ get_or-take n xs k 0 h

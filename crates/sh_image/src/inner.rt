@@ -78,6 +78,21 @@ impl InnerImage {
         self.count = 0;
     }
 
+    /// Becomes a copy of another inner node. It copies the pairs that the other has, and no room behind them.
+    pub fn copy_from(&mut self, other: &InnerImage)
+        ensures { self.new ≡ other.now }
+    {
+        self.version = other.version;
+        self.level = other.level;
+        self.low = other.low;
+        self.high = other.high;
+        self.next = other.next;
+        self.count = other.count;
+        let count = other.count as usize;
+        self.separators[..count].copy_from_slice(&other.separators[..count]);
+        self.children[..count].copy_from_slice(&other.children[..count]);
+    }
+
     /// Its version.
     pub fn version(&self) -> u64
         ensures { result ≡ self.now.version }

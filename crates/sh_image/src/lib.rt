@@ -469,4 +469,51 @@ mod tests {
             assert_eq!(rt; shape(&image, 2), (1, 2, u64::MAX));
         }
     }
+
+    fn fields(inner: &InnerImage) -> (u64, u64, u64, u64, u32, u32) {
+        (
+            inner.version(),
+            inner.level(),
+            inner.low(),
+            inner.high(),
+            inner.next(),
+            inner.pairs(),
+        )
+    }
+
+    // The child at an index, and 0 for none.
+    fn child_at(inner: &InnerImage, index: u32) -> u32 {
+        if index < inner.pairs() {
+            inner.pair(index).child
+        } else {
+            0
+        }
+    }
+
+    // Of a node with two pairs, and then of one with one.
+    #[test]
+    fn a_copy_has_the_pairs_of_the_other_alone(rt: HostRuntime) {
+        let mut longer = InnerImage::new(7, 2, 10, 20, 3);
+        longer.push(Pair {
+            separator: 10,
+            child: 4,
+        });
+        longer.push(Pair {
+            separator: 15,
+            child: 5,
+        });
+        let mut shorter = InnerImage::new(8, 1, 30, 40, 6);
+        shorter.push(Pair {
+            separator: 30,
+            child: 9,
+        });
+        let mut copy = InnerImage::new(0, 0, 0, 0, 0);
+        copy.copy_from(&longer);
+        assert_eq!(rt; fields(&copy), (7, 2, 10, 20, 3, 2));
+        assert_eq!(rt; (separator_at(&copy, 1), child_at(&copy, 1)), (15, 5));
+        copy.copy_from(&shorter);
+        assert_eq!(rt; fields(&copy), (8, 1, 30, 40, 6, 1));
+        assert_eq!(rt; (separator_at(&copy, 0), child_at(&copy, 0)), (30, 9));
+        assert_eq!(rt; (separator_at(&copy, 1), child_at(&copy, 1)), (u64::MAX, 0));
+    }
 }

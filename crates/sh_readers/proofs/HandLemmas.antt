@@ -95,13 +95,17 @@ module _ (s : TreeState) (level low key target : ℕ) (image : Image) (h : IsIma
       let t = by_restart (nat_lt (level_of image) target || nat_lt key (low_of image)) (nat_le (high_of image) key) (level_of image == target) (next_of image) (child_of (image_pairs image) key) e in
       elim (restarts (level_of image) target key (low_of image) t) [ inl lt ↦ omega (arith, lt, le, h.level_is) | inr lt ↦ omega (arith, lt, from, h.low_is) ]
 
+-- while linked nodes stay linked an image stays in hand
+pub image_linked : (p : ConfigParts) (s t : TreeState) (linked : (n l a : ℕ) → s.class n ≡ Linked l a → t.class n ≡ Linked l a) (level low : ℕ) (image : Image) → IsImageOf s level low image → IsImageOf t level low image
+image_linked p s t linked level low image h = record { level_is = h.level_is; low_is = h.low_is; fences = h.fences; past = h.past; next = follows_on p s t linked level (high_of image) (next_of image) h.next; children = λ below e. lead_on p s t linked below (image_pairs image) (h.children below e); sorted = h.sorted }
+
 -- an act of others keeps what a client has in hand
 module _ (p : ConfigParts) (Other : Owner → Type 0) (s t : TreeState) (ch : ChangeFor p Other s t) where
   pub named_on : (level n key : ℕ) → IsNamed s level n key → IsNamed t level n key
   named_on level n key h = record { low = h.low; linked = ch.linked n level h.low h.linked; below = h.below }
 
   pub image_on : (level low : ℕ) (image : Image) → IsImageOf s level low image → IsImageOf t level low image
-  image_on level low image h = record { level_is = h.level_is; low_is = h.low_is; fences = h.fences; past = h.past; next = follows_on p s t ch.linked level (high_of image) (next_of image) h.next; children = λ below e. lead_on p s t ch.linked below (image_pairs image) (h.children below e); sorted = h.sorted }
+  image_on level low image h = image_linked p s t ch.linked level low image h
 
 module _ (p : ConfigParts) (words : List ℕ) (s : TreeState) (g : Ground p words s) where
   -- an inner node that stands

@@ -5,3 +5,4 @@ pub mod Known
 pub mod Fed
 pub mod HandLemmas
 pub mod RowLemmas
+pub mod Gathering

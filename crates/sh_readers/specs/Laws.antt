@@ -1,6 +1,12 @@
--- The laws of READs and hops: what a READ knows and has found, and where hops lead.
-use Rattle.std.specs.Prelude.{◌≡◌, ◌≢◌, ◌+◌, ◌≤◌, ℕ, suc, List, [], ◌∷◌, length, slice_index, slice_set, ◌-◌, ◌<◌, ◌^◌, Some}
+-- The laws of READs, hops and ranges: what a READ knows and has found, where hops lead, and what ranges gather.
+use Rattle.std.specs.Prelude.{◌≡◌, ◌≢◌, ◌+◌, ◌≤◌, ℕ, suc, List, [], ◌∷◌, ◌++◌, length, slice_index, slice_set, ◌-◌, ◌<◌, ◌^◌, Some}
 use Rattle.sh_base.specs.Setting.{node_size}
+use Rattle.sh_map.specs.declared.log.Entry.{Entry}
+use Rattle.sh_map.specs.declared.book.Row.{Row}
+use Rattle.sh_map.specs.Book.{AnswersRange}
+use Rattle.sh_image.specs.declared.leaf.LeafEntry.{LeafEntry}
+use Rattle.sh_edit.specs.Ranging.{end_in, taken, upto_of}
+use Rattle.sh_state.specs.Nodes.{low_in, high_in}
 use Rattle.sh_base.specs.Layout.{node_word, rear_at}
 use Rattle.sh_image.specs.Seen.{IsUntorn, SeenBy}
 use Rattle.sh_image.specs.declared.read.Seen.TheVariants.{Odd}
@@ -17,6 +23,7 @@ use Rattle.sh_cache.specs.Cached.{kept, forgotten, FoundBy}
 use Rattle.sh_descend.specs.declared.Hop.TheVariants.{Here, Right, Down, Restart}
 use Rattle.sh_descend.specs.Descent.{hop_of, high_of}
 use Rattle.sh_readers.specs.Hand.{IsNamed, IsImageOf, AreRowsOf}
+use Rattle.sh_readers.specs.Ranges.{IsGathered, HeldSince, IsDone, IsBehind}
 use Rattle.sh_base.specs.declared.config.ConfigParts.{ConfigParts}
 
 -- ---- reads know
@@ -102,3 +109,22 @@ FoundRowsCoverTheKey = (s : TreeState) (key : ℕ) (rows : List Inner) (row : In
 
 abbrev pub RowsLeadToLeaves : Type 0
 RowsLeadToLeaves = (s : TreeState) (key child : ℕ) (row : Inner) → IsImageOf s 1 row.low (InnerImage row) → row.low ≤ key → hop_of (InnerImage row) key 0 ≡ Down child → IsNamed s 0 child key
+
+-- ---- ranges
+abbrev pub RangesBegin : Type 0
+RangesBegin = (log : List Entry) (first low : ℕ) → IsGathered log first low low []
+
+abbrev pub GatheredRowsStay : Type 0
+GatheredRowsStay = (log more : List Entry) (first low place : ℕ) (rows : List Row) → IsGathered log first low place rows → IsGathered (log ++ more) first low place rows
+
+abbrev pub ReadLeavesHeldSince : ConfigParts → Type 0
+ReadLeavesHeldSince p = (log : List Entry) (first low high : ℕ) (standing got : List ℕ) → IsReadLeaf p log first standing got → 1 ≤ low → low_in got ≤ low → high ≤ high_in got → HeldSince log first low high (leaf_in p got).entries
+
+abbrev pub LeavesAreGathered : Type 0
+LeavesAreGathered = (log : List Entry) (first low place leaf_high high most : ℕ) (es : List LeafEntry) (rows : List Row) → IsGathered log first low place rows → place ≤ leaf_high → place ≤ high → length rows < most → HeldSince log first place (end_in leaf_high high) es → IsBehind log first low leaf_high high most (rows ++ taken es (end_in leaf_high high) (most - length rows) place)
+
+abbrev pub GatheredRowsAreFew : Type 0
+GatheredRowsAreFew = (log : List Entry) (first low place : ℕ) (rows : List Row) → IsGathered log first low place rows → low + length rows ≤ place
+
+abbrev pub DoneRangesAreAnswered : Type 0
+DoneRangesAreAnswered = (log : List Entry) (first low high most : ℕ) (rows : List Row) → IsDone log first low high most rows → (low ≤ upto_of most high rows) × (upto_of most high rows ≤ high) × AnswersRange log first (length log) low (upto_of most high rows) rows

@@ -1,4 +1,5 @@
 pub mod Points
 pub mod Knows
 pub mod Hand
+pub mod Ranges
 pub mod Laws

@@ -1,13 +1,15 @@
-//! What a READ of a node in the tree knows while it is under way, what it has found where it is accepted, and where the
-//! hops from there lead.
+//! What a READ of a node in the tree knows while it is under way, what it has found where it is accepted, where the hops
+//! from there lead, and what a range gathers of the leaves that it reads.
 #![tactic(auto)]
 
 mod hops;
+mod ranges;
 
 ghost use Rattle.sh_base.specs.Parts.{parts_of};
 ghost use Rattle.sh_readers.specs.Laws.{ActsKeepKnowledge, FedInnersStand, FedLeavesAreRight, FedReadsAreNeverOdd, FedReadsBegin, FedReadsGoOn, HandoversKeepKnowledge, InnerReadsStand, LeafReadsAreRight, LoadsAddKnowledge, ReadsAreNeverOdd, ReadsBeginKnowing};
 
 pub use hops::{hops_lead_on, images_in_hand, rows_in_hand};
+pub use ranges::ranges_gather;
 use sh_base::Config;
 
 /// What a READ of a linked node knows begins with the load of its rear version, and the load of the next lower word adds

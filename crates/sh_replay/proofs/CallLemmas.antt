@@ -11,6 +11,7 @@ use Rattle.sh_base.specs.declared.config.ConfigParts.{ConfigParts}
 use Rattle.sh_base.specs.Setting.{all_seats}
 use Rattle.sh_map.specs.declared.call.Call.{Call}
 use Rattle.sh_map.specs.declared.call.Reply.{Reply}
+use Rattle.sh_map.specs.declared.book.Row.{Row}
 use Rattle.sh_map.specs.declared.log.Change.{Change}
 use Rattle.sh_map.specs.declared.log.Change.TheVariants as change
 use Rattle.sh_map.specs.declared.log.Entry.{Entry}
@@ -21,8 +22,7 @@ use Rattle.sh_client.specs.declared.state.Want.TheVariants as want
 use Rattle.sh_client.specs.Wants.{want_of}
 use Rattle.sh_sheet.specs.declared.item.Item.{Item}
 use Rattle.sh_sheet.specs.declared.item.Item.TheVariants.{Ask, Mark, After, Turn}
-use Rattle.sh_world.specs.declared.state.Given.{Given}
-use Rattle.sh_world.specs.States.{Place, State, answered}
+use Rattle.sh_world.specs.States.{Given, Place, State, answered, fresh_call}
 use Rattle.sh_world.specs.Turning.{asked, give_at, took, turn_at, turn_of}
 use Rattle.sh_replay.specs.Course.{ask, given_by, last_round, round, rounds, turned_by, turns_by, Rounds}
 use Rattle.sh_replay.specs.Served.{is_call, item_of}
@@ -35,18 +35,18 @@ use Rattle.sh_replay.proofs.RoundLemmas.{asks}
 abbrev pub items_of : State → List Item
 items_of s = map item_of s.calls
 
-answered_same : (calls : List Given) (place : ℕ) (r : Reply) (first point : ℕ) → map item_of (answered calls place r first point) ≡ map item_of calls
-answered_same [] place r first point = refl
-answered_same (g ∷ calls) zero r first point = refl
-answered_same (g ∷ calls) (suc place) r first point = ap (λ l. item_of g ∷ l) (answered_same calls place r first point)
+answered_same : (calls : List Given) (place : ℕ) (r : Reply) (rows : List Row) (first point : ℕ) → map item_of (answered calls place r rows first point) ≡ map item_of calls
+answered_same [] place r rows first point = refl
+answered_same (g ∷ calls) zero r rows first point = refl
+answered_same (g ∷ calls) (suc place) r rows first point = ap (λ l. item_of g ∷ l) (answered_same calls place r rows first point)
 
-by_end : (b : Bool) (calls : List Given) (place : ℕ) (r : Reply) (first point : ℕ) → map item_of (if b then answered calls place r first point else calls) ≡ map item_of calls
-by_end true calls place r first point = answered_same calls place r first point
-by_end false calls place r first point = refl
+by_end : (b : Bool) (calls : List Given) (place : ℕ) (r : Reply) (rows : List Row) (first point : ℕ) → map item_of (if b then answered calls place r rows first point else calls) ≡ map item_of calls
+by_end true calls place r rows first point = answered_same calls place r rows first point
+by_end false calls place r rows first point = refl
 
 took_same : (s : State) (seat : ℕ) (q : Place) (w : Want) → items_of (took s seat q w) ≡ items_of s
 took_same s seat q want.Done = refl
-took_same s seat q w = by_end _ s.calls _ _ _ _
+took_same s seat q w = by_end _ s.calls _ _ _ _ _
 
 turn_at_same : (s : State) (seat : ℕ) (o : Option Place) → items_of (turn_at s seat o) ≡ items_of s
 turn_at_same s seat None = refl
@@ -96,7 +96,7 @@ finished_same items s budget =
 give_more : (s : State) (seat : ℕ) (call : Call) (o : Option Place) (q : Place) → o ≡ Some q → items_of (give_at s seat call o) ≡ items_of s ++ Ask seat call ∷ []
 give_more s seat call None q e = absurd (cc)
 give_more s seat call (Some p) q e =
-    let g : Given = record { seat = seat; call = call; reply = None; first = 0; point = 0 } in
+    let g : Given = fresh_call seat call in
     map-append item_of s.calls (g ∷ [])
 
 given_more : (p : ConfigParts) (s : State) (item : Item) → IsServable p item → length s.seats ≡ all_seats p → items_of (given_by s item) ≡ items_of s ++ filter is_call (item ∷ [])

@@ -11,8 +11,7 @@ use Rattle.sh_map.specs.declared.book.Done.{Done}
 use Rattle.sh_client.specs.Rests.{is_resting}
 use Rattle.sh_client.specs.Wants.{want_in, want_of}
 use Rattle.sh_core.specs.Actors.{Actor}
-use Rattle.sh_world.specs.declared.state.Given.{Given}
-use Rattle.sh_world.specs.States.{HasActor, Place, State, done_in, dones_by, dones_from}
+use Rattle.sh_world.specs.States.{Given, HasActor, Place, State, done_in, dones_by, dones_from}
 use Rattle.sh_world.specs.Turning.{is_done, is_idle, is_idle_at}
 use Rattle.sh_world.specs.Running.{IsPlace, IsRunning, numbers_from}
 use Rattle.sh_replay.specs.Course.{have_ended}

@@ -9,8 +9,7 @@ use Rattle.sh_map.specs.declared.call.Call.{Call}
 use Rattle.sh_sheet.specs.declared.item.Item.{Item}
 use Rattle.sh_sheet.specs.declared.item.Item.TheVariants.{Ask, Mark, After, Turn}
 use Rattle.sh_sheet.specs.Sheet.{item_calls}
-use Rattle.sh_world.specs.declared.state.Given.{Given}
-use Rattle.sh_world.specs.States.{Place, State}
+use Rattle.sh_world.specs.States.{Place, State, fresh_call}
 use Rattle.sh_world.specs.Turning.{give_at}
 use Rattle.sh_replay.specs.declared.turns.TurnRow.{TurnRow}
 use Rattle.sh_replay.specs.Course.{given_by, turned_by, turns_by}
@@ -70,8 +69,7 @@ given_seats items s = (keeps_all given_by given_keeps items s).1
 give_count : (s : State) (seat : ℕ) (call : Call) (o : Option Place) → length (give_at s seat call o).calls ≤ length s.calls + 1
 give_count s seat call None = omega arith
 give_count s seat call (Some q) =
-    let g : Given = record { seat = seat; call = call; reply = None; first = 0; point = 0 } in
-    omega (arith, length-append s.calls (g ∷ []))
+    omega (arith, length-append s.calls (fresh_call seat call ∷ []))
 
 given_count : (s : State) (item : Item) → length (given_by s item).calls ≤ length s.calls + item_calls item
 given_count s (Ask seat call) = give_count s seat call _

@@ -1,6 +1,8 @@
 -- The lines of calls, one after another.
 use Rattle.std.proofs.Common.{◌≡◌, ◌<◌, ◌≤◌, Bool, ℕ, ◌+◌, true, false, List, [], ◌∷◌, ◌++◌, map, length, take, drop, get_or, Option, Some, None, refl, sym, ap, ◌∙◌, append_assoc, arith}
 use Rattle.std.proofs.lemmas.List.{append-nil, drop_more, length-take-le, take-append-drop, take_more}
+use Rattle.std.specs.List.{flat_map}
+use Rattle.std.proofs.lemmas.List.Concat.{flat_map-append}
 use Rattle.std.proofs.lemmas.List.Folds.{list_all_at, list_all_more}
 use Rattle.std.proofs.lemmas.List.Sums.{sum_by_more}
 use Rattle.std.proofs.lemmas.Option.{get_or_from_slice_get, slice_get_within}
@@ -8,13 +10,13 @@ use Rattle.std.proofs.lemmas.Bool.{and_parts}
 use Rattle.std.specs.Prelude.{◌&&◌, if◌then◌else◌, is_some, slice_get}
 use Rattle.sh_map.specs.declared.call.Reply.{Reply}
 use Rattle.sh_map.specs.declared.book.Done.{Done}
+use Rattle.sh_map.specs.declared.book.Row.{Row}
 use Rattle.sh_port.specs.Port.{AppendsFront}
 use Rattle.sh_port.proofs.Bytes.{appends_none}
-use Rattle.sh_text.specs.Text.{calls_text}
+use Rattle.sh_text.specs.Text.{calls_text, row_line}
 use Rattle.sh_text.specs.declared.points.Points.TheVariants as points
-use Rattle.sh_text.proofs.Fronts.{front_more}
-use Rattle.sh_world.specs.declared.state.Given.{Given}
-use Rattle.sh_world.specs.States.{done_in, dones_from}
+use Rattle.sh_text.proofs.Fronts.{front_more, part_at}
+use Rattle.sh_world.specs.States.{Given, done_in, dones_from}
 use Rattle.sh_replay.specs.Course.{have_ended}
 use Rattle.sh_replay.specs.Output.{count_ended, ended_by, lines_from, text_with}
 use Rattle.sh_replay.specs.Served.{done_item, item_of}
@@ -40,6 +42,16 @@ module _ (calls : List Given) (i : ℕ) (g : Given) (n : ℕ) (below : i < lengt
   -- one line more
   pub lines_more : lines_from 1 (take (i + 1) calls) ≡ lines_from 1 (take i calls) ++ text_with n g g.reply
   lines_more = ap (lines_from 1) (take_more calls i g below ∙ ap (λ x. take i calls ++ x ∷ []) is) ∙ lines_append 1 (take i calls) (g ∷ []) ∙ ap (λ k. lines_from 1 (take i calls) ++ lines_from k (g ∷ [])) place ∙ ap (λ t. lines_from 1 (take i calls) ++ t) (append-nil (text_with n g g.reply))
+
+-- the rows' lines before a row's, its own, and those behind it
+pub row_line_at : (n : ℕ) (rows : List Row) (i : ℕ) (r : Row) → slice_get rows i ≡ Some r → flat_map (row_line n) rows ≡ flat_map (row_line n) (take i rows) ++ (row_line n r ++ flat_map (row_line n) (drop (i + 1) rows))
+row_line_at n rows i r here = part_at (row_line n) rows i r (slice_get_within rows i r here) ∙ ap (λ x. flat_map (row_line n) (take i rows) ++ (row_line n x ++ flat_map (row_line n) (drop (i + 1) rows))) (get_or_from_slice_get rows i r r here)
+
+-- one row's line more
+pub row_line_more : (n : ℕ) (rows : List Row) (i : ℕ) (r : Row) → slice_get rows i ≡ Some r → flat_map (row_line n) (take (i + 1) rows) ≡ flat_map (row_line n) (take i rows) ++ row_line n r
+row_line_more n rows i r here =
+    ap (flat_map (row_line n)) (take_more rows i r (slice_get_within rows i r here) ∙ ap (λ x. take i rows ++ x ∷ []) (get_or_from_slice_get rows i r r here))
+    ∙ flat_map-append (row_line n) (take i rows) (r ∷ []) ∙ ap (λ t. flat_map (row_line n) (take i rows) ++ t) (append-nil (row_line n r))
 
 -- ---- whether a call has ended
 

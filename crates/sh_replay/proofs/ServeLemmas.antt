@@ -136,6 +136,7 @@ module _ (p : ConfigParts) (lawful : IsSetting p) (items sheet : List Item) (lai
           setting = ap (λ (s : State). s.setting) last ∙ (finished_same sheet given budget).1 ∙ setting_is;
           calls = same_items ∙ given_all;
           lawful = sound.0.book.lawful;
+          causes = sound.0.causes;
           rows_are = holds;
           few_rows = few_rows after finish rows sound few_calls holds;
           few_calls = few_calls;

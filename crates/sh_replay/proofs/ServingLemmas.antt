@@ -5,7 +5,6 @@ use Rattle.std.proofs.lemmas.Bool.Decides.{nat_tests}
 use Rattle.std.proofs.lemmas.List.Elements.{All-cons, All-head, All-nil, All-tail}
 use Rattle.std.proofs.lemmas.List.Sums.{fails_before_first}
 use Rattle.sh_base.specs.declared.config.ConfigParts.{ConfigParts}
-use Rattle.sh_map.specs.declared.call.Call.TheVariants.{Get, Put, Del, Range}
 use Rattle.sh_sheet.specs.declared.item.Item.{Item}
 use Rattle.sh_sheet.specs.declared.item.Item.TheVariants.{Ask, Mark, After, Turn}
 use Rattle.sh_sheet.specs.Sheet.{IsLawfulItem}
@@ -13,10 +12,7 @@ use Rattle.sh_replay.specs.Serving.{first_unserved, is_served, IsServable}
 
 -- a lawful item that is served is one that can be served
 servable_one : (p : ConfigParts) (item : Item) → IsLawfulItem p item → not (is_served item) ≡ false → IsServable p item
-servable_one p (Ask seat (Get key)) lawful served = (lawful.0, lawful.1, tt)
-servable_one p (Ask seat (Put key value)) lawful served = (lawful.0, lawful.1, tt)
-servable_one p (Ask seat (Del key)) lawful served = (lawful.0, lawful.1, tt)
-servable_one p (Ask seat (Range low high)) lawful served = absurd (cc)
+servable_one p (Ask seat call) lawful served = lawful
 servable_one p (Mark seat n) lawful served = absurd (cc)
 servable_one p (After seat n) lawful served = absurd (cc)
 servable_one p (Turn seat count) lawful served = lawful

@@ -1,17 +1,17 @@
--- The output of a replay: a line for each call, and the last lines.
+-- The output of a replay: the lines of each call, and the last lines.
 use Rattle.std.specs.Prelude.{ℕ, ◌+◌, Bool, List, [], ◌∷◌, ◌++◌, length, sum, Option, Some, None, is_some, if◌then◌else◌}
 use Rattle.std.specs.List.{flat_map, sum_by}
 use Rattle.sh_map.specs.declared.book.Row.{Row}
 use Rattle.sh_map.specs.declared.call.Reply.{Reply}
 use Rattle.sh_text.specs.declared.points.Points.TheVariants as points
 use Rattle.sh_text.specs.Text.{call_text, end_line, map_line, pending_line, unfinished_line}
-use Rattle.sh_world.specs.declared.state.Given.{Given}
+use Rattle.sh_world.specs.States.{Given}
 use Rattle.sh_replay.specs.Course.{have_ended}
 
--- the line of a call that has ended so, or hasn't ended
+-- the lines of a call that has ended so, with those of its rows, or the line of one that hasn't ended
 abbrev pub text_with : (n : ℕ) → Given → Option Reply → List ℕ
 text_with n g None = pending_line points.Shown n g.seat g.call
-text_with n g (Some reply) = call_text points.Shown (record { n = n; seat = g.seat; call = g.call; reply = reply; first = g.first; point = g.point; rows = [] })
+text_with n g (Some reply) = call_text points.Shown (record { n = n; seat = g.seat; call = g.call; reply = reply; first = g.first; point = g.point; rows = g.rows })
 
 -- the lines of these calls, of which the first has the number n
 abbrev pub lines_from : (n : ℕ) → List Given → List ℕ

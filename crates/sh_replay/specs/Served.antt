@@ -11,9 +11,9 @@ use Rattle.sh_sheet.specs.declared.item.Item.{Item}
 use Rattle.sh_sheet.specs.declared.item.Item.TheVariants.{Ask, Mark, After, Turn}
 use Rattle.sh_sheet.specs.Sheet.{item_calls}
 use Rattle.sh_tree.specs.Tree.{IsTree, map_in}
-use Rattle.sh_world.specs.declared.state.Given.{Given}
 use Rattle.sh_image.specs.Laid.{AreLaid}
-use Rattle.sh_world.specs.States.{State, dones_of}
+use Rattle.sh_world.specs.Laws.{RefusalsHaveCauses}
+use Rattle.sh_world.specs.States.{Given, State, dones_of}
 use Rattle.sh_replay.specs.declared.ending.Finish.{Finish}
 use Rattle.sh_replay.specs.declared.ending.Finish.TheVariants as finish
 use Rattle.sh_replay.specs.Course.{budget_of, course, have_ended, HasFinished}
@@ -56,8 +56,9 @@ is_call (After seat n) = false
 is_call (Turn seat count) = false
 
 -- The world is the last one of the items' course, over laid words, and its rounds ended so. Its calls are the items'.
--- The log and the ended calls are a lawful book, so each seat has at most one entry whose call hasn't ended. Where every
--- call has ended the book is closed, and the words hold the log's map, whose rows these are.
+-- The log and the ended calls are a lawful book, so each seat has at most one entry whose call hasn't ended; a put was
+-- full, an update worn and a range ended early by their causes. Where every call has ended the book is closed, and the
+-- words hold the log's map, whose rows these are.
 pub record HasServed (p : ConfigParts) (items : List Item) (s : State) (end : Finish) (rows : List Row) : Type 0 where
   pub laid : List ℕ
   pub are_laid : AreLaid p laid
@@ -66,6 +67,7 @@ pub record HasServed (p : ConfigParts) (items : List Item) (s : State) (end : Fi
   pub setting : s.setting ≡ p
   pub calls : map item_of s.calls ≡ filter is_call items
   pub lawful : IsLawful s.log (dones_of s.calls)
+  pub causes : RefusalsHaveCauses s
   pub rows_are : HoldsRows s end rows
   pub few_rows : length rows ≤ 4294967296
   pub few_calls : length s.calls ≤ 1000000

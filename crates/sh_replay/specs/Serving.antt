@@ -3,10 +3,7 @@ use Rattle.std.specs.Prelude.{ℕ, ◌≡◌, ◌<◌, ◌||◌, Bool, true, fal
 use Rattle.std.specs.List.{position}
 use Rattle.sh_base.specs.declared.config.ConfigParts.{ConfigParts}
 use Rattle.sh_base.specs.Setting.{all_seats}
-use Rattle.sh_map.specs.declared.call.Call.{Call}
-use Rattle.sh_map.specs.declared.call.Call.TheVariants.{Get, Put, Del, Range}
 use Rattle.sh_map.specs.Calls.{IsInRange}
-use Rattle.sh_client.specs.Sound.{IsPointCall}
 use Rattle.sh_sheet.specs.declared.item.Item.{Item}
 use Rattle.sh_sheet.specs.declared.item.Item.TheVariants.{Ask, Mark, After, Turn}
 use Rattle.sh_sheet.specs.declared.item.Mode.TheVariants.{Replay}
@@ -22,16 +19,9 @@ if_served o = if o.events || is_some o.make then None else Some o
 abbrev pub accepted : List Text → Option Asked
 accepted words = option_and_then if_served (order_of Replay words)
 
--- a get, a put or a delete
-abbrev pub is_one_key : Call → Bool
-is_one_key (Get key) = true
-is_one_key (Put key value) = true
-is_one_key (Del key) = true
-is_one_key (Range low high) = false
-
--- an item that is served: a get, a put, a delete, or turns
+-- an item that is served: a call, or turns
 abbrev pub is_served : Item → Bool
-is_served (Ask seat call) = is_one_key call
+is_served (Ask seat call) = true
 is_served (Mark seat number) = false
 is_served (After seat number) = false
 is_served (Turn seat count) = true
@@ -48,7 +38,7 @@ pub record IsUnserved (headed : Bool) (items : List Item) (row : ℕ) : Type 0 w
 
 -- an item that is served, in range for the setting and by one of its seats
 abbrev pub IsServable : ConfigParts → Item → Type 0
-IsServable p (Ask seat call) = (seat < all_seats p) × IsInRange p call × IsPointCall call
+IsServable p (Ask seat call) = (seat < all_seats p) × IsInRange p call
 IsServable p (Mark seat number) = ⊥
 IsServable p (After seat number) = ⊥
 IsServable p (Turn seat count) = seat < all_seats p

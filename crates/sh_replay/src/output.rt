@@ -1,48 +1,74 @@
 // The lines of a replay.
-ghost use Rattle.std.specs.Prelude.{◌≡◌, ◌≤◌, ◌*◌, ◌^◌, length, sum, OnOk, OnErr};
-ghost use Rattle.std.specs.List.{sum_by};
+ghost use Rattle.std.specs.Prelude.{◌≡◌, ◌<◌, ◌≤◌, ◌*◌, ◌^◌, if◌then◌else◌, is_some, length, sum, OnOk, OnErr};
+ghost use Rattle.std.specs.List.{flat_map, sum_by};
 ghost use Rattle.std.specs.Io.KnownBytes.{Appends};
 ghost use Rattle.sh_port.specs.Port.{AppendsFront};
+ghost use Rattle.sh_text.specs.Text.{row_line};
 ghost use Rattle.sh_text.specs.Write.{HasWriteCause};
-ghost use Rattle.sh_replay.specs.Output.{count_ended, ended_by, end_lines, last_lines, lines_from, map_lines, sum_of, text_of, text_with};
+ghost use Rattle.sh_world.specs.States.{rows_at, with_rows};
+ghost use Rattle.sh_replay.specs.Output.{count_ended, end_lines, last_lines, lines_from, map_lines, sum_of, text_of, text_with};
 
 use crate::turns::have_ended;
 use sh_base::Value;
-use sh_map::{Done, Row, Rows};
+use sh_map::Row;
 use sh_port::Sink;
 use sh_text::{
-    Points, WriteError, write_call, write_end, write_map, write_pending, write_unfinished,
+    Finished, Points, WriteError, write_end, write_finished, write_map, write_pending, write_row,
+    write_unfinished,
 };
-use sh_world::{Calls, Given};
+use sh_world::{Calls, GivenCall};
 use std::alloc::Global;
 
-// Writes the line of call `n`.
+// Writes the lines of the rows of call `n`, which is at this place.
+fn write_given_rows<K: Sink>(
+    alloc: Global,
+    sink: &mut K,
+    n: u32,
+    calls: &Calls,
+    place: usize,
+) -> Result<(), WriteError>
+    requires { place < length calls.now.calls }
+    ensures ok { OnOk result (Appends (K.held sink.old) (K.held sink.new) (flat_map (row_line n) (rows_at calls.now.calls place))) }
+    ensures err { OnErr result (AppendsFront (K.held sink.old) (K.held sink.new) (flat_map (row_line n) (rows_at calls.now.calls place))) }
+    ensures cause { HasWriteCause (K.faults sink.old) (K.faults sink.new) result }
+{
+    for row in 0..calls.rows(place) {
+        match write_row(alloc, sink, n, &calls.row(place, row)) {
+            Ok(()) => {}
+            Err(error) => return Err(error),
+        }
+    }
+    Ok(())
+}
+
+// Writes the lines of call `n`, which is at this place.
 fn write_given<K: Sink>(
     alloc: Global,
     sink: &mut K,
     n: u32,
-    given: &Given,
+    given: &GivenCall,
+    calls: &Calls,
+    place: usize,
 ) -> Result<(), WriteError>
-    ensures ok { OnOk result (Appends (K.held sink.old) (K.held sink.new) (text_with n given.now given.now.reply)) }
-    ensures err { OnErr result (AppendsFront (K.held sink.old) (K.held sink.new) (text_with n given.now given.now.reply)) }
+    requires { place < length calls.now.calls }
+    ensures ok { OnOk result (Appends (K.held sink.old) (K.held sink.new) (text_with n (with_rows given.now (rows_at calls.now.calls place)) given.now.reply)) }
+    ensures err { OnErr result (AppendsFront (K.held sink.old) (K.held sink.new) (text_with n (with_rows given.now (rows_at calls.now.calls place)) given.now.reply)) }
     ensures cause { HasWriteCause (K.faults sink.old) (K.faults sink.new) result }
 {
-    match given.reply {
-        Some(reply) => write_call(
-            alloc,
-            sink,
-            Points::Shown,
-            &Done {
-                n,
-                seat: given.seat,
-                call: given.call,
-                reply,
-                first: u64::from(given.first),
-                point: u64::from(given.point),
-                rows: Rows::new(alloc),
-            },
-        ),
-        None => write_pending(alloc, sink, Points::Shown, n, given.seat, &given.call),
+    let Some(reply) = given.reply else {
+        return write_pending(alloc, sink, Points::Shown, n, given.seat, &given.call);
+    };
+    let call = Finished {
+        n,
+        seat: given.seat,
+        call: given.call,
+        reply,
+        first: u64::from(given.first),
+        point: u64::from(given.point),
+    };
+    match write_finished(alloc, sink, Points::Shown, &call) {
+        Ok(()) => write_given_rows(alloc, sink, n, calls, place),
+        Err(error) => Err(error),
     }
 }
 
@@ -54,7 +80,7 @@ fn write_given_calls<K: Sink>(alloc: Global, sink: &mut K, calls: &Calls) -> Res
     ensures cause { HasWriteCause (K.faults sink.old) (K.faults sink.new) result }
 {
     for i in 0..calls.len() {
-        match write_given(alloc, sink, i as u32 + 1, &calls.get(i)) {
+        match write_given(alloc, sink, i as u32 + 1, &calls.get(i), calls, i) {
             Ok(()) => {}
             Err(error) => return Err(error),
         }
@@ -125,8 +151,8 @@ fn write_end_lines<K: Sink>(
 }
 
 // Whether a call has ended, as a number.
-fn ended_by(given: &Given) -> u64
-    ensures { result ≡ ended_by given.now }
+fn ended_by(given: &GivenCall) -> u64
+    ensures { result ≡ (if is_some given.now.reply then 1 else 0) }
 {
     if given.reply.is_some() { 1 } else { 0 }
 }
@@ -164,9 +190,9 @@ fn write_last_lines<K: Sink>(
     }
 }
 
-/// Writes the lines of a replay: one for each call, in the order in which they were given; then, where every call has
-/// ended, the map where it is asked for and the last line, and else the line of a run that was given up. Conditions:
-/// at most 1,000,000 calls, and at most 2^32 rows.
+/// Writes the lines of a replay: those of each call, in the order in which they were given, a range's rows behind its own;
+/// then, where every call has ended, the map where it is asked for and the last line, and else the line of a run that was
+/// given up. Conditions: at most 1,000,000 calls, and at most 2^32 keys in the map.
 #[tactic(auto, unfolding(crate::specs::Output::text_of))]
 pub fn write_lines<K: Sink>(
     alloc: Global,

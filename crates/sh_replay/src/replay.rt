@@ -91,7 +91,7 @@ fn replay<S: Source, K: Sink>(
 /// is read. `ReadFault` comes only where the source's count of faults rose, `TooLong` exactly where 16,777,217 bytes were
 /// taken, `BadRow` exactly where a row is refused, with the first such row and its cause, and `TooMany` exactly where the
 /// rows ask for too many calls, turns or rows of ranges. A sheet that passes all this is still `BadRow` with the cause
-/// `NotYet` where it has a row that isn't served yet: a range, a mark or an after. Up to there nothing is written and the
+/// `NotYet` where it has a row that isn't served yet: a mark or an after. Up to there nothing is written and the
 /// world is blank. `Unfinished` comes exactly where the rounds made 4,096 turns and 100,000 more for each call, and a call
 /// hasn't ended; then a call without an end has the word `pending` in its line, and the last line tells how many have
 /// ended. `WriteFault` comes only where the sink's count rose; what was written is a front of the output. `NoMemory` is

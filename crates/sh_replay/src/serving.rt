@@ -2,9 +2,8 @@
 ghost use Rattle.std.specs.Prelude.{◌≡◌, map, Some, None, IfOk, IsErrOf};
 ghost use Rattle.sh_options.specs.Order.{asked_of};
 ghost use Rattle.sh_options.specs.declared.order.WordFault.TheVariants.{Usage};
-ghost use Rattle.sh_replay.specs.Serving.{accepted, first_unserved, is_one_key, is_served};
+ghost use Rattle.sh_replay.specs.Serving.{accepted, first_unserved, is_served};
 
-use sh_map::Call;
 use sh_options::{Order, WordFault, read_words};
 use sh_sheet::{Item, Mode};
 use std::alloc::Global;
@@ -21,23 +20,12 @@ pub fn read_order(alloc: Global, words: &[&str]) -> Result<Order, WordFault>
     Ok(order)
 }
 
-// Whether a call is about one key.
-fn is_one_key(call: &Call) -> bool
-    ensures { result ≡ is_one_key call.now }
-{
-    match call {
-        Call::Range { .. } => false,
-        Call::Get { .. } | Call::Put { .. } | Call::Del { .. } => true,
-    }
-}
-
-// Whether an item is served: a get, a put, a delete, or turns.
+// Whether an item is served: a call, or turns.
 fn is_served(item: &Item) -> bool
     ensures { result ≡ is_served item.now }
 {
     match item {
-        Item::Ask { call, .. } => is_one_key(call),
-        Item::Turn { .. } => true,
+        Item::Ask { .. } | Item::Turn { .. } => true,
         Item::Mark { .. } | Item::After { .. } => false,
     }
 }

@@ -163,13 +163,13 @@ fn refused_rows_leave_nothing(rt: HostRuntime) -> Result<(), Fail> {
         ("range,0,8,7\n", 1, RowCause::BadBounds),
         ("mark,0,1,\nmark,1,1,\n", 2, RowCause::BadMark),
         ("turn,0,1,\nput,0,5\n", 2, RowCause::FieldCount),
-        ("put,0,5,50\nrange,0,1,2\n", 2, RowCause::NotYet),
+        ("put,0,5,50\nmark,0,1,\n", 2, RowCause::NotYet),
         (
             "op,seat,a,b\nput,0,5,50\nmark,0,1,\nafter,0,1,\n",
             3,
             RowCause::NotYet,
         ),
-        ("put,7,5,50\nturn,7,9,\nrange,0,1,2\n", 3, RowCause::NotYet),
+        ("range,7,5,50\nturn,7,9,\nmark,0,1,\n", 3, RowCause::NotYet),
     ] {
         let refused = Status::BadRow { row, cause };
         assert!(rt; refuses(rt.alloc(), &[], input, refused)?, "{input}");
@@ -263,8 +263,20 @@ fn small(chunks: &'static str, more: &'static str) -> [&'static str; 8] {
     ]
 }
 
-// Whether the small setting answers these rows behind four puts by seat 2, of the keys 10, 20, 30 and 40.
-fn answers_behind_four(alloc: Global, rest: &str, more: &str) -> Result<bool, AllocError> {
+// The small setting with so many cached nodes, and with one word more.
+fn caching(cached: &'static str, more: &'static str) -> [&'static str; 8] {
+    [
+        SMALL[0], SMALL[1], SMALL[2], SMALL[3], SMALL[4], SMALL[5], cached, more,
+    ]
+}
+
+// Whether the setting of these words answers these rows behind four puts by seat 2, of the keys 10, 20, 30 and 40.
+fn answers_behind_four(
+    alloc: Global,
+    words: &[&str],
+    rest: &str,
+    more: &str,
+) -> Result<bool, AllocError> {
     let mut input = String::new(alloc);
     write!(
         input,
@@ -275,7 +287,7 @@ fn answers_behind_four(alloc: Global, rest: &str, more: &str) -> Result<bool, Al
         output,
         "1,2,put,10,1,none,,0\n2,2,put,20,2,none,,1\n3,2,put,30,3,none,,2\n4,2,put,40,4,none,,3\n{more}"
     )?;
-    answers(alloc, &SMALL, input.as_str(), output.as_str())
+    answers(alloc, words, input.as_str(), output.as_str())
 }
 
 #[test]
@@ -322,7 +334,92 @@ fn schedules_are_replayed(rt: HostRuntime) -> Result<(), Fail> {
             "5,0,put,50,5,none,,4\n6,1,put,60,6,none,,5\n7,1,put,70,7,none,,6\nend,7,7,28\n",
         ),
     ] {
-        assert!(rt; answers_behind_four(alloc, rest, more)?, "{name}");
+        assert!(rt; answers_behind_four(alloc, &SMALL, rest, more)?, "{name}");
+    }
+    Ok(())
+}
+
+#[test]
+fn ranges_gather_rows_leaf_by_leaf(rt: HostRuntime) -> Result<(), Fail> {
+    let alloc = rt.alloc();
+    for (name, rest, more) in [
+        (
+            "a leaf splits behind the root's READ",
+            "range,0,1,100\nput,1,50,5\nturn,2,1000,\nturn,0,2,\nturn,1,1000,\n",
+            "5,0,range,1,100,rows,100,4:5\nrow,5,10,1\nrow,5,20,2\nrow,5,30,3\nrow,5,40,4\nrow,5,50,5\n6,1,put,50,5,none,,4\nend,6,5,15\n",
+        ),
+        (
+            "a leaf splits twice while it is READ",
+            "range,0,1,100\nput,1,50,5\nput,1,11,6\nput,1,12,7\nput,1,13,8\nturn,2,1000,\nturn,0,2,\nturn,1,1000,\n",
+            "5,0,range,1,100,rows,100,4:8\nrow,5,10,1\nrow,5,11,6\nrow,5,12,7\nrow,5,13,8\nrow,5,20,2\nrow,5,30,3\nrow,5,40,4\nrow,5,50,5\n6,1,put,50,5,none,,4\n7,1,put,11,6,none,,5\n8,1,put,12,7,none,,6\n9,1,put,13,8,none,,7\nend,9,8,36\n",
+        ),
+        (
+            "the leaf to the right splits before it is READ",
+            "put,2,50,5\nrange,0,1,100\nput,1,60,6\nput,1,70,7\nturn,2,1000,\nturn,0,47,\nturn,1,1000,\n",
+            "5,2,put,50,5,none,,4\n6,0,range,1,100,rows,100,5:7\nrow,6,10,1\nrow,6,20,2\nrow,6,30,3\nrow,6,40,4\nrow,6,50,5\nrow,6,60,6\nrow,6,70,7\n7,1,put,60,6,none,,5\n8,1,put,70,7,none,,6\nend,8,7,28\n",
+        ),
+        (
+            "a key moves to another entry while the leaf is READ",
+            "del,2,20,\nrange,0,1,100\ndel,1,40,\nput,1,40,5\nturn,2,1000,\nturn,0,6,\nturn,1,1000,\n",
+            "5,2,del,20,,some,2,4\n6,0,range,1,100,rows,100,5:7\nrow,6,10,1\nrow,6,30,3\nrow,6,40,5\n7,1,del,40,,some,4,5\n8,1,put,40,5,none,,6\nend,8,3,9\n",
+        ),
+    ] {
+        assert!(rt; answers_behind_four(alloc, &SMALL, rest, more)?, "{name}");
+    }
+    Ok(())
+}
+
+#[test]
+fn a_range_ends_where_its_buffer_is_full(rt: HostRuntime) -> Result<(), Fail> {
+    let alloc = rt.alloc();
+    let one = caching("--cached=0", "--rows=1");
+    assert!(rt;
+        answers_behind_four(
+            alloc,
+            &one,
+            "range,2,1,100\nrange,2,11,100\nrange,2,40,41\nrange,2,41,100\nrange,2,7,7\nrange,2,10,10\n",
+            "5,2,range,1,100,part,11,4:4\nrow,5,10,1\n6,2,range,11,100,part,21,4:4\nrow,6,20,2\n7,2,range,40,41,rows,41,4:4\nrow,7,40,4\n8,2,range,41,100,rows,100,4:4\n9,2,range,7,7,rows,7,4:4\n10,2,range,10,10,rows,10,4:4\nend,10,4,10\n",
+        )?
+    );
+    let three = caching("--cached=0", "--rows=3");
+    assert!(rt;
+        answers_behind_four(
+            alloc,
+            &three,
+            "put,2,50,5\nput,2,60,6\nrange,2,1,100\nrange,2,31,100\nrange,2,31,61\nrange,2,7,7\n",
+            "5,2,put,50,5,none,,4\n6,2,put,60,6,none,,5\n7,2,range,1,100,part,31,6:6\nrow,7,10,1\nrow,7,20,2\nrow,7,30,3\n8,2,range,31,100,part,61,6:6\nrow,8,40,4\nrow,8,50,5\nrow,8,60,6\n9,2,range,31,61,rows,61,6:6\nrow,9,40,4\nrow,9,50,5\nrow,9,60,6\n10,2,range,7,7,rows,7,6:6\nend,10,6,21\n",
+        )?
+    );
+    Ok(())
+}
+
+#[test]
+fn a_stale_cached_node_leads_left_of_the_key(rt: HostRuntime) -> Result<(), Fail> {
+    let alloc = rt.alloc();
+    for (call, line) in [
+        ("get,0,70,", "9,0,get,70,,some,7,7\nend,9,7,28\n"),
+        ("put,0,75,8", "9,0,put,75,8,none,,7\nend,9,8,36\n"),
+        ("del,0,70,", "9,0,del,70,,some,7,7\nend,9,6,21\n"),
+        (
+            "range,0,55,100",
+            "9,0,range,55,100,rows,100,7:7\nrow,9,60,6\nrow,9,70,7\nend,9,7,28\n",
+        ),
+    ] {
+        let mut rest = String::new(alloc);
+        write!(
+            rest,
+            "put,0,50,5\nget,0,40,\nput,1,60,6\nput,1,70,7\n{call}\nturn,2,1000,\nturn,0,196,\nturn,1,1000,\n"
+        )?;
+        let mut more = String::new(alloc);
+        write!(
+            more,
+            "5,0,put,50,5,none,,4\n6,0,get,40,,some,4,5\n7,1,put,60,6,none,,5\n8,1,put,70,7,none,,6\n{line}"
+        )?;
+        let words = caching("--cached=4", "--rows=4");
+        assert!(rt;
+            answers_behind_four(alloc, &words, rest.as_str(), more.as_str())?,
+            "{call}"
+        );
     }
     Ok(())
 }
@@ -473,7 +570,10 @@ fn a_get_meets_a_split_at_every_turn(rt: HostRuntime) -> Result<(), Fail> {
         } else {
             "5,0,put,50,5,none,,4\n6,1,get,40,,some,4,5\nend,6,5,15\n"
         };
-        assert!(rt; answers_behind_four(alloc, rest.as_str(), more)?, "{k}");
+        assert!(rt;
+            answers_behind_four(alloc, &SMALL, rest.as_str(), more)?,
+            "{k}"
+        );
     }
     Ok(())
 }
@@ -571,12 +671,19 @@ fn random_schedules_are_lawful(rt: HostRuntime) -> Result<(), Fail> {
             let (seat, key) = ((x >> 50) % 3, (x >> 33) % 12 + 1);
             match x >> 61 {
                 0..4 => write!(input, "put,{seat},{key},{i}\n")?,
-                4 | 5 => write!(input, "get,{seat},{key},\n")?,
+                4 => write!(input, "get,{seat},{key},\n")?,
+                5 => write!(input, "range,{seat},{key},{}\n", key + x % 9)?,
                 _ => write!(input, "del,{seat},{key},\n")?,
             }
             write!(input, "turn,{},{},\n", (x >> 10) % 3, (x >> 20) % 90)?;
         }
-        let ended = replay(alloc, &SMALL, input.as_str())?;
+        let words = match schedule % 4 {
+            0 => caching("--cached=0", "--rows=1"),
+            1 => caching("--cached=1", "--rows=2"),
+            2 => caching("--cached=2", "--rows=5"),
+            _ => caching("--cached=16", "--rows=256"),
+        };
+        let ended = replay(alloc, &words, input.as_str())?;
         assert!(rt; is_lawful(alloc, &ended)?, "{schedule}");
     }
     Ok(())

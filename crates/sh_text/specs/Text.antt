@@ -11,6 +11,7 @@ use Rattle.sh_map.specs.declared.call.Reply.{Reply}
 use Rattle.sh_map.specs.declared.call.Reply.TheVariants as reply
 use Rattle.sh_map.specs.declared.book.Row.{Row}
 use Rattle.sh_map.specs.declared.book.Done.{Done}
+use Rattle.sh_text.specs.declared.finished.Finished.{Finished}
 use Rattle.sh_text.specs.declared.points.Points.{Points}
 use Rattle.sh_text.specs.declared.points.Points.TheVariants as points
 
@@ -75,11 +76,11 @@ abbrev pub call_front : ℕ → ℕ → Call → List ℕ
 call_front n seat call = (decimal n ++ codes ",") ++ ((decimal seat ++ codes ",") ++ ((op_text call ++ codes ",") ++ ((decimal (a_of call) ++ codes ",") ++ (b_text call ++ codes ","))))
 
 -- the rest: the reply's word, its value and its point
-abbrev pub call_rest : Points → Done → List ℕ
+abbrev pub call_rest : Points → Finished → List ℕ
 call_rest shown d = (reply_text d.call d.reply ++ codes ",") ++ (reply_value d.reply ++ point_column shown d.reply d.first d.point)
 
 -- the line of a finished call
-unfoldable pub call_line : Points → Done → List ℕ
+unfoldable pub call_line : Points → Finished → List ℕ
 call_line shown d = call_front d.n d.seat d.call ++ call_rest shown d
 
 -- the rest of the line of a call that hasn't ended: no value, and no point
@@ -99,9 +100,13 @@ pair_rest r = (decimal r.key ++ codes ",") ++ (value_text r.value ++ codes "\n")
 unfoldable pub row_line : ℕ → Row → List ℕ
 row_line n r = codes "row," ++ ((decimal n ++ codes ",") ++ pair_rest r)
 
+-- a finished call without its rows
+abbrev pub finished_of : Done → Finished
+finished_of d = record { n = d.n; seat = d.seat; call = d.call; reply = d.reply; first = d.first; point = d.point }
+
 -- the lines of a finished call: its own, and those of its rows in their order
 abbrev pub call_text : Points → Done → List ℕ
-call_text shown d = call_line shown d ++ flat_map (row_line d.n) d.rows
+call_text shown d = call_line shown (finished_of d) ++ flat_map (row_line d.n) d.rows
 
 -- the lines of finished calls
 abbrev pub calls_text : Points → List Done → List ℕ

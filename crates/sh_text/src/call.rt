@@ -2,9 +2,9 @@
 ghost use Rattle.std.specs.Prelude.{◌≡◌, ◌++◌, IfOk, OnOk, codes, string_bytes};
 ghost use Rattle.sh_text.specs.Text.{a_of, b_text, call_front, call_line, call_rest, op_text, pending_line, pending_rest, point_column, point_text, reply_text, reply_value};
 
-use crate::Points;
 use crate::push::{push_number, push_value, push_word, push_words};
-use sh_map::{Call, Done, Reply};
+use crate::{Finished, Points};
+use sh_map::{Call, Reply};
 use std::alloc::{AllocError, Global};
 use std::fmt::Write;
 
@@ -111,12 +111,12 @@ fn push_front(text: &mut String, n: u32, seat: u32, call: &Call) -> Result<(), A
 }
 
 // The rest of a call's line: its reply.
-fn push_rest(text: &mut String, points: Points, done: &Done) -> Result<(), AllocError>
-    ensures { OnOk result (string_bytes text.new ≡ string_bytes text.old ++ call_rest points done.now) }
+fn push_rest(text: &mut String, points: Points, call: &Finished) -> Result<(), AllocError>
+    ensures { OnOk result (string_bytes text.new ≡ string_bytes text.old ++ call_rest points call.now) }
 {
-    push_word(text, reply_word(&done.call, &done.reply))?;
-    push_reply_value(text, &done.reply)?;
-    push_column(text, points, &done.reply, done.first, done.point)
+    push_word(text, reply_word(&call.call, &call.reply))?;
+    push_reply_value(text, &call.reply)?;
+    push_column(text, points, &call.reply, call.first, call.point)
 }
 
 // The rest of the line of a call that hasn't ended.
@@ -132,12 +132,12 @@ fn push_pending(text: &mut String, points: Points) -> Result<(), AllocError>
 /// The line of a finished call, `n,seat,op,a,b,reply,value,point` or, without points, `n,seat,op,a,b,reply,value`, and a
 /// line feed. The lines of a range's rows aren't part of it.
 #[tactic(auto, unfolding(crate::specs::Text::call_line))]
-pub fn call_line(alloc: Global, points: Points, done: &Done) -> Result<String, AllocError>
-    ensures { IfOk result (λ s. string_bytes s ≡ call_line points done.now) }
+pub fn call_line(alloc: Global, points: Points, call: &Finished) -> Result<String, AllocError>
+    ensures { IfOk result (λ s. string_bytes s ≡ call_line points call.now) }
 {
     let mut text = String::new(alloc);
-    push_front(&mut text, done.n, done.seat, &done.call)?;
-    push_rest(&mut text, points, done)?;
+    push_front(&mut text, call.n, call.seat, &call.call)?;
+    push_rest(&mut text, points, call)?;
     Ok(text)
 }
 

@@ -4,6 +4,7 @@
 mod call;
 mod counting;
 mod counts;
+mod finished;
 mod line;
 mod points;
 mod push;
@@ -12,11 +13,12 @@ mod write;
 pub use call::{call_line, pending_line};
 pub use counting::{counts_line, counts_of};
 pub use counts::Counts;
+pub use finished::Finished;
 pub use line::{end_line, event_line, made_line, map_line, row_line, unfinished_line};
 pub use points::Points;
 pub use write::{
-    WriteError, write_call, write_calls, write_counts, write_end, write_event, write_made,
-    write_map, write_pending, write_unfinished,
+    WriteError, write_call, write_calls, write_counts, write_end, write_event, write_finished,
+    write_made, write_map, write_pending, write_row, write_unfinished,
 };
 
 #[cfg(test)]

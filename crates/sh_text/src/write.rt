@@ -4,10 +4,10 @@ ghost use Rattle.std.specs.List.{flat_map};
 ghost use Rattle.std.specs.Io.KnownBytes.{Appends};
 ghost use Rattle.sh_port.specs.Port.{AppendsFront};
 ghost use Rattle.sh_text.specs.Counts.{counts_line};
-ghost use Rattle.sh_text.specs.Text.{call_text, calls_text, end_line, event_line, made_line, map_line, pending_line, row_line, unfinished_line};
+ghost use Rattle.sh_text.specs.Text.{call_line, call_text, calls_text, end_line, event_line, made_line, map_line, pending_line, row_line, unfinished_line};
 ghost use Rattle.sh_text.specs.Write.{HasWriteCause};
 
-use crate::{Counts, Points, call, counting, line};
+use crate::{Counts, Finished, Points, call, counting, line};
 use sh_base::Event;
 use sh_map::{Call, Done, Row};
 use sh_port::{Sink, write_all};
@@ -22,6 +22,21 @@ pub enum WriteError {
     NoMemory,
 }
 
+/// Writes the line of one of the rows of range `n`.
+pub fn write_row<K: Sink>(alloc: Global, sink: &mut K, n: u32, row: &Row) -> Result<(), WriteError>
+    ensures ok { OnOk result (Appends (K.held sink.old) (K.held sink.new) (row_line n row.now)) }
+    ensures err { OnErr result (AppendsFront (K.held sink.old) (K.held sink.new) (row_line n row.now)) }
+    ensures cause { HasWriteCause (K.faults sink.old) (K.faults sink.new) result }
+{
+    let Ok(text) = line::row_line(alloc, n, row) else {
+        return Err(WriteError::NoMemory);
+    };
+    match write_all(sink, text.as_bytes()) {
+        Ok(()) => Ok(()),
+        Err(_) => Err(WriteError::Fault),
+    }
+}
+
 // Writes the lines of the rows of range `n`.
 fn write_rows<K: Sink>(alloc: Global, sink: &mut K, n: u32, rows: &[Row]) -> Result<(), WriteError>
     ensures ok { OnOk result (Appends (K.held sink.old) (K.held sink.new) (flat_map (row_line n) rows.now)) }
@@ -29,15 +44,32 @@ fn write_rows<K: Sink>(alloc: Global, sink: &mut K, n: u32, rows: &[Row]) -> Res
     ensures cause { HasWriteCause (K.faults sink.old) (K.faults sink.new) result }
 {
     for row in rows {
-        let Ok(text) = line::row_line(alloc, n, row) else {
-            return Err(WriteError::NoMemory);
-        };
-        match write_all(sink, text.as_bytes()) {
+        match write_row(alloc, sink, n, row) {
             Ok(()) => {}
-            Err(_) => return Err(WriteError::Fault),
+            Err(error) => return Err(error),
         }
     }
     Ok(())
+}
+
+/// Writes the line of a finished call, without those of its rows.
+pub fn write_finished<K: Sink>(
+    alloc: Global,
+    sink: &mut K,
+    points: Points,
+    call: &Finished,
+) -> Result<(), WriteError>
+    ensures ok { OnOk result (Appends (K.held sink.old) (K.held sink.new) (call_line points call.now)) }
+    ensures err { OnErr result (AppendsFront (K.held sink.old) (K.held sink.new) (call_line points call.now)) }
+    ensures cause { HasWriteCause (K.faults sink.old) (K.faults sink.new) result }
+{
+    let Ok(text) = call::call_line(alloc, points, call) else {
+        return Err(WriteError::NoMemory);
+    };
+    match write_all(sink, text.as_bytes()) {
+        Ok(()) => Ok(()),
+        Err(_) => Err(WriteError::Fault),
+    }
 }
 
 /// Writes the line of a finished call, and behind it those of its rows.
@@ -51,12 +83,17 @@ pub fn write_call<K: Sink>(
     ensures err { OnErr result (AppendsFront (K.held sink.old) (K.held sink.new) (call_text points done.now)) }
     ensures cause { HasWriteCause (K.faults sink.old) (K.faults sink.new) result }
 {
-    let Ok(text) = call::call_line(alloc, points, done) else {
-        return Err(WriteError::NoMemory);
+    let line = Finished {
+        n: done.n,
+        seat: done.seat,
+        call: done.call,
+        reply: done.reply,
+        first: done.first,
+        point: done.point,
     };
-    match write_all(sink, text.as_bytes()) {
+    match write_finished(alloc, sink, points, &line) {
         Ok(()) => write_rows(alloc, sink, done.n, done.rows.as_slice()),
-        Err(_) => Err(WriteError::Fault),
+        Err(error) => Err(error),
     }
 }
 

@@ -14,11 +14,11 @@ use Rattle.sh_core.specs.Actors.{made_by, updates}
 use Rattle.sh_core.specs.Keeps.{pending, pending_aim, pending_filling, pending_need, pending_then, pending_write}
 use Rattle.sh_core_says.specs.Rest.{sum_below}
 use Rattle.sh_decide.specs.declared.state.Aim.{Aim}
-use Rattle.sh_decide.specs.declared.state.Aim.TheVariants.{Own, Posts}
+use Rattle.sh_decide.specs.declared.state.Aim.TheVariants.{Own, Gathers, Posts}
 use Rattle.sh_client.specs.declared.state.Then.{Then}
 use Rattle.sh_client.specs.declared.state.Then.TheVariants.{Ends, Starts, Takes}
 use Rattle.sh_client.specs.declared.state.Write.{Write}
-use Rattle.sh_client.specs.declared.state.Write.TheVariants.{Nothing, Entry as OneEntry, Leaf as WholeLeaf, LeftLeaf, Inner as WholeInner, LeftInner}
+use Rattle.sh_client.specs.declared.state.Write.TheVariants.{Nothing, Inner as WholeInner, LeftInner}
 use Rattle.sh_client.specs.declared.state.Phase.{Phase}
 use Rattle.sh_client.specs.declared.state.Phase.TheVariants.{Idle, Root, Read, Draw, Look, Grab, ReadLocked, Seek, Fill, Waiting, Body, Unlock, Leave, Swap, Ended}
 use Rattle.sh_client.specs.declared.state.Need.{Need}
@@ -28,7 +28,7 @@ use Rattle.sh_client.specs.declared.state.Filling.TheVariants.{RightHalf, NewRoo
 use Rattle.sh_client.specs.Machine.{Machine, Registers}
 use Rattle.sh_client.specs.Giving.{changes_map, entries_of, made_in}
 use Rattle.sh_client.specs.Rests.{rests}
-use Rattle.sh_world.specs.declared.state.Given.{Given}
+use Rattle.sh_world.specs.States.{Given}
 use Rattle.sh_world.specs.Running.{numbers_from}
 
 -- how many have this key
@@ -118,6 +118,7 @@ entries_of_seat seat c r k e h = cc
 
 aim_one : (seat : ℕ) (c : Call) (r : Reply) (aim : Aim) → length (pending_aim seat c r aim) ≤ 1
 aim_one seat c r Own = omega arith
+aim_one seat c r (Gathers place) = omega arith
 aim_one seat c r (Posts post) = entries_one seat c r
 
 then_one : (seat : ℕ) (c : Call) (r : Reply) (after : Then) → length (pending_then seat c r after) ≤ 1

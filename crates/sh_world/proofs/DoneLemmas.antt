@@ -5,22 +5,22 @@ use Rattle.std.proofs.lemmas.Bool.{cases_eq}
 use Rattle.std.proofs.lemmas.List.Elements.{filter-append}
 use Rattle.sh_map.specs.declared.call.Reply.{Reply}
 use Rattle.sh_map.specs.declared.book.Done.{Done}
-use Rattle.sh_world.specs.declared.state.Given.{Given}
-use Rattle.sh_world.specs.States.{answered, done_in, dones_by, dones_from, dones_of}
+use Rattle.sh_map.specs.declared.book.Row.{Row}
+use Rattle.sh_world.specs.States.{Given, answered, done_in, dones_by, dones_from, dones_of}
 
-abbrev pub told : Given → Reply → (first point : ℕ) → Given
-told g r f p = record { seat = g.seat; call = g.call; reply = Some r; first = f; point = p }
+abbrev pub told : Given → Reply → List Row → (first point : ℕ) → Given
+told g r rs f p = record { seat = g.seat; call = g.call; reply = Some r; first = f; point = p; rows = rs }
 
 -- a call that is written whole at its place is answered there
-pub answered_is : (calls : List Given) (k : ℕ) (r : Reply) (f p : ℕ) (g : Given) → set calls k (told (get_or calls k g) r f p) ≡ answered calls k r f p
-answered_is [] k r f p g = refl
-answered_is (x ∷ calls) zero r f p g = refl
-answered_is (x ∷ calls) (suc k) r f p g = ap (λ (ys : List Given). x ∷ ys) (answered_is calls k r f p g)
+pub answered_is : (calls : List Given) (k : ℕ) (r : Reply) (rs : List Row) (f p : ℕ) (g : Given) → set calls k (told (get_or calls k g) r rs f p) ≡ answered calls k r rs f p
+answered_is [] k r rs f p g = refl
+answered_is (x ∷ calls) zero r rs f p g = refl
+answered_is (x ∷ calls) (suc k) r rs f p g = ap (λ (ys : List Given). x ∷ ys) (answered_is calls k r rs f p g)
 
-pub length_answered : (calls : List Given) (k : ℕ) (r : Reply) (f p : ℕ) → length (answered calls k r f p) ≡ length calls
-length_answered [] k r f p = refl
-length_answered (x ∷ calls) zero r f p = refl
-length_answered (x ∷ calls) (suc k) r f p = ap suc (length_answered calls k r f p)
+pub length_answered : (calls : List Given) (k : ℕ) (r : Reply) (rs : List Row) (f p : ℕ) → length (answered calls k r rs f p) ≡ length calls
+length_answered [] k r rs f p = refl
+length_answered (x ∷ calls) zero r rs f p = refl
+length_answered (x ∷ calls) (suc k) r rs f p = ap suc (length_answered calls k r rs f p)
 
 -- the ended ones of calls and of one more
 pub dones_snoc : (n : ℕ) (calls : List Given) (g : Given) → dones_from n (calls ++ g ∷ []) ≡ dones_from n calls ++ done_in (n + length calls) g g.reply
@@ -61,36 +61,36 @@ module _ (seat : ℕ) where
       ∙ none_in (n + 1) calls (λ k x is own. h (suc k) x is own)
 
   -- another seat's call is answered
-  pub by_other : (n : ℕ) (calls : List Given) (k : ℕ) (r : Reply) (f p : ℕ) (g : Given) → slice_get calls k ≡ Some g → g.seat ≢ seat → by (dones_from n (answered calls k r f p)) ≡ by (dones_from n calls)
-  by_other n [] k r f p g is ne = refl
-  by_other n (x ∷ calls) zero r f p g is ne =
+  pub by_other : (n : ℕ) (calls : List Given) (k : ℕ) (r : Reply) (rs : List Row) (f p : ℕ) (g : Given) → slice_get calls k ≡ Some g → g.seat ≢ seat → by (dones_from n (answered calls k r rs f p)) ≡ by (dones_from n calls)
+  by_other n [] k r rs f p g is ne = refl
+  by_other n (x ∷ calls) zero r rs f p g is ne =
       let same : x ≡ g = cc in
       let differ : x.seat ≢ seat = subst (λ (y : Given). y.seat ≢ seat) (sym same) ne in
-      by_append (done_in n (told x r f p) (Some r)) (dones_from (n + 1) calls)
-      ∙ ap (λ (ds : List Done). ds ++ by (dones_from (n + 1) calls)) (none_of n (told x r f p) (Some r) differ ∙ sym (none_of n x x.reply differ))
+      by_append (done_in n (told x r rs f p) (Some r)) (dones_from (n + 1) calls)
+      ∙ ap (λ (ds : List Done). ds ++ by (dones_from (n + 1) calls)) (none_of n (told x r rs f p) (Some r) differ ∙ sym (none_of n x x.reply differ))
       ∙ sym (by_append (done_in n x x.reply) (dones_from (n + 1) calls))
-  by_other n (x ∷ calls) (suc k) r f p g is ne =
-      by_append (done_in n x x.reply) (dones_from (n + 1) (answered calls k r f p))
-      ∙ ap (λ (ds : List Done). by (done_in n x x.reply) ++ ds) (by_other (n + 1) calls k r f p g is ne)
+  by_other n (x ∷ calls) (suc k) r rs f p g is ne =
+      by_append (done_in n x x.reply) (dones_from (n + 1) (answered calls k r rs f p))
+      ∙ ap (λ (ds : List Done). by (done_in n x x.reply) ++ ds) (by_other (n + 1) calls k r rs f p g is ne)
       ∙ sym (by_append (done_in n x x.reply) (dones_from (n + 1) calls))
 
   -- a call of the seat is answered, and no later one of it has been
-  pub by_own : (n : ℕ) (calls : List Given) (k : ℕ) (r : Reply) (f p : ℕ) (g : Given) → slice_get calls k ≡ Some g → g.seat ≡ seat
+  pub by_own : (n : ℕ) (calls : List Given) (k : ℕ) (r : Reply) (rs : List Row) (f p : ℕ) (g : Given) → slice_get calls k ≡ Some g → g.seat ≡ seat
       → ((j : ℕ) (x : Given) → k ≤ j → slice_get calls j ≡ Some x → x.seat ≡ seat → x.reply ≡ None)
-      → by (dones_from n (answered calls k r f p)) ≡ by (dones_from n calls) ++ record { n = n + k; seat = seat; call = g.call; reply = r; first = f; point = p; rows = [] } ∷ []
-  by_own n [] k r f p g is own later = cc
-  by_own n (x ∷ calls) zero r f p g is own later =
+      → by (dones_from n (answered calls k r rs f p)) ≡ by (dones_from n calls) ++ record { n = n + k; seat = seat; call = g.call; reply = r; first = f; point = p; rows = rs } ∷ []
+  by_own n [] k r rs f p g is own later = cc
+  by_own n (x ∷ calls) zero r rs f p g is own later =
       let same : x ≡ g = cc in
       let none : by (dones_from (n + 1) calls) ≡ [] = none_in (n + 1) calls (λ j y at mine. later (suc j) y (omega arith) at mine) in
       let mine : x.seat ≡ seat = ap (λ (y : Given). y.seat) same ∙ own in
       let e : n ≡ n + 0 = omega arith in
-      by_append (done_in n (told x r f p) (Some r)) (dones_from (n + 1) calls) ∙ ap (λ (ds : List Done). by (done_in n (told x r f p) (Some r)) ++ ds) none ∙ append-nil (by (done_in n (told x r f p) (Some r)))
-      ∙ one_of n (told x r f p) r mine
-      ∙ (λ z. record { n = e z; seat = mine z; call = (same z).call; reply = r; first = f; point = p; rows = [] } ∷ [])
-      ∙ ap (λ (ds : List Done). ds ++ record { n = n + 0; seat = seat; call = g.call; reply = r; first = f; point = p; rows = [] } ∷ []) (sym (by_append (done_in n x x.reply) (dones_from (n + 1) calls) ∙ ap (λ (o : Option Reply). by (done_in n x o) ++ by (dones_from (n + 1) calls)) (later 0 x (omega arith) refl mine) ∙ none))
-  by_own n (x ∷ calls) (suc k) r f p g is own later =
+      by_append (done_in n (told x r rs f p) (Some r)) (dones_from (n + 1) calls) ∙ ap (λ (ds : List Done). by (done_in n (told x r rs f p) (Some r)) ++ ds) none ∙ append-nil (by (done_in n (told x r rs f p) (Some r)))
+      ∙ one_of n (told x r rs f p) r mine
+      ∙ (λ z. record { n = e z; seat = mine z; call = (same z).call; reply = r; first = f; point = p; rows = rs } ∷ [])
+      ∙ ap (λ (ds : List Done). ds ++ record { n = n + 0; seat = seat; call = g.call; reply = r; first = f; point = p; rows = rs } ∷ []) (sym (by_append (done_in n x x.reply) (dones_from (n + 1) calls) ∙ ap (λ (o : Option Reply). by (done_in n x o) ++ by (dones_from (n + 1) calls)) (later 0 x (omega arith) refl mine) ∙ none))
+  by_own n (x ∷ calls) (suc k) r rs f p g is own later =
       let e : n + 1 + k ≡ n + suc k = omega arith in
-      by_append (done_in n x x.reply) (dones_from (n + 1) (answered calls k r f p))
-      ∙ ap (λ (ds : List Done). by (done_in n x x.reply) ++ ds) (by_own (n + 1) calls k r f p g is own (λ j y le at mine. later (suc j) y (omega (arith, le)) at mine) ∙ ap (λ (m : ℕ). by (dones_from (n + 1) calls) ++ record { n = m; seat = seat; call = g.call; reply = r; first = f; point = p; rows = [] } ∷ []) e)
-      ∙ sym (append_assoc (by (done_in n x x.reply)) (by (dones_from (n + 1) calls)) (record { n = n + suc k; seat = seat; call = g.call; reply = r; first = f; point = p; rows = [] } ∷ []))
-      ∙ ap (λ (ds : List Done). ds ++ record { n = n + suc k; seat = seat; call = g.call; reply = r; first = f; point = p; rows = [] } ∷ []) (sym (by_append (done_in n x x.reply) (dones_from (n + 1) calls)))
+      by_append (done_in n x x.reply) (dones_from (n + 1) (answered calls k r rs f p))
+      ∙ ap (λ (ds : List Done). by (done_in n x x.reply) ++ ds) (by_own (n + 1) calls k r rs f p g is own (λ j y le at mine. later (suc j) y (omega (arith, le)) at mine) ∙ ap (λ (m : ℕ). by (dones_from (n + 1) calls) ++ record { n = m; seat = seat; call = g.call; reply = r; first = f; point = p; rows = rs } ∷ []) e)
+      ∙ sym (append_assoc (by (done_in n x x.reply)) (by (dones_from (n + 1) calls)) (record { n = n + suc k; seat = seat; call = g.call; reply = r; first = f; point = p; rows = rs } ∷ []))
+      ∙ ap (λ (ds : List Done). ds ++ record { n = n + suc k; seat = seat; call = g.call; reply = r; first = f; point = p; rows = rs } ∷ []) (sym (by_append (done_in n x x.reply) (dones_from (n + 1) calls)))

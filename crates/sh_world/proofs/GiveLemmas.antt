@@ -12,11 +12,9 @@ use Rattle.sh_map.specs.declared.call.Call.{Call}
 use Rattle.sh_map.specs.declared.book.Done.{Done}
 use Rattle.sh_map.specs.declared.log.Entry.{Entry}
 use Rattle.sh_map.specs.Calls.{IsInRange}
-use Rattle.sh_client.specs.Sound.{IsPointCall}
 use Rattle.sh_core.specs.Core.{AreSame}
 use Rattle.sh_core.proofs.Moves.{same_keeps}
-use Rattle.sh_world.specs.declared.state.Given.{Given}
-use Rattle.sh_world.specs.States.{Place, State, actor_of, dones_by, dones_of, HasActor, IsLeft}
+use Rattle.sh_world.specs.States.{Given, Place, State, actor_of, dones_by, dones_of, fresh_call, HasActor, IsLeft}
 use Rattle.sh_world.specs.Turning.{give_at, give_of, queued}
 use Rattle.sh_world.specs.Running.{numbers_from, IsGiven, IsPlace, IsRunning, IsWorld}
 use Rattle.sh_world.proofs.DoneLemmas.{dones_waits}
@@ -69,9 +67,9 @@ module _ (calls : List Given) (g : Given) (waits : g.reply ≡ None) (j : ℕ) (
       (λ m e. elim (slice_get-push_back q.numbers (length calls + 1) m q.ended e) [ inl w ↦ inl w | inr w ↦ inr (sym w.1) ]) (λ m e. slice_get-append_left q.numbers ((length calls + 1) ∷ []) q.ended m e)
       (let l = length_push q.numbers (length calls + 1) in omega (arith, l))
 
-module _ (s : State) (run : IsRunning s) (i : ℕ) (q : Place) (at : slice_get s.seats i ≡ Some q) (call : Call) (in_range : IsInRange s.setting call) (point : IsPointCall call) (few : length s.calls < 2 ^ 32 - 1) where
+module _ (s : State) (run : IsRunning s) (i : ℕ) (q : Place) (at : slice_get s.seats i ≡ Some q) (call : Call) (in_range : IsInRange s.setting call) (few : length s.calls < 2 ^ 32 - 1) where
   abbrev G : Given
-  G = record { seat = i; call = call; reply = None; first = 0; point = 0 }
+  G = fresh_call i call
 
   abbrev Q : Place
   Q = queued q (length s.calls + 1)
@@ -121,7 +119,7 @@ module _ (s : State) (run : IsRunning s) (i : ℕ) (q : Place) (at : slice_get s
     ];
     given = λ k g e. elim (slice_get-push_back s.calls G g k e) [
       | inl was ↦ run.given k g was
-      | inr w ↦ subst (IsGiven s.setting) w.1 (record { seat_is = seat_small; in_range = in_range; point = point })
+      | inr w ↦ subst (IsGiven s.setting) w.1 (record { seat_is = seat_small; in_range = in_range })
     ];
     few = let l = length_push s.calls G in omega (arith, l, few);
     points = λ j r e. elim (seat_of j r e) [
@@ -132,7 +130,7 @@ module _ (s : State) (run : IsRunning s) (i : ℕ) (q : Place) (at : slice_get s
   })
 
 -- what is given makes the world of that call
-pub give_is : (s t : State) (i n : ℕ) (q x : Place) (call : Call) (calls : List Given) (log : List Entry) → s ≡ t → slice_get s.seats i ≡ Some q → n ≡ length s.calls + 1 → x ≡ queued q n → calls ≡ s.calls ++ record { seat = i; call = call; reply = None; first = 0; point = 0 } ∷ [] → log ≡ s.log
+pub give_is : (s t : State) (i n : ℕ) (q x : Place) (call : Call) (calls : List Given) (log : List Entry) → s ≡ t → slice_get s.seats i ≡ Some q → n ≡ length s.calls + 1 → x ≡ queued q n → calls ≡ s.calls ++ fresh_call i call ∷ [] → log ≡ s.log
     → record { setting = s.setting; words = s.words; log = log; seats = set s.seats i x; calls = calls; lines = s.lines } ≡ give_of t i call
 give_is s t i n q x call calls log e at n_is x_is calls_is log_is =
     (λ z. record { setting = s.setting; words = s.words; log = log_is z; seats = set s.seats i ((x_is ∙ ap (queued q) n_is) z); calls = calls_is z; lines = s.lines })
@@ -141,8 +139,8 @@ give_is s t i n q x call calls log e at n_is x_is calls_is log_is =
 pub given_long : (calls more : List Given) (g : Given) → more ≡ calls ++ g ∷ [] → length more ≡ length calls + 1
 given_long calls more g is = ap length is ∙ (let l = length_push calls g in omega (arith, l))
 
-pub given_world : (s t : State) (i room width : ℕ) (q : Place) (call : Call) (u : State) → s ≡ t → IsRunning s → slice_get s.seats i ≡ Some q → IsInRange t.setting call → IsPointCall call → length t.calls < 2 ^ 32 - 1 → u ≡ give_of t i call → length u.calls < room → width ≡ s.setting.value_words → IsWorld u room width
-given_world s t i room width q call u e run at in_range point few u_is lt wide =
-    let r = given_runs s run i q at call (subst (λ (x : State). IsInRange x.setting call) (sym e) in_range) point (subst (λ (x : State). length x.calls < 2 ^ 32 - 1) (sym e) few) in
+pub given_world : (s t : State) (i room : ℕ) (kept : ConfigParts) (q : Place) (call : Call) (u : State) → s ≡ t → IsRunning s → slice_get s.seats i ≡ Some q → IsInRange t.setting call → length t.calls < 2 ^ 32 - 1 → u ≡ give_of t i call → length u.calls < room → kept ≡ s.setting → IsWorld u room kept
+given_world s t i room kept q call u e run at in_range few u_is lt kept_is =
+    let r = given_runs s run i q at call (subst (λ (x : State). IsInRange x.setting call) (sym e) in_range) (subst (λ (x : State). length x.calls < 2 ^ 32 - 1) (sym e) few) in
     let same : u.setting ≡ s.setting = ap (λ (x : State). x.setting) (u_is ∙ ap (λ (x : State). give_of x i call) (sym e)) ∙ ap (λ (o : Option Place). (give_at s i call o).setting) at in
-    inr (subst IsRunning (sym (u_is ∙ ap (λ (x : State). give_of x i call) (sym e))) r, lt, wide ∙ ap (λ (p : ConfigParts). p.value_words) (sym same))
+    inr (subst IsRunning (sym (u_is ∙ ap (λ (x : State). give_of x i call) (sym e))) r, lt, kept_is ∙ sym same)

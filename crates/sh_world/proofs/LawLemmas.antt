@@ -13,9 +13,8 @@ use Rattle.sh_map.specs.declared.book.Done.{Done}
 use Rattle.sh_map.specs.declared.log.Entry.{Entry}
 use Rattle.sh_map.specs.declared.call.Call.{Call}
 use Rattle.sh_client.specs.declared.state.Phase.{Phase}
+use Rattle.sh_client.proofs.BeginLemmas.{has_begun}
 use Rattle.sh_client.specs.declared.state.Phase.TheVariants.{Body}
-use Rattle.sh_client.specs.declared.state.Write.{Write}
-use Rattle.sh_client.specs.declared.state.Write.TheVariants.{Entry as OneEntry, Leaf as WholeLeaf, LeftLeaf}
 use Rattle.sh_client.specs.Giving.{changes_map, entries_of, made_in}
 use Rattle.sh_map.specs.Made.{entries_by}
 use Rattle.sh_client.specs.Machine.{Machine}
@@ -30,8 +29,7 @@ use Rattle.sh_core_says.proofs.Books.{books_are_lawful, calls_are_answered}
 use Rattle.sh_core_says.proofs.Moments.{each_moment}
 use Rattle.sh_core_says.proofs.Refusals.{refusals_have_causes}
 use Rattle.sh_core_turns.proofs.Senses.{never_senseless}
-use Rattle.sh_world.specs.declared.state.Given.{Given}
-use Rattle.sh_world.specs.States.{Place, State, actor_of, done_in, dones_by, dones_from, dones_of}
+use Rattle.sh_world.specs.States.{Given, Place, State, actor_of, done_in, dones_by, dones_from, dones_of}
 use Rattle.sh_world.specs.Turning.{answer_at, turn_answer_in, answer_of, asked, asked_in, is_done, is_idle, is_idle_at, started, starts, starts_next, took, turn_at, turn_of}
 use Rattle.sh_client.specs.InLine.{stand_in, IsIn}
 use Rattle.sh_world.specs.Running.{numbers_from, IsRunning}
@@ -53,14 +51,14 @@ numbers_from_n n m [] le = λ i d lt. absurd (omega (arith, lt))
 numbers_from_n n m (g ∷ calls) le = by_reply (numbers_from_n n (m + 1) calls (omega (arith, le))) g.reply where
   by_reply : All (λ (d : Done). n ≤ d.n) (dones_from (m + 1) calls) → (o : Option Reply) → All (λ (d : Done). n ≤ d.n) (done_in m g o ++ dones_from (m + 1) calls)
   by_reply h None = h
-  by_reply h (Some r) = all_cons (λ (d : Done). n ≤ d.n) (record { n = m; seat = g.seat; call = g.call; reply = r; first = g.first; point = g.point; rows = [] }) (dones_from (m + 1) calls) le h
+  by_reply h (Some r) = all_cons (λ (d : Done). n ≤ d.n) (record { n = m; seat = g.seat; call = g.call; reply = r; first = g.first; point = g.point; rows = g.rows }) (dones_from (m + 1) calls) le h
 
 rise : (n : ℕ) (calls : List Given) → AllPairs (λ (d e : Done). d.n < e.n) (dones_from n calls)
 rise n [] = λ i j d less lt. absurd (omega (arith, lt))
 rise n (g ∷ calls) = by_reply (rise (n + 1) calls) (numbers_from_n (n + 1) (n + 1) calls (omega arith)) g.reply where
   by_reply : AllPairs (λ (d e : Done). d.n < e.n) (dones_from (n + 1) calls) → All (λ (d : Done). n + 1 ≤ d.n) (dones_from (n + 1) calls) → (o : Option Reply) → AllPairs (λ (d e : Done). d.n < e.n) (done_in n g o ++ dones_from (n + 1) calls)
   by_reply h more None = h
-  by_reply h more (Some r) = AllPairs-cons (λ (d e : Done). d.n < e.n) (record { n = n; seat = g.seat; call = g.call; reply = r; first = g.first; point = g.point; rows = [] }) (dones_from (n + 1) calls) (λ i d lt. let m = more i d lt in omega (arith, m)) h
+  by_reply h more (Some r) = AllPairs-cons (λ (d e : Done). d.n < e.n) (record { n = n; seat = g.seat; call = g.call; reply = r; first = g.first; point = g.point; rows = g.rows }) (dones_from (n + 1) calls) (λ i d lt. let m = more i d lt in omega (arith, m)) h
 
 owners : (Has : ℕ → Actor → Type 0) (n : ℕ) (calls : List Given) → ((k : ℕ) (g : Given) → slice_get calls k ≡ Some g → (a : Actor) × Has g.seat a) → AllByRecursion (λ (d : Done). (a : Actor) × Has d.seat a) (dones_from n calls)
 owners Has n [] h = tt
@@ -74,10 +72,10 @@ owners Has n (g ∷ calls) h = by_reply (owners Has (n + 1) calls (λ k x e. h (
 ended_one : (seat n : ℕ) (g : Given) (o : Option Reply) (b : Bool) → (g.seat == seat) ≡ b → length (dones_by seat (done_in n g o)) ≤ (if b then 1 else 0)
 ended_one seat n g None b e = omega arith
 ended_one seat n g (Some r) true e = ap_le (g.seat == seat) where
-  ap_le : (t : Bool) → length {A = Done} (if t then record { n = n; seat = g.seat; call = g.call; reply = r; first = g.first; point = g.point; rows = [] } ∷ [] else []) ≤ 1
+  ap_le : (t : Bool) → length {A = Done} (if t then record { n = n; seat = g.seat; call = g.call; reply = r; first = g.first; point = g.point; rows = g.rows } ∷ [] else []) ≤ 1
   ap_le true = omega arith
   ap_le false = omega arith
-ended_one seat n g (Some r) false e = let l = ap (λ (t : Bool). length {A = Done} (if t then record { n = n; seat = g.seat; call = g.call; reply = r; first = g.first; point = g.point; rows = [] } ∷ [] else [])) e in omega (arith, l)
+ended_one seat n g (Some r) false e = let l = ap (λ (t : Bool). length {A = Done} (if t then record { n = n; seat = g.seat; call = g.call; reply = r; first = g.first; point = g.point; rows = g.rows } ∷ [] else [])) e in omega (arith, l)
 
 numbers_long : (seat m : ℕ) (g : Given) (calls : List Given) (b : Bool) → (g.seat == seat) ≡ b → length (numbers_from seat m (g ∷ calls)) ≡ (if b then 1 else 0) + length (numbers_from seat (m + 1) calls)
 numbers_long seat m g calls b e = ap (λ (t : Bool). length (if t then m ∷ numbers_from seat (m + 1) calls else numbers_from seat (m + 1) calls)) e ∙ by_test b where
@@ -201,7 +199,7 @@ answer_done words want.Done e = refl
 answer_done words w e = cc
 
 started_wants : (q : Place) (n seen : ℕ) (call : Call) → want_of (started q n call seen).client ≢ want.Done
-started_wants q n seen call e = cc
+started_wants q n seen call = (has_begun q.client call).wants
 
 module _ (s : State) (i : ℕ) (q : Place) where
   asked_idle : is_idle q ≡ true → asked s.calls q (length s.log) ≡ q

@@ -1,4 +1,6 @@
+pub mod RowLemmas
 pub mod ColumnLemmas
+pub mod KeptLemmas
 pub mod WideLemmas
 pub mod PointLemmas
 pub mod DoneLemmas
@@ -8,6 +10,7 @@ pub mod MoveLemmas
 pub mod PlaceLemmas
 pub mod QueueLemmas
 pub mod CountLemmas
+pub mod RangeLemmas
 pub mod RunLemmas
 pub mod WantLemmas
 pub mod TurnLemmas

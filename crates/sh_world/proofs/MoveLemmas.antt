@@ -1,7 +1,6 @@
 -- One seat's actor changes and the others stay: what the core's laws ask of a world.
-use Rattle.std.proofs.Common.{◌≡◌, ◌≢◌, ◌⊎◌, ℕ, zero, suc, ◌+◌, ◌-◌, ◌<◌, ◌≤◌, inl, inr, Bool, true, false, List, [], ◌∷◌, ◌++◌, length, set, Some, None, refl, sym, ap, ◌∙◌, subst, arith}
+use Rattle.std.proofs.Common.{◌≡◌, ◌≢◌, ℕ, zero, suc, ◌+◌, ◌-◌, ◌<◌, ◌≤◌, inl, inr, Bool, true, false, List, [], ◌∷◌, ◌++◌, length, set, Some, None, refl, sym, ap, ◌∙◌, arith}
 use Rattle.std.specs.Prelude.{if◌then◌else◌, slice_get}
-use Rattle.std.proofs.lemmas.Bool.{cases_eq}
 use Rattle.sh_logic.proofs.Lists.{set_here, set_else}
 use Rattle.sh_base.specs.declared.config.ConfigParts.{ConfigParts}
 use Rattle.sh_map.specs.declared.book.Done.{Done}
@@ -11,11 +10,10 @@ use Rattle.sh_client.specs.declared.state.Phase.{Phase}
 use Rattle.sh_client.specs.Machine.{Machine}
 use Rattle.sh_map.specs.Points.{point_of}
 use Rattle.sh_core.specs.Actors.{Actor, becomes, ending, actor_going, rested}
-use Rattle.sh_client.specs.Rests.{has_ended}
+use Rattle.sh_client.specs.Rests.{has_ended, rows_told}
 use Rattle.sh_core.specs.Core.{Instead, Inv, Moves, RestKeeps}
 use Rattle.sh_core.proofs.Moves.{moves_from as core_moves, put_moves}
-use Rattle.sh_world.specs.declared.state.Given.{Given}
-use Rattle.sh_world.specs.States.{Place, actor_of, answered, dones_by, dones_of, HasActor}
+use Rattle.sh_world.specs.States.{Given, Place, actor_of, answered, dones_by, dones_of, HasActor}
 use Rattle.sh_world.specs.Turning.{calls_after, going, place_after, resting}
 use Rattle.sh_world.proofs.DoneLemmas.{by_other, by_own}
 
@@ -68,29 +66,29 @@ module _ (p : ConfigParts) (seats : List Place) (calls : List Given) (i : ℕ) (
   abbrev A : Actor
   A = actor_of calls i q
 
-  pub agree_ended : IsNext calls i q.number m → AgreeBut i calls (answered calls (q.number - 1) m.registers.reply q.first (point_of log q.first q.point m.registers.call m.registers.reply))
-  agree_ended n j ne = by_other j 1 calls (q.number - 1) m.registers.reply q.first (point_of log q.first q.point m.registers.call m.registers.reply) n.given n.here (λ e. ne (sym e ∙ n.seat_is))
+  pub agree_ended : IsNext calls i q.number m → AgreeBut i calls (answered calls (q.number - 1) m.registers.reply (rows_told m) q.first (point_of log q.first q.point m.registers.call m.registers.reply))
+  agree_ended n j ne = by_other j 1 calls (q.number - 1) m.registers.reply (rows_told m) q.first (point_of log q.first q.point m.registers.call m.registers.reply) n.given n.here (λ e. ne (sym e ∙ n.seat_is))
 
   -- the seat's ended calls, with this one
-  own_ended : IsNext calls i q.number m → rested (ending i A log m) ≡ actor_of (answered calls (q.number - 1) m.registers.reply q.first (point_of log q.first q.point m.registers.call m.registers.reply)) i (resting q log m)
+  own_ended : IsNext calls i q.number m → rested (ending i A log m) ≡ actor_of (answered calls (q.number - 1) m.registers.reply (rows_told m) q.first (point_of log q.first q.point m.registers.call m.registers.reply)) i (resting q log m)
   own_ended n =
       let e : 1 + (q.number - 1) ≡ q.number = omega (arith, n.real) in
       ap (λ (ds : List Done). record { client = (rested (ending i A log m)).client; number = q.number; seen = length log; first = length log; point = q.point; dones = ds })
-      (sym (by_own i 1 calls (q.number - 1) m.registers.reply q.first (point_of log q.first q.point m.registers.call m.registers.reply) n.given n.here n.seat_is n.later
-      ∙ (λ z. dones_by i (dones_of calls) ++ record { n = e z; seat = i; call = n.call_is z; reply = m.registers.reply; first = q.first; point = point_of log q.first q.point m.registers.call m.registers.reply; rows = [] } ∷ [])))
+      (sym (by_own i 1 calls (q.number - 1) m.registers.reply (rows_told m) q.first (point_of log q.first q.point m.registers.call m.registers.reply) n.given n.here n.seat_is n.later
+      ∙ (λ z. dones_by i (dones_of calls) ++ record { n = e z; seat = i; call = n.call_is z; reply = m.registers.reply; first = q.first; point = point_of log q.first q.point m.registers.call m.registers.reply; rows = rows_told m } ∷ [])))
 
   -- The law's step, whatever relation tells the actors after it, gives the world's.
   module _ (words : List ℕ) (Out : ℕ → ℕ → ℕ → Type 0) (rest_law : RestKeeps p)
       (step : (Now : ℕ → Actor → Type 0) → Moves (HasActor seats calls) i (becomes i A log more m) Now → Inv p words (log ++ more) Now Out) (next : has_ended m.phase ≡ true → IsNext calls i q.number m) where
-    by_end : (b : Bool) → has_ended m.phase ≡ b → Inv p words (log ++ more) (HasActor (set seats i (if b then resting q log m else going q log more m)) (if b then answered calls (q.number - 1) m.registers.reply q.first (point_of log q.first q.point m.registers.call m.registers.reply) else calls)) Out
+    by_end : (b : Bool) → has_ended m.phase ≡ b → Inv p words (log ++ more) (HasActor (set seats i (if b then resting q log m else going q log more m)) (if b then answered calls (q.number - 1) m.registers.reply (rows_told m) q.first (point_of log q.first q.point m.registers.call m.registers.reply) else calls)) Out
     by_end false e = step (HasActor (set seats i (going q log more m)) calls) (moves_seats seats calls calls i (going q log more m) (becomes i A log more m) lt (λ j ne. refl) (ap (λ (b : Bool). if b then ending i A log m else actor_going A log more m) e))
     by_end true e =
         let n = next e in
         let ended : Actor = ending i A log m in
         let is : becomes i A log more m ≡ ended = ap (λ (b : Bool). if b then ending i A log m else actor_going A log more m) e in
         let inv = step (Instead (HasActor seats calls) i (becomes i A log more m)) (put_moves (HasActor seats calls) i (becomes i A log more m)) in
-        rest_law words (log ++ more) (Instead (HasActor seats calls) i (becomes i A log more m)) (HasActor (set seats i (resting q log m)) (answered calls (q.number - 1) m.registers.reply q.first (point_of log q.first q.point m.registers.call m.registers.reply))) Out i ended inv (inl (refl, sym is)) (phase_ended m.phase e)
-        (moves_from seats calls (answered calls (q.number - 1) m.registers.reply q.first (point_of log q.first q.point m.registers.call m.registers.reply)) i (resting q log m) (rested ended) lt (agree_ended n) (own_ended n) (Instead (HasActor seats calls) i (becomes i A log more m))
+        rest_law words (log ++ more) (Instead (HasActor seats calls) i (becomes i A log more m)) (HasActor (set seats i (resting q log m)) (answered calls (q.number - 1) m.registers.reply (rows_told m) q.first (point_of log q.first q.point m.registers.call m.registers.reply))) Out i ended inv (inl (refl, sym is)) (phase_ended m.phase e)
+        (moves_from seats calls (answered calls (q.number - 1) m.registers.reply (rows_told m) q.first (point_of log q.first q.point m.registers.call m.registers.reply)) i (resting q log m) (rested ended) lt (agree_ended n) (own_ended n) (Instead (HasActor seats calls) i (becomes i A log more m))
         (λ j b ne h. elim h [ inl k ↦ absurd (ne k.0) | inr k ↦ k.1 ]) (λ j b ne h. inr (ne, h)))
 
     pub settled_keeps : Inv p words (log ++ more) (HasActor (set seats i (place_after q log more m)) (calls_after calls q log m)) Out

@@ -12,9 +12,8 @@ use Rattle.sh_client.specs.Machine.{Machine, fresh_machine}
 use Rattle.sh_core.specs.Actors.{Actor}
 use Rattle.sh_core.specs.Opening.{entered}
 use Rattle.sh_core_turns.proofs.Opening.{laid_keeps}
-use Rattle.sh_world.specs.declared.state.Given.{Given}
 use Rattle.sh_world.specs.declared.state.Line.{Line}
-use Rattle.sh_world.specs.States.{Place, State, done_in, dones_of, free_line, fresh_from, fresh_place, fresh_state, HasActor, IsLeft}
+use Rattle.sh_world.specs.States.{Given, Place, State, done_in, dones_of, free_line, fresh_from, fresh_place, fresh_state, HasActor, IsLeft}
 use Rattle.sh_world.specs.Lines.{IsLine, StandsIn}
 use Rattle.sh_client.specs.InLine.{stand_of, IsIn}
 use Rattle.sh_world.specs.Running.{IsPlace, IsRunning, IsWorld}
@@ -105,5 +104,5 @@ module _ (p : ConfigParts) (ok : IsSetting p) (words : List ℕ) (laid : AreLaid
   }
 
   -- and so it is a world
-  pub open_world : (t : State) (room width : ℕ) → t ≡ fresh_state p words → 0 < room → width ≡ p.value_words → IsWorld t room width
-  open_world t room width is lt wide = subst (λ (x : State). IsWorld x room width) (sym is) (inr (laid_runs, lt, wide))
+  pub open_world : (t : State) (room : ℕ) (kept : ConfigParts) → t ≡ fresh_state p words → 0 < room → kept ≡ p → IsWorld t room kept
+  open_world t room kept is lt kept_is = subst (λ (x : State). IsWorld x room kept) (sym is) (inr (laid_runs, lt, kept_is))

@@ -6,14 +6,15 @@ use Rattle.std.proofs.lemmas.Option.{slice_get_within}
 use Rattle.std.proofs.lemmas.List.{length_push}
 use Rattle.sh_logic.proofs.Options.{some_is}
 use Rattle.sh_map.specs.declared.call.Reply.{Reply}
+use Rattle.sh_map.specs.declared.book.Row.{Row}
 use Rattle.sh_map.specs.declared.log.Entry.{Entry}
 use Rattle.sh_client.specs.declared.state.Phase.{Phase}
+use Rattle.sh_client.proofs.BeginLemmas.{has_begun}
 use Rattle.sh_client.specs.declared.state.Phase.TheVariants.{Idle, Ended}
 use Rattle.sh_client.specs.Machine.{Machine}
-use Rattle.sh_client.specs.Rests.{has_ended, is_resting, rests}
+use Rattle.sh_client.specs.Rests.{has_ended, is_resting, rests, rows_told}
 use Rattle.sh_map.specs.Points.{point_of}
-use Rattle.sh_world.specs.declared.state.Given.{Given}
-use Rattle.sh_world.specs.States.{Place, answered, dones_by, dones_of}
+use Rattle.sh_world.specs.States.{Given, Place, answered, dones_by, dones_of}
 use Rattle.sh_world.specs.Turning.{calls_after, going, place_after, resting, started}
 use Rattle.sh_world.specs.Running.{numbers_from, IsPlace}
 use Rattle.sh_world.proofs.DoneLemmas.{by_own, told}
@@ -65,19 +66,19 @@ rising seat n (x ∷ calls) i a b e f = elim (cases_eq x.seat seat) [
   at k t is = ap (λ (b : Bool). slice_get (numbers seat n calls b) k) is
 
 -- an answer leaves the numbers
-pub numbers_answered : (seat n : ℕ) (calls : List Given) (k : ℕ) (r : Reply) (f p : ℕ) → numbers_from seat n (answered calls k r f p) ≡ numbers_from seat n calls
-numbers_answered seat n [] k r f p = refl
-numbers_answered seat n (x ∷ calls) zero r f p = refl
-numbers_answered seat n (x ∷ calls) (suc k) r f p = ap (λ (ns : List ℕ). if x.seat == seat then n ∷ ns else ns) (numbers_answered seat (n + 1) calls k r f p)
+pub numbers_answered : (seat n : ℕ) (calls : List Given) (k : ℕ) (r : Reply) (rs : List Row) (f p : ℕ) → numbers_from seat n (answered calls k r rs f p) ≡ numbers_from seat n calls
+numbers_answered seat n [] k r rs f p = refl
+numbers_answered seat n (x ∷ calls) zero r rs f p = refl
+numbers_answered seat n (x ∷ calls) (suc k) r rs f p = ap (λ (ns : List ℕ). if x.seat == seat then n ∷ ns else ns) (numbers_answered seat (n + 1) calls k r rs f p)
 
 -- a call is as it was, or it is the one that was answered
-pub get_answered : (calls : List Given) (k : ℕ) (r : Reply) (f p j : ℕ) (x : Given) → slice_get (answered calls k r f p) j ≡ Some x
-    → (slice_get calls j ≡ Some x) ⊎ ((j ≡ k) × (g : Given) × (slice_get calls k ≡ Some g) × (x ≡ told g r f p))
-get_answered [] k r f p j x e = inl e
-get_answered (y ∷ calls) zero r f p zero x e = inr (refl, y, refl, sym (some_is e))
-get_answered (y ∷ calls) zero r f p (suc j) x e = inl e
-get_answered (y ∷ calls) (suc k) r f p zero x e = inl e
-get_answered (y ∷ calls) (suc k) r f p (suc j) x e = elim (get_answered calls k r f p j x e) [
+pub get_answered : (calls : List Given) (k : ℕ) (r : Reply) (rs : List Row) (f p j : ℕ) (x : Given) → slice_get (answered calls k r rs f p) j ≡ Some x
+    → (slice_get calls j ≡ Some x) ⊎ ((j ≡ k) × (g : Given) × (slice_get calls k ≡ Some g) × (x ≡ told g r rs f p))
+get_answered [] k r rs f p j x e = inl e
+get_answered (y ∷ calls) zero r rs f p zero x e = inr (refl, y, refl, sym (some_is e))
+get_answered (y ∷ calls) zero r rs f p (suc j) x e = inl e
+get_answered (y ∷ calls) (suc k) r rs f p zero x e = inl e
+get_answered (y ∷ calls) (suc k) r rs f p (suc j) x e = elim (get_answered calls k r rs f p j x e) [
   | inl h ↦ inl h
   | inr h ↦ inr (ap suc h.0, h.1, h.2, h.3)
 ]
@@ -98,21 +99,21 @@ module _ (calls : List Given) (i : ℕ) (q : Place) (log more : List Entry) (m :
   place_going e = record { numbers = h.numbers; ended = h.ended; count = h.count; waiting = h.waiting; rests = λ r. idle_phase m.phase r e; busy = λ b. h.busy busy; call = λ g b at. h.call g busy at ∙ sym same }
 
   abbrev N : List Given
-  N = answered calls (q.number - 1) m.registers.reply q.first (point_of log q.first q.point m.registers.call m.registers.reply)
+  N = answered calls (q.number - 1) m.registers.reply (rows_told m) q.first (point_of log q.first q.point m.registers.call m.registers.reply)
 
   place_ended : IsPlace N i (resting q log m)
   place_ended =
       let n = next_is calls i q m h busy same in
       let inside = slice_get_within q.numbers q.ended q.number (h.busy busy) in
-      let numbers = numbers_answered i 1 calls (q.number - 1) m.registers.reply q.first (point_of log q.first q.point m.registers.call m.registers.reply) in
+      let numbers = numbers_answered i 1 calls (q.number - 1) m.registers.reply (rows_told m) q.first (point_of log q.first q.point m.registers.call m.registers.reply) in
       record {
         numbers = h.numbers ∙ sym numbers;
         ended = omega (arith, inside);
-        count = ap length (by_own i 1 calls (q.number - 1) m.registers.reply q.first (point_of log q.first q.point m.registers.call m.registers.reply) n.given n.here n.seat_is n.later) ∙ length_push (dones_by i (dones_of calls)) _ ∙ ap (λ (c : ℕ). c + 1) h.count;
+        count = ap length (by_own i 1 calls (q.number - 1) m.registers.reply (rows_told m) q.first (point_of log q.first q.point m.registers.call m.registers.reply) n.given n.here n.seat_is n.later) ∙ length_push (dones_by i (dones_of calls)) _ ∙ ap (λ (c : ℕ). c + 1) h.count;
         waiting = λ next place g at le here own.
             let more_one : q.ended + 1 ≡ suc q.ended = omega arith in
             let lt = rising i 1 calls q.ended q.number next (ap (λ (ns : List ℕ). slice_get ns q.ended) (sym h.numbers) ∙ h.busy busy) (ap (λ (ns : List ℕ). slice_get ns (suc q.ended)) (sym h.numbers) ∙ ap (slice_get q.numbers) (sym more_one) ∙ at) in
-            elim (get_answered calls (q.number - 1) m.registers.reply q.first (point_of log q.first q.point m.registers.call m.registers.reply) place g here) [
+            elim (get_answered calls (q.number - 1) m.registers.reply (rows_told m) q.first (point_of log q.first q.point m.registers.call m.registers.reply) place g here) [
               | inl was ↦ h.waiting q.number place g (h.busy busy) (omega (arith, lt, le)) was own
               | inr k ↦ absurd (omega (arith, lt, le, k.0, n.real))
             ];
@@ -133,16 +134,16 @@ module _ (calls : List Given) (i : ℕ) (q : Place) (log more : List Entry) (m :
   place_other_ended j r ne agree k =
       let n = next_is calls i q m h busy same in
       record {
-        numbers = k.numbers ∙ sym (numbers_answered j 1 calls (q.number - 1) m.registers.reply q.first (point_of log q.first q.point m.registers.call m.registers.reply));
+        numbers = k.numbers ∙ sym (numbers_answered j 1 calls (q.number - 1) m.registers.reply (rows_told m) q.first (point_of log q.first q.point m.registers.call m.registers.reply));
         ended = k.ended;
         count = ap length agree ∙ k.count;
-        waiting = λ next place g at le here own. elim (get_answered calls (q.number - 1) m.registers.reply q.first (point_of log q.first q.point m.registers.call m.registers.reply) place g here) [
+        waiting = λ next place g at le here own. elim (get_answered calls (q.number - 1) m.registers.reply (rows_told m) q.first (point_of log q.first q.point m.registers.call m.registers.reply) place g here) [
           | inl was ↦ k.waiting next place g at le was own
           | inr w ↦ absurd (ne (sym own ∙ ap (λ (x : Given). x.seat) w.3 ∙ ap (λ (x : Given). x.seat) (some_is (sym w.2 ∙ n.here)) ∙ n.seat_is))
         ];
         rests = k.rests;
         busy = k.busy;
-        call = λ g b here. elim (get_answered calls (q.number - 1) m.registers.reply q.first (point_of log q.first q.point m.registers.call m.registers.reply) (r.number - 1) g here) [
+        call = λ g b here. elim (get_answered calls (q.number - 1) m.registers.reply (rows_told m) q.first (point_of log q.first q.point m.registers.call m.registers.reply) (r.number - 1) g here) [
           | inl was ↦ k.call g b was
           | inr w ↦ ap (λ (x : Given). x.call) w.3 ∙ k.call w.1 b (ap (slice_get calls) w.0 ∙ w.2)
         ];
@@ -157,4 +158,4 @@ module _ (calls : List Given) (i : ℕ) (q : Place) (log more : List Entry) (m :
 
 -- a seat at rest begins its next call
 pub place_started : (calls : List Given) (i : ℕ) (q : Place) (n seen : ℕ) (g : Given) → IsPlace calls i q → slice_get q.numbers q.ended ≡ Some n → slice_get calls (n - 1) ≡ Some g → IsPlace calls i (started q n g.call seen)
-place_started calls i q n seen g h at here = record { numbers = h.numbers; ended = h.ended; count = h.count; waiting = h.waiting; rests = λ r. cc; busy = λ b. at; call = λ x b k. ap (λ (y : Given). y.call) (some_is (sym k ∙ here)) }
+place_started calls i q n seen g h at here = record { numbers = h.numbers; ended = h.ended; count = h.count; waiting = h.waiting; rests = λ r. absurd (let z = sym r ∙ (has_begun q.client g.call).busy in cc); busy = λ b. at; call = λ x b k. ap (λ (y : Given). y.call) (some_is (sym k ∙ here)) ∙ sym (has_begun q.client g.call).call_is }

@@ -16,16 +16,17 @@ use Rattle.sh_map.specs.declared.log.Entry.{Entry}
 use Rattle.sh_map.specs.declared.book.Done.{Done}
 use Rattle.sh_map.specs.Log.{IsLegal}
 use Rattle.sh_client.specs.Machine.{Machine}
-use Rattle.sh_client.specs.Rests.{has_ended, is_resting}
+use Rattle.sh_client.specs.Rests.{has_ended, is_resting, rows_told}
 use Rattle.sh_map.specs.Points.{point_of}
 use Rattle.sh_core.specs.Actors.{Actor, becomes, done_of, ending, actor_going, point_after, AreAnswered, IsAnswered, IsLeast, made_by, updates}
 use Rattle.sh_core.specs.Keeps.{KeepsActor, pending}
+use Rattle.sh_core.specs.Causes.{HasCause, HaveCauses}
+use Rattle.sh_world.proofs.RangeLemmas.{rows_fit}
 use Rattle.sh_core.specs.Core.{Inv, Moves}
 use Rattle.sh_core_turns.proofs.Calls.{rest_keeps}
 use Rattle.sh_core_says.proofs.Pending.{pending_stands}
-use Rattle.sh_world.specs.declared.state.Given.{Given}
 use Rattle.sh_world.specs.declared.state.Line.{Line}
-use Rattle.sh_world.specs.States.{Place, State, actor_of, answered, dones_by, dones_of, HasActor, IsLeft}
+use Rattle.sh_world.specs.States.{Given, Place, State, actor_of, answered, dones_by, dones_of, HasActor, IsLeft}
 use Rattle.sh_world.specs.Turning.{calls_after, going, place_after, resting}
 use Rattle.sh_world.specs.Lines.{AreLines}
 use Rattle.sh_world.specs.Running.{HasPoint, IsGiven, IsPlace, IsRunning, numbers_from}
@@ -99,6 +100,10 @@ answered_last : (log : List Entry) (i : ℕ) (ds : List Done) (d : Done) → Are
 answered_last log i [] d h = h.0
 answered_last log i (c ∷ ds) d h = answered_last log i ds d h.1
 
+causes_last : (p : ConfigParts) (counter : ℕ → ℕ) (log : List Entry) (ds : List Done) (d : Done) → HaveCauses p counter log (ds ++ d ∷ []) → HasCause p counter log d.first d.point d.rows d.call d.reply
+causes_last p counter log [] d h = h.0
+causes_last p counter log (c ∷ ds) d h = causes_last p counter log ds d h.1
+
 has_point : (log : List Entry) (d : Done) (c : Call) (r : Reply) → IsLeast log d c r → HasPoint log d.first c r
 has_point log d (Get key) (reply.Some value) h = record { at = d.point; from = h.from; within = h.within; here = h.here }
 has_point log d (Get key) reply.None h = record { at = d.point; from = h.from; within = h.within; here = h.here }
@@ -127,7 +132,7 @@ module _ (s : State) (run : IsRunning s) (i : ℕ) (q : Place) (at : slice_get s
     next = next_is s.calls i q m (run.places i q at) busy same
 
     -- a call that has ended can be answered
-    pub can_end : has_ended m.phase ≡ true → more ≡ [] → CanEnd s.log s.setting.value_words s.calls q m
+    pub can_end : has_ended m.phase ≡ true → more ≡ [] → CanEnd s.setting s.log s.calls q m
     can_end e none =
         let inv = step (Instead (HasActor s.seats s.calls) i (becomes i A s.log more m)) (put_moves (HasActor s.seats s.calls) i (becomes i A s.log more m)) in
         let is : becomes i A s.log more m ≡ ending i A s.log m = ap (λ (b : Bool). if b then ending i A s.log m else actor_going A s.log more m) e in
@@ -135,6 +140,8 @@ module _ (s : State) (run : IsRunning s) (i : ℕ) (q : Place) (at : slice_get s
         let log : inv.scene.log ≡ s.log = inv.log_is ∙ ap (λ (es : List Entry). s.log ++ es) none ∙ append-nil s.log in
         let last = answered_last s.log i A.dones (done_of i A s.log m) (subst (λ (es : List Entry). AreAnswered es i (A.dones ++ done_of i A s.log m ∷ [])) log k.answered) in
         let few = log_few s run in
+        let caused = causes_last P inv.scene.counter inv.scene.log A.dones (done_of i A s.log m) k.causes in
+        let rows = rows_fit P inv.scene.counter s.log (subst IsLegal run.inv.log_is run.inv.ground.legal) (log_wide s run) (done_of i A s.log m) m.registers.call m.registers.reply m.registers.rows last.answers.within refl last.answers.row (subst (λ (es : List Entry). let d : Done = done_of i A s.log m in HasCause P inv.scene.counter es d.first d.point d.rows d.call d.reply) log caused) in
         let h = run.places i q at in
         let inside = slice_get_within q.numbers q.ended q.number (h.busy busy) in
         let all : length q.numbers ≡ length (numbers_from i 1 s.calls) = ap length h.numbers in
@@ -146,8 +153,12 @@ module _ (s : State) (run : IsRunning s) (i : ℕ) (q : Place) (at : slice_get s
           legal = subst IsLegal run.inv.log_is run.inv.ground.legal;
           real = (n.real, omega (arith, below));
           call = λ g here. let one : g ≡ n.given = some_is (sym here ∙ n.here) in ap (λ (x : Given). x.call) one ∙ n.call_is;
+          waits = λ g here. let one : g ≡ n.given = some_is (sym here ∙ n.here) in n.later (q.number - 1) g (omega arith) here (ap (λ (x : Given). x.seat) one ∙ n.seat_is);
           point = has_point s.log (done_of i A s.log m) m.registers.call m.registers.reply last.least;
           wide = reply_wide P.value_words s.log (subst IsLegal run.inv.log_is run.inv.ground.legal) (log_wide s run) (done_of i A s.log m) m.registers.call m.registers.reply last.answers.row;
+          rows = rows.most;
+          keys = rows.keys;
+          values = rows.values;
           first = omega (arith, e1, seen, few, run.few);
           place = omega (arith, run.points i q at, few, run.few);
           few = omega (arith, few, run.few);
@@ -155,7 +166,7 @@ module _ (s : State) (run : IsRunning s) (i : ℕ) (q : Place) (at : slice_get s
         }
 
     -- the agreement of the others
-    agree : AgreeBut i s.calls (answered s.calls (q.number - 1) m.registers.reply q.first (point_of s.log q.first q.point m.registers.call m.registers.reply))
+    agree : AgreeBut i s.calls (answered s.calls (q.number - 1) m.registers.reply (rows_told m) q.first (point_of s.log q.first q.point m.registers.call m.registers.reply))
     agree = agree_ended P s.seats s.calls i q (slice_get_within s.seats i q at) s.log more m next
 
     abbrev Q : Place
@@ -170,15 +181,15 @@ module _ (s : State) (run : IsRunning s) (i : ℕ) (q : Place) (at : slice_get s
       | inr ne ↦ inr (ne, sym (set_else s.seats i j Q ne) ∙ e)
     ]
 
-    given_ended : (b : Bool) (k : ℕ) (g : Given) → slice_get (if b then answered s.calls (q.number - 1) m.registers.reply q.first (point_of s.log q.first q.point m.registers.call m.registers.reply) else s.calls) k ≡ Some g → IsGiven P g
+    given_ended : (b : Bool) (k : ℕ) (g : Given) → slice_get (if b then answered s.calls (q.number - 1) m.registers.reply (rows_told m) q.first (point_of s.log q.first q.point m.registers.call m.registers.reply) else s.calls) k ≡ Some g → IsGiven P g
     given_ended false k g e = run.given k g e
-    given_ended true k g e = elim (get_answered s.calls (q.number - 1) m.registers.reply q.first (point_of s.log q.first q.point m.registers.call m.registers.reply) k g e) [
+    given_ended true k g e = elim (get_answered s.calls (q.number - 1) m.registers.reply (rows_told m) q.first (point_of s.log q.first q.point m.registers.call m.registers.reply) k g e) [
       | inl was ↦ run.given k g was
-      | inr w ↦ let h = run.given (q.number - 1) w.1 w.2 in subst (IsGiven P) (sym w.3) (record { seat_is = h.seat_is; in_range = h.in_range; point = h.point })
+      | inr w ↦ let h = run.given (q.number - 1) w.1 w.2 in subst (IsGiven P) (sym w.3) (record { seat_is = h.seat_is; in_range = h.in_range })
     ]
 
-    calls_long : (b : Bool) → length (if b then answered s.calls (q.number - 1) m.registers.reply q.first (point_of s.log q.first q.point m.registers.call m.registers.reply) else s.calls) ≡ length s.calls
-    calls_long true = length_answered s.calls (q.number - 1) m.registers.reply q.first (point_of s.log q.first q.point m.registers.call m.registers.reply)
+    calls_long : (b : Bool) → length (if b then answered s.calls (q.number - 1) m.registers.reply (rows_told m) q.first (point_of s.log q.first q.point m.registers.call m.registers.reply) else s.calls) ≡ length s.calls
+    calls_long true = length_answered s.calls (q.number - 1) m.registers.reply (rows_told m) q.first (point_of s.log q.first q.point m.registers.call m.registers.reply)
     calls_long false = refl
 
     point_more : (es : List Entry) → point_after es q.point (length s.log) ≤ length (s.log ++ es)

@@ -2,27 +2,24 @@
 use Rattle.std.proofs.Common.{◌≡◌, ℕ, ◌+◌, ◌-◌, ◌^◌, ◌<◌, ◌≤◌, Bool, true, false, List, [], ◌∷◌, length, take, drop, Some, None, refl, sym, ap, ◌∙◌, subst, arith}
 use Rattle.std.specs.Prelude.{if◌then◌else◌}
 use Rattle.std.proofs.lemmas.List.{length-take-le, length-drop}
+use Rattle.sh_base.specs.declared.config.ConfigParts.{ConfigParts}
 use Rattle.sh_map.specs.declared.call.Call.{Call}
 use Rattle.sh_map.specs.declared.call.Call.TheVariants.{Get, Put, Del}
 use Rattle.sh_map.specs.declared.call.Reply.{Reply}
 use Rattle.sh_map.specs.declared.call.Reply.TheVariants as reply
 use Rattle.sh_map.specs.declared.log.Entry.{Entry}
-use Rattle.sh_client.specs.declared.state.Phase.{Phase}
-use Rattle.sh_client.specs.declared.state.Phase.TheVariants.{Idle, Root, Read, Draw, Look, Grab, ReadLocked, Seek, Fill, Waiting, Body, Unlock, Leave, Swap, Ended}
-use Rattle.sh_client.specs.Machine.{Machine}
-use Rattle.sh_client.specs.Rests.{has_ended, reply_in}
+use Rattle.sh_client.specs.Rests.{has_ended}
 use Rattle.sh_map.specs.Points.{point_of}
 use Rattle.sh_core.specs.Actors.{point_after, seen_after}
 use Rattle.sh_map.proofs.LeastLemmas.{least_is}
-use Rattle.sh_world.specs.declared.state.Given.{Given}
-use Rattle.sh_world.specs.States.{Place}
+use Rattle.sh_world.specs.States.{Given, Place}
 use Rattle.sh_world.specs.Turning.{going, place_after, resting}
 use Rattle.sh_world.specs.Running.{HasPoint}
 use Rattle.sh_world.specs.Seats.{CanEnd, CanSettle}
 
 -- an ended call can end, and is answered
-pub can_end : (log : List Entry) (width : ℕ) (calls : List Given) (x y : Place) → x ≡ y → CanSettle log width calls y y.client → has_ended x.client.phase ≡ true → CanEnd log width calls x x.client
-can_end log width calls x y e h t = subst (λ (z : Place). CanEnd log width calls z z.client) (sym e) (h (subst (λ (z : Place). has_ended z.client.phase ≡ true) e t))
+pub can_end : (p : ConfigParts) (log : List Entry) (calls : List Given) (x y : Place) → x ≡ y → CanSettle p log calls y y.client → has_ended x.client.phase ≡ true → CanEnd p log calls x x.client
+can_end p log calls x y e h t = subst (λ (z : Place). CanEnd p log calls z z.client) (sym e) (h (subst (λ (z : Place). has_ended z.client.phase ≡ true) e t))
 
 -- a call goes on
 pub place_going : (log more : List Entry) (x y w : Place) (seen point : ℕ) → x ≡ y → has_ended x.client.phase ≡ false → w ≡ record x { point = point } → seen ≡ seen_after more (length log) → point ≡ point_after more x.point (length log)

@@ -18,6 +18,7 @@ use Rattle.sh_read.specs.Reads.{Reads, wanted}
 use Rattle.sh_state.specs.TreeState.{TreeState}
 use Rattle.sh_decide.specs.declared.state.Posting.{Posting}
 use Rattle.sh_client.specs.declared.state.Then.{Then}
+use Rattle.sh_client.proofs.BeginLemmas.{has_begun}
 use Rattle.sh_client.specs.declared.state.Phase.{Phase}
 use Rattle.sh_client.specs.declared.state.Phase.TheVariants.{Idle, Read, ReadLocked, Seek, Body, Ended}
 use Rattle.sh_client.specs.declared.state.Want.{Want}
@@ -32,9 +33,8 @@ use Rattle.sh_core.specs.Actors.{Actor, actor_begun}
 use Rattle.sh_core.specs.Fits.{Fits}
 use Rattle.sh_core.specs.Keeps.{KeepsActor}
 use Rattle.sh_core_turns.proofs.Calls.{begin_keeps}
-use Rattle.sh_client.proofs.KeptLemmas.{fed_keeps}
-use Rattle.sh_world.specs.declared.state.Given.{Given}
-use Rattle.sh_world.specs.States.{Place, State, actor_of, HasActor, IsLeft}
+use Rattle.sh_client.proofs.CachedLemmas.{fed_keeps}
+use Rattle.sh_world.specs.States.{Given, Place, State, actor_of, HasActor, IsLeft}
 use Rattle.sh_world.specs.Turning.{asked, asked_in, started, starts, starts_next}
 use Rattle.sh_client.specs.InLine.{stand_in}
 use Rattle.sh_world.specs.Running.{IsRunning}
@@ -91,7 +91,7 @@ module _ (s : State) (run : IsRunning s) (i : ℕ) (q : Place) (at : slice_get s
       record {
         idle = pl.rests (rests_done w);
         real = (nu.low, omega (arith, below, nu.low));
-        lawful = λ g here. let x = run.given (n - 1) g here in (subst (λ (p : ConfigParts). IsInRange p g.call) (sym k.work.seated.setting_is) x.in_range, x.point);
+        lawful = λ g here. let x = run.given (n - 1) g here in subst (λ (p : ConfigParts). IsInRange p g.call) (sym k.work.seated.setting_is) x.in_range;
       }
 
   started_runs : want_of q.client ≡ want.Done → (n : ℕ) → slice_get q.numbers q.ended ≡ Some n → (g : Given) → slice_get s.calls (n - 1) ≡ Some g → IsRunning (put_place s i (started q n g.call (length s.log)))
@@ -105,7 +105,7 @@ module _ (s : State) (run : IsRunning s) (i : ℕ) (q : Place) (at : slice_get s
       (begin_keeps P run.setting s.words s.log (HasActor s.seats s.calls) (HasActor (set s.seats i q1) s.calls) (IsLeft P s.lines) i n (length s.log) A g.call run.inv h rest (run.given (n - 1) g here).in_range (omega (arith, e, seen)) (omega arith)
       (moves_seats s.seats s.calls s.calls i q1 (actor_begun A n g.call (length s.log)) (slice_get_within s.seats i q at) (λ j ne. refl) refl))
       (place_started s.calls i q n (length s.log) g (run.places i q at) next here) (omega arith)
-      (lines_still P run.setting s.lines s.seats i q q1 at run.lines (ap (stand_in q.client.setting q.client.registers) idle) (inr refl))
+      (lines_still P run.setting s.lines s.seats i q q1 at run.lines (ap (stand_in q.client.setting q.client.registers) idle ∙ sym (has_begun q.client g.call).away) (inr refl))
 
   same_runs : IsRunning (put_place s i q)
   same_runs = subst (λ (xs : List Place). IsRunning (record s { seats = xs })) (sym (set_same s.seats i q at)) run
@@ -145,8 +145,8 @@ ended_makes m word (Body carry done giving) e = absurd (true_false (has_ended (f
 ended_makes m word ph e = refl
 
 module _ (s : State) (run : IsRunning s) (i : ℕ) (q : Place) (at : slice_get s.seats i ≡ Some q) where
-  pub event_settles : (e : Event) → want_of q.client ≡ want.Event e → CanSettle s.log s.setting.value_words s.calls q (fed_by q.client (found_by s.words e))
+  pub event_settles : (e : Event) → want_of q.client ≡ want.Event e → CanSettle s.setting s.log s.calls q (fed_by q.client (found_by s.words e))
   event_settles e w ended = can_end s run i q at (event_busy s run i q at e w) (apply s.words e) (IsLeft s.setting s.lines) (makes q.client) (fed_by q.client (found_by s.words e)) (fed_keeps q.client (found_by s.words e)).2 (event_step s run i q at e w) ended (ended_makes q.client (found_by s.words e) q.client.phase ended)
 
-  pub leave_settles : (lock : ℕ) → lock < all_locks s.setting → (carry : Option ℕ) → want_of q.client ≡ want.Leave lock carry → CanSettle s.log s.setting.value_words s.calls q (fed_by q.client 0)
+  pub leave_settles : (lock : ℕ) → lock < all_locks s.setting → (carry : Option ℕ) → want_of q.client ≡ want.Leave lock carry → CanSettle s.setting s.log s.calls q (fed_by q.client 0)
   leave_settles lock lt carry w ended = can_end s run i q at (leave_busy s run i q at lock lt carry w) s.words _ [] (fed_by q.client 0) (fed_keeps q.client 0).2 (leave_step s run i q at lock lt carry w carry refl) ended refl

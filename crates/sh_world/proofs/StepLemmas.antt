@@ -7,37 +7,33 @@ use Rattle.sh_base.specs.declared.config.ConfigParts.{ConfigParts}
 use Rattle.sh_base.specs.Layout.{compute_of}
 use Rattle.sh_base.specs.Memory.{found_by}
 use Rattle.sh_base.specs.Setting.{all_locks}
-use Rattle.sh_client.specs.declared.state.Phase.{Phase}
-use Rattle.sh_client.specs.declared.state.Phase.TheVariants.{Look, Ended}
 use Rattle.sh_client.specs.declared.state.Step.{Step}
 use Rattle.sh_client.specs.declared.state.Want.TheVariants as want
-use Rattle.sh_client.specs.Feeds.{fed_by, fed_in, turned_by}
+use Rattle.sh_client.specs.Feeds.{fed_by, turned_by}
 use Rattle.sh_client.specs.Giving.{makes}
 use Rattle.sh_client.specs.Machine.{Machine}
-use Rattle.sh_client.specs.Rests.{has_ended, rests}
-use Rattle.sh_client.specs.Steps.{looks_in, looks_of, IsStep}
-use Rattle.sh_client.specs.Wants.{want_in}
+use Rattle.sh_client.specs.Rests.{has_ended, rows_told}
+use Rattle.sh_client.specs.Steps.{looks_of, IsStep}
 use Rattle.sh_map.specs.declared.log.Entry.{Entry}
 use Rattle.sh_map.specs.Points.{point_of}
 use Rattle.sh_client.proofs.Wanting.{goes_on, look_busy, look_stays, look_wants}
-use Rattle.sh_world.specs.declared.state.Given.{Given}
 use Rattle.sh_world.specs.declared.state.Line.{Line}
-use Rattle.sh_world.specs.States.{Place, State, actor_of, answered, line_at}
+use Rattle.sh_world.specs.States.{Given, Place, State, actor_of, answered, line_at}
 use Rattle.sh_world.specs.Turning.{asked_in, calls_after, going, looked_client, looked_line, place_after, resting, place_stepped, took, IsTurn}
 use Rattle.sh_world.specs.declared.turn.Turn.{Turn}
 use Rattle.sh_world.specs.Running.{IsWorld}
 use Rattle.sh_world.proofs.WorldLemmas.{called_world, event_world, is_asked, running, IsAsked}
 
 -- the setting of a seat's client is the world's
-pub seat_setting : (s t : State) (room width i : ℕ) (q : Place) → s ≡ t → IsWorld s room width → i < length t.seats → q ≡ get_or s.seats i q → q.client.setting ≡ s.setting
-seat_setting s t room width i q e h lt read =
-    let g = running s t room width i e h lt in
+pub seat_setting : (s t : State) (room : ℕ) (kept : ConfigParts) (i : ℕ) (q : Place) → s ≡ t → IsWorld s room kept → i < length t.seats → q ≡ get_or s.seats i q → q.client.setting ≡ s.setting
+seat_setting s t room kept i q e h lt read =
+    let g = running s t room kept i e h lt in
     (g.0.inv.kept i (actor_of s.calls i q) (record { place = q; here = slice_get_read s.seats (length s.seats) i q refl g.2 read; actor_is = refl })).work.seated.setting_is
 
 -- the seat that makes a step was asked, and wants its event
-pub step_asked : (s t : State) (room width i : ℕ) (q : Place) (m : Machine) (before after : List ℕ) (st : Step) → s ≡ t → IsWorld s room width → i < length t.seats → q ≡ get_or s.seats i q → IsStep before after q.client m st → IsAsked s i room width q (want.Event st.event)
-step_asked s t room width i q m before after st e h lt read step =
-    is_asked s t room width i q q s.calls (length s.log) (want.Event st.event) (want.Event st.event) e h lt read refl refl (sym (ap (asked_in s.calls q (length s.log)) step.event)) (sym step.event) step.within refl
+pub step_asked : (s t : State) (room : ℕ) (kept : ConfigParts) (i : ℕ) (q : Place) (m : Machine) (before after : List ℕ) (st : Step) → s ≡ t → IsWorld s room kept → i < length t.seats → q ≡ get_or s.seats i q → IsStep before after q.client m st → IsAsked s i room kept q (want.Event st.event)
+step_asked s t room kept i q m before after st e h lt read step =
+    is_asked s t room kept i q q s.calls (length s.log) (want.Event st.event) (want.Event st.event) e h lt read refl refl (sym (ap (asked_in s.calls q (length s.log)) step.event)) (sym step.event) step.within refl
 
 module _ (q : Place) (m : Machine) (before after : List ℕ) (st : Step) (step : IsStep before after q.client m st) where
   not_ended : has_ended m.phase ≡ false
@@ -49,7 +45,7 @@ module _ (q : Place) (m : Machine) (before after : List ℕ) (st : Step) (step :
       ∙ ap (λ (b : Bool). if b then resting q log m else going q log [] m) not_ended)
 
   step_calls : (cs : List Given) (log : List Entry) → cs ≡ calls_after cs q log m
-  step_calls cs log = sym (ap (λ (b : Bool). if b then answered cs (q.number - 1) m.registers.reply q.first (point_of log q.first q.point m.registers.call m.registers.reply) else cs) not_ended)
+  step_calls cs log = sym (ap (λ (b : Bool). if b then answered cs (q.number - 1) m.registers.reply (rows_told m) q.first (point_of log q.first q.point m.registers.call m.registers.reply) else cs) not_ended)
 
 -- the world after it
 pub step_world : (s : State) (i : ℕ) (q R x : Place) (m : Machine) (before after rest : List ℕ) (nw seen : ℕ) (st : Step) → q ≡ R → IsStep before after q.client m st → before ≡ s.words → length s.words ≡ nw → seen ≡ length s.log → x ≡ place_stepped q m seen (Some st)
@@ -84,14 +80,14 @@ is_false true e = cc
 is_false false e = refl
 
 -- the seat that looks was asked, and wants a look
-pub look_asked : (s t : State) (room width i : ℕ) (q : Place) (lock : ℕ) → s ≡ t → IsWorld s room width → i < length t.seats → q ≡ get_or s.seats i q → looks_of q.client ≡ Some lock → lock < all_locks q.client.setting → IsAsked s i room width q (want.Look lock)
-look_asked s t room width i q lock e h lt read looks within =
+pub look_asked : (s t : State) (room : ℕ) (kept : ConfigParts) (i : ℕ) (q : Place) (lock : ℕ) → s ≡ t → IsWorld s room kept → i < length t.seats → q ≡ get_or s.seats i q → looks_of q.client ≡ Some lock → lock < all_locks q.client.setting → IsAsked s i room kept q (want.Look lock)
+look_asked s t room kept i q lock e h lt read looks within =
     let wants = look_wants q.client q.client.phase lock looks in
-    is_asked s t room width i q q s.calls (length s.log) (want.Look lock) (want.Look lock) e h lt read refl refl (sym (ap (asked_in s.calls q (length s.log)) wants)) (sym wants) within refl
+    is_asked s t room kept i q q s.calls (length s.log) (want.Look lock) (want.Look lock) e h lt read refl refl (sym (ap (asked_in s.calls q (length s.log)) wants)) (sym wants) within refl
 
 -- the lock is one of the world's
-pub look_within : (s t : State) (room width i : ℕ) (q : Place) (lock : ℕ) → s ≡ t → IsWorld s room width → i < length t.seats → q ≡ get_or s.seats i q → lock < all_locks q.client.setting → lock < all_locks s.setting
-look_within s t room width i q lock e h lt read within = subst (λ (p : ConfigParts). lock < all_locks p) (seat_setting s t room width i q e h lt read) within
+pub look_within : (s t : State) (room : ℕ) (kept : ConfigParts) (i : ℕ) (q : Place) (lock : ℕ) → s ≡ t → IsWorld s room kept → i < length t.seats → q ≡ get_or s.seats i q → lock < all_locks q.client.setting → lock < all_locks s.setting
+look_within s t room kept i q lock e h lt read within = subst (λ (p : ConfigParts). lock < all_locks p) (seat_setting s t room kept i q e h lt read) within
 
 module _ (q : Place) (l : Line) (lock : ℕ) (looks : looks_of q.client ≡ Some lock) (waits : true ≡ not (l.served == q.ticket)) where
   still_client : looked_client q l ≡ q.client
@@ -107,7 +103,7 @@ module _ (q : Place) (l : Line) (lock : ℕ) (looks : looks_of q.client ≡ Some
   look_place log = sym (ap (place_after q log []) still_client ∙ ap (λ (b : Bool). if b then resting q log q.client else going q log [] q.client) still_goes)
 
   look_calls : (cs : List Given) (log : List Entry) → cs ≡ calls_after cs q log (looked_client q l)
-  look_calls cs log = sym (ap (calls_after cs q log) still_client ∙ ap (λ (b : Bool). if b then answered cs (q.number - 1) q.client.registers.reply q.first (point_of log q.first q.point q.client.registers.call q.client.registers.reply) else cs) still_goes)
+  look_calls cs log = sym (ap (calls_after cs q log) still_client ∙ ap (λ (b : Bool). if b then answered cs (q.number - 1) q.client.registers.reply (rows_told q.client) q.first (point_of log q.first q.point q.client.registers.call q.client.registers.reply) else cs) still_goes)
 
 -- the world after it
 pub wait_world : (s : State) (i : ℕ) (q R x : Place) (lock k : ℕ) (l : Line) (seen : ℕ) → q ≡ R → looks_of q.client ≡ Some lock → true ≡ not (l.served == q.ticket) → k ≡ line_at s.setting lock (compute_of s.setting i) → k < length s.lines → l ≡ get_or s.lines k l → seen ≡ length s.log → x ≡ record q { seen = seen }

@@ -19,7 +19,7 @@ use Rattle.sh_client.specs.Feeds.{fed_by, turned_by}
 use Rattle.sh_client.specs.Giving.{makes}
 use Rattle.sh_client.specs.Rests.{is_resting}
 use Rattle.sh_client.specs.Wants.{want_of}
-use Rattle.sh_client.proofs.KeptLemmas.{fed_keeps, turned_keeps}
+use Rattle.sh_client.proofs.CachedLemmas.{fed_keeps, turned_keeps}
 use Rattle.sh_core.specs.Actors.{Actor, becomes, actor_stepped, actor_turned}
 use Rattle.sh_core.specs.Fits.{Fits}
 use Rattle.sh_core.specs.Keeps.{KeepsActor}

@@ -1,5 +1,5 @@
 -- Each turn that a client wants keeps all that holds of a world.
-use Rattle.std.proofs.Common.{◌≡◌, ◌≢◌, ◌⊎◌, ℕ, ◌<◌, inl, inr, Bool, true, false, List, [], set, Option, Some, refl, sym, ap, ◌∙◌, subst, arith}
+use Rattle.std.proofs.Common.{◌≡◌, ◌≢◌, ◌⊎◌, ℕ, ◌<◌, inl, inr, Bool, true, false, List, set, Some, refl, sym, ap, ◌∙◌, subst, arith}
 use Rattle.std.specs.Prelude.{if◌then◌else◌, slice_get}
 use Rattle.std.proofs.lemmas.Bool.{cases_eq}
 use Rattle.std.proofs.lemmas.Option.{slice_get_within}
@@ -8,31 +8,20 @@ use Rattle.sh_logic.proofs.Lists.{set_here, set_else}
 use Rattle.sh_logic.proofs.Options.{some_is}
 use Rattle.sh_base.specs.declared.config.ConfigParts.{ConfigParts}
 use Rattle.sh_base.specs.Setting.{all_locks, IsSetting}
-use Rattle.sh_base.specs.Layout.{compute_of, lock_of}
+use Rattle.sh_base.specs.Layout.{compute_of}
 use Rattle.sh_map.specs.declared.log.Entry.{Entry}
-use Rattle.sh_alloc.specs.Walks.{walk_wants}
-use Rattle.sh_read.specs.Reads.{wanted}
-use Rattle.sh_decide.specs.declared.state.Aim.{Aim}
-use Rattle.sh_client.specs.declared.state.Then.{Then}
-use Rattle.sh_client.specs.declared.state.Phase.{Phase}
-use Rattle.sh_client.specs.declared.state.Phase.TheVariants.{Idle, Read, Look, ReadLocked, Seek, Body, Leave, Ended}
-use Rattle.sh_client.specs.declared.state.Want.{Want}
-use Rattle.sh_client.specs.declared.state.Want.TheVariants as want
 use Rattle.sh_client.specs.Machine.{Machine}
-use Rattle.sh_client.specs.Giving.{made_in, makes}
-use Rattle.sh_client.specs.Rests.{has_ended, is_resting, rests}
-use Rattle.sh_client.specs.Wants.{count_of, load_of, want_in, want_of}
+use Rattle.sh_client.specs.Rests.{has_ended}
 use Rattle.sh_core.specs.Actors.{Actor}
 use Rattle.sh_core.specs.Core.{Inv}
 use Rattle.sh_world.specs.declared.state.Line.{Line}
 use Rattle.sh_world.specs.States.{Place, line_at, IsLeft}
 use Rattle.sh_world.specs.Turning.{going, place_after, resting}
 use Rattle.sh_world.specs.Lines.{IsLine, AreLines}
-use Rattle.sh_client.specs.InLine.{Away, stand_in, stand_of, IsIn}
-use Rattle.sh_client.proofs.Wanting.{leaving, line_makes, looking, stand_ended, wants_busy, IsLeavingFor, IsLooking}
+use Rattle.sh_client.specs.InLine.{Away, stand_of, IsIn}
+use Rattle.sh_client.proofs.Wanting.{stand_ended}
 use Rattle.sh_world.proofs.LineLemmas.{line_apart}
 use Rattle.sh_world.proofs.QueueLemmas.{line_still, IsStill}
-use Rattle.sh_client.proofs.InLineLemmas.{load_is, count_is, not_elsewhere, Elsewhere}
 
 -- ---- behind a turn the seat stands where its client does
 

@@ -19,8 +19,7 @@ use Rattle.sh_map.specs.Map.{get}
 use Rattle.sh_map.proofs.LastLemmas.{value_from}
 use Rattle.sh_map.proofs.LogLemmas.{IsLegal-at}
 use Rattle.sh_core.specs.Actors.{made_by, updates}
-use Rattle.sh_world.specs.declared.state.Given.{Given}
-use Rattle.sh_world.specs.States.{done_in, dones_by, dones_from}
+use Rattle.sh_world.specs.States.{Given, done_in, dones_by, dones_from}
 use Rattle.sh_world.specs.Columns.{IsReplyWide}
 
 -- ---- the log
@@ -96,7 +95,7 @@ slice_get-take (suc n) (x ∷ log) (suc k) e h = slice_get-take n log k e h
 
 module _ (width : ℕ) (log : List Entry) (legal : IsLegal log) (wide : AreWide width log) where
   -- what the map has came from a put
-  found_wide : (at key : ℕ) (value : List ℕ) → get (map_at log at) key ≡ Some value → length value ≡ width
+  pub found_wide : (at key : ℕ) (value : List ℕ) → get (map_at log at) key ≡ Some value → length value ≡ width
   found_wide at key value has =
       let f = value_from (take at log) key value has in
       subst (IsWide width) f.3 (wide f.0 f.1 (slice_get-take at log f.0 f.1 f.2.here))

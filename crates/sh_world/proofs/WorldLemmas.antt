@@ -18,11 +18,10 @@ use Rattle.sh_client.specs.Feeds.{fed_by, turned_by}
 use Rattle.sh_client.specs.Giving.{makes}
 use Rattle.sh_client.specs.Wants.{want_of, IsWithin}
 use Rattle.sh_map.specs.Points.{point_of}
-use Rattle.sh_client.specs.Rests.{has_ended}
-use Rattle.sh_world.specs.declared.state.Given.{Given}
+use Rattle.sh_client.specs.Rests.{has_ended, rows_told}
 use Rattle.sh_world.specs.declared.state.Line.{Line}
 use Rattle.sh_world.specs.declared.turn.Turn.{Turn}
-use Rattle.sh_world.specs.States.{Place, State, actor_of, answered, line_at}
+use Rattle.sh_world.specs.States.{Given, Place, State, actor_of, answered, line_at}
 use Rattle.sh_world.specs.Turning.{answer_at, turn_answer_in, answer_of, asked, behind, calls_after, drawn, left_line, line_of, looked_client, looked_line, or_free, line_called, place_after, place_called, took, took_in, turn_at, turn_of, wanted_lock, IsTurn}
 use Rattle.sh_world.specs.Running.{IsRunning, IsWorld}
 use Rattle.sh_world.specs.Seats.{CanSettle}
@@ -38,9 +37,9 @@ use Rattle.sh_world.specs.declared.turn.Turn.TheVariants as turn
 use Rattle.sh_base.specs.Setting.{all_locks}
 
 -- a world that has seats runs
-pub runs : (s : State) (room width : ℕ) → IsWorld s room width → s.seats ≢ [] → IsRunning s × (length s.calls < room) × (width ≡ s.setting.value_words)
-runs s room width (inl blank) some = absurd (some blank.seats)
-runs s room width (inr h) some = h
+pub runs : (s : State) (room : ℕ) (kept : ConfigParts) → IsWorld s room kept → s.seats ≢ [] → IsRunning s × (length s.calls < room) × (kept ≡ s.setting)
+runs s room kept (inl blank) some = absurd (some blank.seats)
+runs s room kept (inr h) some = h
 
 module _ (s : State) (run : IsRunning s) (i : ℕ) (q : Place) (at : slice_get s.seats i ≡ Some q) where
   -- the seat that was asked
@@ -80,8 +79,8 @@ module _ (s : State) (run : IsRunning s) (i : ℕ) (q : Place) (at : slice_get s
 
   calls_long : (m : Machine) (x : Place) → length (calls_after s.calls x s.log m) ≡ length s.calls
   calls_long m x = by_end (has_ended m.phase) where
-    by_end : (b : Bool) → length (if b then answered s.calls (x.number - 1) m.registers.reply x.first (point_of s.log x.first x.point m.registers.call m.registers.reply) else s.calls) ≡ length s.calls
-    by_end true = length_answered s.calls (x.number - 1) m.registers.reply x.first (point_of s.log x.first x.point m.registers.call m.registers.reply)
+    by_end : (b : Bool) → length (if b then answered s.calls (x.number - 1) m.registers.reply (rows_told m) x.first (point_of s.log x.first x.point m.registers.call m.registers.reply) else s.calls) ≡ length s.calls
+    by_end true = length_answered s.calls (x.number - 1) m.registers.reply (rows_told m) x.first (point_of s.log x.first x.point m.registers.call m.registers.reply)
     by_end false = refl
 
   -- as many calls, in the same setting
@@ -91,8 +90,8 @@ module _ (s : State) (run : IsRunning s) (i : ℕ) (q : Place) (at : slice_get s
   took_long w None = (refl, refl)
 
   -- a world of the same parts is one, with as much room
-  pub world_is : (w : Want) → want_of R.client ≡ w → IsWithin s.setting w → (t : State) (room new width : ℕ) → t ≡ took s i R w → length s.calls < room → new ≡ room → width ≡ s.setting.value_words → IsWorld t new width
-  world_is w e within t room new width is lt same wide = subst (λ (x : State). IsWorld x new width) (sym is) (let l = took_long w (wanted_lock w) in inr (took_runs w e within, omega (arith, l.0, lt, same), wide ∙ ap (λ (p : ConfigParts). p.value_words) (sym l.1)))
+  pub world_is : (w : Want) → want_of R.client ≡ w → IsWithin s.setting w → (t : State) (room new : ℕ) (kept : ConfigParts) → t ≡ took s i R w → length s.calls < room → new ≡ room → kept ≡ s.setting → IsWorld t new kept
+  world_is w e within t room new kept is lt same kept_is = subst (λ (x : State). IsWorld x new kept) (sym is) (let l = took_long w (wanted_lock w) in inr (took_runs w e within, omega (arith, l.0, lt, same), kept_is ∙ sym l.1))
 
 -- ---- from what a turn's parts do to the turn
 
@@ -106,10 +105,10 @@ length_apply ws (Exchange at old new) = by_test (get_or ws at 0 == old) where
   by_test false = refl
 
 -- what a world of these fields is
-pub running : (s t : State) (room width i : ℕ) → s ≡ t → IsWorld s room width → i < length t.seats → IsRunning s × (length s.calls < room) × (i < length s.seats) × (width ≡ s.setting.value_words)
-running s t room width i e h lt =
+pub running : (s t : State) (room : ℕ) (kept : ConfigParts) (i : ℕ) → s ≡ t → IsWorld s room kept → i < length t.seats → IsRunning s × (length s.calls < room) × (i < length s.seats) × (kept ≡ s.setting)
+running s t room kept i e h lt =
     let here : i < length s.seats = subst (λ (x : State). i < length x.seats) (sym e) lt in
-    let r = runs s room width h (λ none. let l = ap length none in absurd (omega (arith, here, l))) in
+    let r = runs s room kept h (λ none. let l = ap length none in absurd (omega (arith, here, l))) in
     (r.0, r.1, here, r.2)
 
 -- a line that was read is the one of its place
@@ -144,10 +143,10 @@ module _ (s : State) (i : ℕ) (r R : Place) (r_is : r ≡ R) where
         ∙ sym (ap (took_in s i R w) lock_is)
 
 -- the seat was asked, and wants this
-pub record IsAsked (s : State) (i room width : ℕ) (r : Place) (w : Want) : Type 0 where
+pub record IsAsked (s : State) (i room : ℕ) (kept : ConfigParts) (r : Place) (w : Want) : Type 0 where
   pub run : IsRunning s
   pub room_is : length s.calls < room
-  pub wide : width ≡ s.setting.value_words
+  pub kept_for : kept ≡ s.setting
   pub place : Place
   pub here : slice_get s.seats i ≡ Some place
   pub asked_is : r ≡ asked s.calls place (length s.log)
@@ -157,15 +156,15 @@ pub record IsAsked (s : State) (i room width : ℕ) (r : Place) (w : Want) : Typ
 asked_setting : (s : State) (run : IsRunning s) (i : ℕ) (q : Place) (at : slice_get s.seats i ≡ Some q) → (asked s.calls q (length s.log)).client.setting ≡ s.setting
 asked_setting s run i q at = let r1 = run1 s run i q at in (r1.inv.kept i (actor_of s.calls i (asked s.calls q (length s.log))) (record { place = asked s.calls q (length s.log); here = at1 s run i q at; actor_is = refl })).work.seated.setting_is
 
-pub is_asked : (s t : State) (room width i : ℕ) (q r : Place) (calls : List Given) (seen : ℕ) (res w : Want) → s ≡ t → IsWorld s room width → i < length t.seats → q ≡ get_or s.seats i q → calls ≡ s.calls → seen ≡ length s.log → r ≡ asked calls q seen → res ≡ want_of r.client → IsWithin r.client.setting res → res ≡ w → IsAsked s i room width r w
-is_asked s t room width i q r calls seen res w e h lt read calls_is seen_is r_is res_is inside w_is =
-    let g = running s t room width i e h lt in
+pub is_asked : (s t : State) (room : ℕ) (kept : ConfigParts) (i : ℕ) (q r : Place) (calls : List Given) (seen : ℕ) (res w : Want) → s ≡ t → IsWorld s room kept → i < length t.seats → q ≡ get_or s.seats i q → calls ≡ s.calls → seen ≡ length s.log → r ≡ asked calls q seen → res ≡ want_of r.client → IsWithin r.client.setting res → res ≡ w → IsAsked s i room kept r w
+is_asked s t room kept i q r calls seen res w e h lt read calls_is seen_is r_is res_is inside w_is =
+    let g = running s t room kept i e h lt in
     let at = slice_get_read s.seats (length s.seats) i q refl g.2 read in
     let all : r ≡ asked s.calls q (length s.log) = r_is ∙ (λ z. asked (calls_is z) q (seen_is z)) in
     record {
       run = g.0;
       room_is = g.1;
-      wide = g.3;
+      kept_for = g.3;
       place = q;
       here = at;
       asked_is = all;
@@ -173,7 +172,7 @@ is_asked s t room width i q r calls seen res w e h lt read calls_is seen_is r_is
       within = subst (λ (p : ConfigParts). IsWithin p w) (ap (λ (x : Place). x.client.setting) all ∙ asked_setting s g.0 i q at) (subst (IsWithin r.client.setting) w_is inside);
     }
 
-module _ (s : State) (i room width : ℕ) (r : Place) (w : Want) (a : IsAsked s i room width r w) where
+module _ (s : State) (i room : ℕ) (kept : ConfigParts) (r : Place) (w : Want) (a : IsAsked s i room kept r w) where
   -- what comes of it is the turn
   pub value_is : (t u : State) → s ≡ u → t ≡ took s i (asked s.calls a.place (length s.log)) w → t ≡ turn_of u i
   value_is t u e is = is ∙ sym (turn_is s a.run i a.place a.here w a.want_is) ∙ ap (λ (x : State). turn_of x i) e
@@ -188,16 +187,16 @@ module _ (s : State) (i room width : ℕ) (r : Place) (w : Want) (a : IsAsked s 
   pub turned : (t u : State) (words : List ℕ) (x : Turn) → s ≡ u → words ≡ s.words → t ≡ took s i (asked s.calls a.place (length s.log)) w → x ≡ turn_answer_in words w → IsTurn u i t x
   turned t u words x e ws is told = record { world = value_is t u e is; answer = told_is u words x e ws told }
 
-  pub kept_is : (t : State) (new now : ℕ) → t ≡ took s i (asked s.calls a.place (length s.log)) w → new ≡ room → now ≡ width → IsWorld t new now
-  kept_is t new now is same wide = world_is s a.run i a.place a.here w a.want_is a.within t room new now is a.room_is same (wide ∙ a.wide)
+  pub kept_is : (t : State) (new : ℕ) (now : ConfigParts) → t ≡ took s i (asked s.calls a.place (length s.log)) w → new ≡ room → now ≡ kept → IsWorld t new now
+  kept_is t new now is same now_is = world_is s a.run i a.place a.here w a.want_is a.within t room new now is a.room_is same (now_is ∙ a.kept_for)
 
-pub event_can : (s : State) (i room width : ℕ) (r : Place) (e : Event) (cs : List Given) (ws : List ℕ) → IsAsked s i room width r (want.Event e) → cs ≡ s.calls → ws ≡ s.words → CanSettle s.log width cs r (fed_by r.client (found_by ws e))
-event_can s i room width r e cs ws a cs_is ws_is =
+pub event_can : (s : State) (i room : ℕ) (kept : ConfigParts) (r : Place) (e : Event) (cs : List Given) (ws : List ℕ) → IsAsked s i room kept r (want.Event e) → cs ≡ s.calls → ws ≡ s.words → CanSettle kept s.log cs r (fed_by r.client (found_by ws e))
+event_can s i room kept r e cs ws a cs_is ws_is =
     let h = event_settles (put_place s i (asked s.calls a.place (length s.log))) (run1 s a.run i a.place a.here) i (asked s.calls a.place (length s.log)) (at1 s a.run i a.place a.here) e a.want_is in
-    subst (λ (n : ℕ). CanSettle s.log n cs r (fed_by r.client (found_by ws e))) (sym a.wide)
-    (subst (λ (x : Place). CanSettle s.log s.setting.value_words cs x (fed_by x.client (found_by ws e))) (sym a.asked_is)
-    (subst (λ (v : List ℕ). CanSettle s.log s.setting.value_words cs (asked s.calls a.place (length s.log)) (fed_by (asked s.calls a.place (length s.log)).client (found_by v e))) (sym ws_is)
-    (subst (λ (c : List Given). CanSettle s.log s.setting.value_words c (asked s.calls a.place (length s.log)) (fed_by (asked s.calls a.place (length s.log)).client (found_by s.words e))) (sym cs_is) h)))
+    subst (λ (n : ConfigParts). CanSettle n s.log cs r (fed_by r.client (found_by ws e))) (sym a.kept_for)
+    (subst (λ (x : Place). CanSettle s.setting s.log cs x (fed_by x.client (found_by ws e))) (sym a.asked_is)
+    (subst (λ (v : List ℕ). CanSettle s.setting s.log cs (asked s.calls a.place (length s.log)) (fed_by (asked s.calls a.place (length s.log)).client (found_by v e))) (sym ws_is)
+    (subst (λ (c : List Given). CanSettle s.setting s.log c (asked s.calls a.place (length s.log)) (fed_by (asked s.calls a.place (length s.log)).client (found_by s.words e))) (sym cs_is) h)))
 
 -- ---- a call on a line
 
@@ -231,28 +230,28 @@ looks_on : (r : Place) (l : Line) (lock : ℕ) → want_of r.client ≡ want.Loo
 looks_on r l lock w true = subst (IsIn lock) (sym (look_stands r.client 0 lock l.left r.client.phase w).2) refl
 looks_on r l lock w false = let x = look_stands r.client l.served lock None r.client.phase w in subst (λ (m : Machine). IsIn lock (stand_of m)) (sym x.1) (subst (IsIn lock) (sym x.0) refl)
 
-leave_can : (s : State) (i room width : ℕ) (r : Place) (lock : ℕ) (carry : Option ℕ) (cs : List Given) (lg : List Entry) → IsAsked s i room width r (want.Leave lock carry) → cs ≡ s.calls → lg ≡ s.log → CanSettle lg width cs r (fed_by r.client 0)
-leave_can s i room width r lock carry cs lg a cs_is lg_is =
+leave_can : (s : State) (i room : ℕ) (kept : ConfigParts) (r : Place) (lock : ℕ) (carry : Option ℕ) (cs : List Given) (lg : List Entry) → IsAsked s i room kept r (want.Leave lock carry) → cs ≡ s.calls → lg ≡ s.log → CanSettle kept lg cs r (fed_by r.client 0)
+leave_can s i room kept r lock carry cs lg a cs_is lg_is =
     let q = asked s.calls a.place (length s.log) in
     let h = leave_settles (put_place s i q) (run1 s a.run i a.place a.here) i q (at1 s a.run i a.place a.here) lock a.within carry a.want_is in
-    subst (λ (n : ℕ). CanSettle lg n cs r (fed_by r.client 0)) (sym a.wide)
-    (subst (λ (x : Place). CanSettle lg s.setting.value_words cs x (fed_by x.client 0)) (sym a.asked_is)
-    (subst (λ (v : List Entry). CanSettle v s.setting.value_words cs q (fed_by q.client 0)) (sym lg_is)
-    (subst (λ (c : List Given). CanSettle s.log s.setting.value_words c q (fed_by q.client 0)) (sym cs_is) h)))
+    subst (λ (n : ConfigParts). CanSettle n lg cs r (fed_by r.client 0)) (sym a.kept_for)
+    (subst (λ (x : Place). CanSettle s.setting lg cs x (fed_by x.client 0)) (sym a.asked_is)
+    (subst (λ (v : List Entry). CanSettle s.setting v cs q (fed_by q.client 0)) (sym lg_is)
+    (subst (λ (c : List Given). CanSettle s.setting s.log c q (fed_by q.client 0)) (sym cs_is) h)))
 
 -- a call that ends with it can end
-pub call_can : (s : State) (i room width : ℕ) (r : Place) (w : Want) (lock : ℕ) (l : Line) (cs : List Given) (lg : List Entry) → IsAsked s i room width r w → wanted_lock w ≡ Some lock → cs ≡ s.calls → lg ≡ s.log → CanSettle lg width cs (place_called r l w) (place_called r l w).client
-call_can s i room width r (want.Draw n) lock l cs lg a e cs_is lg_is = λ ended. absurd (in_line_goes (fed_by r.client l.next) n (subst (IsIn n) (sym (draw_stands r.client l.next n r.client.phase (wants s i room width r _ a)).1) refl) ended)
-call_can s i room width r (want.Look n) lock l cs lg a e cs_is lg_is = λ ended. absurd (in_line_goes (looked_client r l) n (looks_on r l n (wants s i room width r _ a) (l.served == r.ticket)) ended)
-call_can s i room width r (want.Waiting n) lock l cs lg a e cs_is lg_is = λ ended. absurd (in_line_goes (fed_by r.client (behind l r.ticket)) n (may_be n (behind l r.ticket) _ (count_stands r.client (behind l r.ticket) n r.client.phase (wants s i room width r _ a)).1) ended)
-call_can s i room width r (want.Leave n carry) lock l cs lg a e cs_is lg_is = λ ended.
-    let x = leave_can s i room width r n carry cs lg a cs_is lg_is ended in
-    record { legal = x.legal; real = x.real; call = x.call; point = x.point; wide = x.wide; first = x.first; place = x.place; few = x.few; ended = x.ended }
-call_can s i room width r w lock l cs lg a e cs_is lg_is = cc
+pub call_can : (s : State) (i room : ℕ) (kept : ConfigParts) (r : Place) (w : Want) (lock : ℕ) (l : Line) (cs : List Given) (lg : List Entry) → IsAsked s i room kept r w → wanted_lock w ≡ Some lock → cs ≡ s.calls → lg ≡ s.log → CanSettle kept lg cs (place_called r l w) (place_called r l w).client
+call_can s i room kept r (want.Draw n) lock l cs lg a e cs_is lg_is = λ ended. absurd (in_line_goes (fed_by r.client l.next) n (subst (IsIn n) (sym (draw_stands r.client l.next n r.client.phase (wants s i room kept r _ a)).1) refl) ended)
+call_can s i room kept r (want.Look n) lock l cs lg a e cs_is lg_is = λ ended. absurd (in_line_goes (looked_client r l) n (looks_on r l n (wants s i room kept r _ a) (l.served == r.ticket)) ended)
+call_can s i room kept r (want.Waiting n) lock l cs lg a e cs_is lg_is = λ ended. absurd (in_line_goes (fed_by r.client (behind l r.ticket)) n (may_be n (behind l r.ticket) _ (count_stands r.client (behind l r.ticket) n r.client.phase (wants s i room kept r _ a)).1) ended)
+call_can s i room kept r (want.Leave n carry) lock l cs lg a e cs_is lg_is = λ ended.
+    let x = leave_can s i room kept r n carry cs lg a cs_is lg_is ended in
+    record { legal = x.legal; real = x.real; call = x.call; waits = x.waits; point = x.point; wide = x.wide; rows = x.rows; keys = x.keys; values = x.values; first = x.first; place = x.place; few = x.few; ended = x.ended }
+call_can s i room kept r w lock l cs lg a e cs_is lg_is = cc
 
 -- what was left in a line is within the bound
-pub left_bound : (s : State) (i room width : ℕ) (r : Place) (w : Want) (lock : ℕ) (l : Line) → IsAsked s i room width r w → wanted_lock w ≡ Some lock → l ≡ line_of s i lock → (d : ℕ) → l.left ≡ Some d → d ≤ r.client.setting.bound
-left_bound s i room width r w lock l a lock_is l_is d e =
+pub left_bound : (s : State) (i room : ℕ) (kept : ConfigParts) (r : Place) (w : Want) (lock : ℕ) (l : Line) → IsAsked s i room kept r w → wanted_lock w ≡ Some lock → l ≡ line_of s i lock → (d : ℕ) → l.left ≡ Some d → d ≤ r.client.setting.bound
+left_bound s i room kept r w lock l a lock_is l_is d e =
     let within = lock_within s.setting w lock lock_is a.within in
     let q = asked s.calls a.place (length s.log) in
     let r1 = run1 s a.run i a.place a.here in

@@ -15,8 +15,7 @@ use Rattle.sh_core_says.specs.Moments.{IsMoment}
 use Rattle.sh_core_says.specs.Rest.{AreAtRest}
 use Rattle.sh_core_turns.specs.Senses.{is_senseless}
 use Rattle.sh_world.specs.declared.turn.Turn.TheVariants as turn
-use Rattle.sh_world.specs.declared.state.Given.{Given}
-use Rattle.sh_world.specs.States.{Place, State, dones_of, HasActor, IsLeft}
+use Rattle.sh_world.specs.States.{Given, Place, State, dones_of, HasActor, IsLeft}
 use Rattle.sh_world.specs.Turning.{answer_of, asked, is_idle_at, turn_of}
 use Rattle.sh_world.specs.Lines.{AreLines}
 
@@ -26,6 +25,10 @@ Clients s = HasActor s.seats s.calls
 
 abbrev pub Rights : State → (lock compute depth : ℕ) → Type 0
 Rights s = IsLeft s.setting s.lines
+
+-- each refusal has its cause
+abbrev pub RefusalsHaveCauses : State → Type 0
+RefusalsHaveCauses s = HaveCauses s.setting (counter_in s.setting s.words) s.log (dones_of s.calls)
 
 -- every seat is idle
 abbrev pub AllIdle : State → Type 0
@@ -40,7 +43,7 @@ pub record IsLawfulWorld (s : State) : Type 0 where
   pub seats : length s.seats ≡ all_seats s.setting
   pub moment : IsMoment s.setting s.words s.log (Clients s) (Rights s)
   pub book : IsLawfulBook (Clients s) s.log (dones_of s.calls)
-  pub causes : HaveCauses s.setting (counter_in s.setting s.words) s.log (dones_of s.calls)
+  pub causes : RefusalsHaveCauses s
   pub answers : (seat : ℕ) (a : Actor) → Clients s seat a → HasAnswers s.log seat a
   pub senses : (seat : ℕ) (a : Actor) (e : Event) → Clients s seat a → want_of a.client ≡ want.Event e → is_senseless a.client (found_by s.words e) ≡ false
   pub lines : AreLines s.setting s.seats s.lines

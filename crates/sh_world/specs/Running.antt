@@ -12,10 +12,8 @@ use Rattle.sh_map.specs.Map.{get}
 use Rattle.sh_map.specs.Log.{map_at}
 use Rattle.sh_client.specs.declared.state.Phase.TheVariants.{Idle}
 use Rattle.sh_client.specs.Rests.{is_resting}
-use Rattle.sh_client.specs.Sound.{IsPointCall}
 use Rattle.sh_core.specs.Core.{Inv}
-use Rattle.sh_world.specs.declared.state.Given.{Given}
-use Rattle.sh_world.specs.States.{Place, State, dones_by, dones_of, HasActor, IsBlank, IsLeft}
+use Rattle.sh_world.specs.States.{Given, Place, State, dones_by, dones_of, HasActor, IsBlank, IsLeft}
 use Rattle.sh_world.specs.Lines.{AreLines}
 
 -- ---- points
@@ -36,11 +34,10 @@ HasPoint log first call reply = Unit {0}
 
 -- ---- calls
 
--- a call that was given: its seat is one of the setting, and it is in range and no range
+-- a call that was given: its seat is one of the setting, and it is in range
 pub record IsGiven (p : ConfigParts) (g : Given) : Type 0 where
   pub seat_is : g.seat < all_seats p
   pub in_range : IsInRange p g.call
-  pub point : IsPointCall g.call
 
 -- the numbers of a seat's calls, of which the first of these has the number n
 abbrev pub numbers_from : (seat n : ℕ) → List Given → List ℕ
@@ -72,7 +69,7 @@ pub record IsRunning (s : State) : Type 0 where
   pub points : (seat : ℕ) (q : Place) → slice_get s.seats seat ≡ Some q → q.point ≤ length s.log
   pub by_seats : (place : ℕ) (e : Entry) → slice_get s.log place ≡ Some e → e.seat < all_seats s.setting
 
--- Any world: a blank one, or one that runs, with more room in its log than there are calls, and so many words for a value
--- as the setting says.
-abbrev pub IsWorld : State → (room width : ℕ) → Type 0
-IsWorld s room width = IsBlank s ⊎ (IsRunning s × (length s.calls < room) × (width ≡ s.setting.value_words))
+-- Any world: a blank one, or one that runs, with more room in its log than there are calls, and calls that are kept for
+-- its setting.
+abbrev pub IsWorld : State → (room : ℕ) → (kept : ConfigParts) → Type 0
+IsWorld s room kept = IsBlank s ⊎ (IsRunning s × (length s.calls < room) × (kept ≡ s.setting))

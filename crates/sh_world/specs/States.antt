@@ -3,13 +3,25 @@
 use Rattle.std.specs.Prelude.{◌≡◌, ℕ, zero, suc, ◌+◌, ◌*◌, ◌<◌, ◌==◌, List, [], ◌∷◌, ◌++◌, filter, replicate, slice_get, Option, None, Some}
 use Rattle.sh_base.specs.declared.config.ConfigParts.{ConfigParts}
 use Rattle.sh_base.specs.Setting.{all_locks, all_seats}
+use Rattle.sh_map.specs.declared.call.Call.{Call}
 use Rattle.sh_map.specs.declared.call.Reply.{Reply}
 use Rattle.sh_map.specs.declared.log.Entry.{Entry}
 use Rattle.sh_map.specs.declared.book.Done.{Done}
+use Rattle.sh_map.specs.declared.book.Row.{Row}
 use Rattle.sh_client.specs.Machine.{Machine, fresh_machine}
 use Rattle.sh_core.specs.Actors.{Actor}
-use Rattle.sh_world.specs.declared.state.Given.{Given}
+use Rattle.sh_world.specs.declared.state.GivenCall.{GivenCall}
 use Rattle.sh_world.specs.declared.state.Line.{Line}
+
+-- A call that was given to a seat. Once it has ended it has its reply, and first and point are the log's length before its
+-- first turn and the point of the log where it is answered, and a range has its rows; before, they are 0 and none.
+pub record Given : Type 0 where
+  pub seat : ℕ
+  pub call : Call
+  pub reply : Option Reply
+  pub first : ℕ
+  pub point : ℕ
+  pub rows : List Row
 
 -- A seat: its client; the numbers of its calls, in the order in which they were given, and how many of them have ended;
 -- the number of the call under way, or of the last one; its ticket, while it stands in a line; how long the log was that
@@ -36,10 +48,26 @@ pub record State : Type 0 where
 
 -- ---- calls
 
+-- a call that was just given
+abbrev pub fresh_call : (seat : ℕ) → Call → Given
+fresh_call seat call = record { seat = seat; call = call; reply = None; first = 0; point = 0; rows = [] }
+
+-- a call as it is told, and its rows
+abbrev pub with_rows : GivenCall → List Row → Given
+with_rows c rows = record { seat = c.seat; call = c.call; reply = c.reply; first = c.first; point = c.point; rows = rows }
+
+abbrev pub rows_in : Option Given → List Row
+rows_in None = []
+rows_in (Some g) = g.rows
+
+-- the rows of the call at this place
+abbrev pub rows_at : List Given → (place : ℕ) → List Row
+rows_at calls place = rows_in (slice_get calls place)
+
 -- The ended call that this one is, with its number, if it has ended.
 abbrev pub done_in : (n : ℕ) → Given → Option Reply → List Done
 done_in n g None = []
-done_in n g (Some reply) = record { n = n; seat = g.seat; call = g.call; reply = reply; first = g.first; point = g.point; rows = [] } ∷ []
+done_in n g (Some reply) = record { n = n; seat = g.seat; call = g.call; reply = reply; first = g.first; point = g.point; rows = g.rows } ∷ []
 
 -- The ended ones of these calls, of which the first has the number n.
 abbrev pub dones_from : (n : ℕ) → List Given → List Done
@@ -54,11 +82,11 @@ dones_of calls = dones_from 1 calls
 abbrev pub dones_by : (seat : ℕ) → List Done → List Done
 dones_by seat dones = filter (λ (d : Done). d.seat == seat) dones
 
--- the call at this place is answered, with its two numbers
-abbrev pub answered : List Given → (place : ℕ) → Reply → (first point : ℕ) → List Given
-answered [] place reply first point = []
-answered (g ∷ calls) zero reply first point = record { seat = g.seat; call = g.call; reply = Some reply; first = first; point = point } ∷ calls
-answered (g ∷ calls) (suc place) reply first point = g ∷ answered calls place reply first point
+-- the call at this place is answered, with its rows and its two numbers
+abbrev pub answered : List Given → (place : ℕ) → Reply → List Row → (first point : ℕ) → List Given
+answered [] place reply rows first point = []
+answered (g ∷ calls) zero reply rows first point = record { seat = g.seat; call = g.call; reply = Some reply; first = first; point = point; rows = rows } ∷ calls
+answered (g ∷ calls) (suc place) reply rows first point = g ∷ answered calls place reply rows first point
 
 -- ---- seats
 

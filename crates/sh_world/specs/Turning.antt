@@ -16,12 +16,11 @@ use Rattle.sh_client.specs.Giving.{makes}
 use Rattle.sh_client.specs.Wants.{want_of}
 use Rattle.sh_map.specs.Points.{point_of}
 use Rattle.sh_core.specs.Actors.{point_after, seen_after}
-use Rattle.sh_client.specs.Rests.{has_ended}
-use Rattle.sh_world.specs.declared.state.Given.{Given}
+use Rattle.sh_client.specs.Rests.{has_ended, rows_told}
 use Rattle.sh_world.specs.declared.state.Line.{Line}
 use Rattle.sh_world.specs.declared.turn.Turn.{Turn}
 use Rattle.sh_world.specs.declared.turn.Turn.TheVariants as turn
-use Rattle.sh_world.specs.States.{Place, State, answered, free_line, line_at}
+use Rattle.sh_world.specs.States.{Given, Place, State, answered, free_line, fresh_call, line_at}
 
 -- ---- a call begins
 
@@ -64,7 +63,7 @@ place_stepped q m seen None = q
 
 -- the calls then: the one that has ended is answered
 abbrev pub calls_after : List Given → Place → List Entry → Machine → List Given
-calls_after calls q log m = if has_ended m.phase then answered calls (q.number - 1) m.registers.reply q.first (point_of log q.first q.point m.registers.call m.registers.reply) else calls
+calls_after calls q log m = if has_ended m.phase then answered calls (q.number - 1) m.registers.reply (rows_told m) q.first (point_of log q.first q.point m.registers.call m.registers.reply) else calls
 
 -- the world then
 abbrev pub settled : State → (seat : ℕ) → Place → (more : List Entry) → Machine → State
@@ -204,7 +203,7 @@ queued q number = record q { numbers = q.numbers ++ number ∷ [] }
 
 abbrev pub give_at : State → (seat : ℕ) → Call → Option Place → State
 give_at s seat call None = s
-give_at s seat call (Some q) = record s { seats = slice_set s.seats seat (queued q (length s.calls + 1)); calls = s.calls ++ record { seat = seat; call = call; reply = None; first = 0; point = 0 } ∷ [] }
+give_at s seat call (Some q) = record s { seats = slice_set s.seats seat (queued q (length s.calls + 1)); calls = s.calls ++ fresh_call seat call ∷ [] }
 
 -- the world after a seat was given a call: it is the last of all calls, and of the seat's
 abbrev pub give_of : State → (seat : ℕ) → Call → State

@@ -1,10 +1,10 @@
 // Calls in their columns.
-ghost use Rattle.std.specs.Prelude.{◌≡◌, ◌<◌, IfOk, length};
+ghost use Rattle.std.specs.Prelude.{◌≡◌, ◌<◌, ◌≤◌, IfOk, length};
 ghost use Rattle.sh_world.specs.Columns.{IsReplyWide};
 
 use crate::Calls;
-use sh_base::Value;
-use sh_map::{Call, Reply};
+use sh_base::{Config, ConfigParts, Value};
+use sh_map::{Call, Reply, Row};
 use std::alloc::{AllocError, Global};
 
 const LAST: u64 = u64::MAX;
@@ -20,12 +20,27 @@ fn is_eight(value: &Value, first: u64) -> bool {
     value.words() == [first, 2, 3, 4, 5, 6, 7, LAST].as_slice()
 }
 
+// A setting whose values have so many words, and whose ranges have three rows at most.
+fn setting(value_words: u32) -> ConfigParts
+    ensures width { result.value_words ≡ value_words }
+    ensures rows { result.rows ≡ 3 }
+{
+    ConfigParts {
+        rows: 3,
+        value_words,
+        ..ConfigParts::default()
+    }
+}
+
 // A call of each kind.
 fn four(alloc: Global) -> Result<Calls, AllocError>
-    ensures width { IfOk result (λ c. c.width ≡ 8) }
+    ensures width { IfOk result (λ c. c.setting.value_words ≡ 8) }
     ensures calls { IfOk result (λ c. length c.calls ≡ 4) }
 {
-    let mut calls = Calls::new(alloc, 8);
+    let Ok(cfg) = Config::new(setting(8)) else {
+        return Err(AllocError);
+    };
+    let mut calls = Calls::new(alloc, &cfg);
     let value = eight(40);
     calls.push(7, &Call::Put { key: 1, value })?;
     calls.push(7, &Call::Get { key: 2 })?;
@@ -102,7 +117,9 @@ fn answered(alloc: Global, place: usize, kind: char) -> Result<Calls, AllocError
     requires { place < 4 }
 {
     let mut calls = four(alloc)?;
-    calls.answer(place, &reply_of(kind), 3, u32::MAX);
+    if calls.get(place).reply.is_none() {
+        calls.answer(place, &reply_of(kind), &[], 3, u32::MAX);
+    }
     Ok(calls)
 }
 
@@ -121,4 +138,84 @@ fn replies_stand(alloc: Global) -> Result<bool, AllocError> {
 #[test]
 fn calls_of_each_kind_are_answered_by_each_reply(rt: HostRuntime) {
     assert!(rt; replies_stand(rt.alloc()).unwrap_or(false));
+}
+
+// A value of so many words, of which this is the first.
+fn value(width: usize, first: u64) -> Value
+    requires low { 1 ≤ width }
+    requires high { width ≤ 8 }
+    ensures { length result ≡ width }
+{
+    Value::of(&[first, 2, 3, 4, 5, 6, 7, LAST][..width])
+}
+
+// A row whose value's first word is twice the key.
+fn row(width: usize, key: u64) -> Row
+    requires low { 1 ≤ width }
+    requires high { width ≤ 8 }
+    requires key { key ≤ 1000 }
+    ensures { length result.value ≡ width }
+{
+    Row {
+        key,
+        value: value(width, 2 * key),
+    }
+}
+
+// Three ranges and a get, of which two ranges and the get are answered, the last range before the first: the first with
+// three rows, the last with two.
+fn ranges(alloc: Global, width: usize) -> Result<Calls, AllocError>
+    requires low { 1 ≤ width }
+    requires high { width ≤ 8 }
+{
+    let Ok(cfg) = Config::new(setting(width as u32)) else {
+        return Err(AllocError);
+    };
+    let mut calls = Calls::new(alloc, &cfg);
+    calls.push(0, &Call::Range { low: 1, high: 100 })?;
+    calls.push(1, &Call::Get { key: 5 })?;
+    calls.push(2, &Call::Range { low: 20, high: 20 })?;
+    calls.push(3, &Call::Range { low: 10, high: 12 })?;
+    let two = [row(width, 10), row(width, 11)];
+    calls.answer(3, &Reply::Rows { upto: 12 }, &two, 0, 1);
+    calls.answer(1, &Reply::None, &[], 0, 2);
+    let three = [row(width, 1), row(width, 50), row(width, 99)];
+    calls.answer(0, &Reply::Rows { upto: 100 }, &three, 1, 3);
+    Ok(calls)
+}
+
+// Whether the call at this place has rows of these keys, and no others.
+fn has_rows(calls: &Calls, width: usize, place: usize, keys: &[u64]) -> bool {
+    if place >= calls.len() || calls.rows(place) as usize != keys.len() || width < 1 || width > 8 {
+        return false;
+    }
+    for at in 0..calls.rows(place) {
+        let row = calls.row(place, at);
+        let key = keys[at as usize];
+        if row.key != key || key > 1000 || row.value.words() != value(width, 2 * key).words() {
+            return false;
+        }
+    }
+    true
+}
+
+// Whether the rows of each range are its own, for values of so many words.
+fn rows_stand(alloc: Global, width: usize) -> Result<bool, AllocError>
+    requires low { 1 ≤ width }
+    requires high { width ≤ 8 }
+{
+    let calls = ranges(alloc, width)?;
+    Ok(
+        has_rows(&calls, width, 0, &[1, 50, 99])
+            && has_rows(&calls, width, 1, &[])
+            && has_rows(&calls, width, 2, &[])
+            && has_rows(&calls, width, 3, &[10, 11]),
+    )
+}
+
+#[test]
+fn ranges_keep_their_own_rows(rt: HostRuntime) {
+    for width in [1, 2, 8] {
+        assert!(rt; rows_stand(rt.alloc(), width).unwrap_or(false));
+    }
 }

@@ -1,12 +1,15 @@
 // The calls of a world: they join its columns, are read and are answered.
 ghost use Rattle.std.specs.Prelude.{◌≡◌, ◌+◌, ◌<◌, ◌≤◌, ◌++◌, ◌∷◌, [], OnOk, OnErr, None, Some, length, slice_get, take, drop};
-ghost use Rattle.sh_world.specs.States.{answered};
-ghost use Rattle.sh_world.specs.Columns.{call_of, key_of, kind_of, reply_kind_of, reply_read, IsCallWide, IsReplyWide};
+ghost use Rattle.std.specs.List.{All};
+ghost use Rattle.sh_base.specs.Parts.{parts_of};
+ghost use Rattle.sh_world.specs.States.{answered, fresh_call, rows_at, with_rows, Given};
+ghost use Rattle.sh_world.specs.Columns.{call_of, key_of, keys_of, kind_of, reply_kind_of, reply_read, IsCallWide, IsReplyWide, IsRowWide, IsWritten};
 
 use crate::calls::{CallKind, Kept, ReplyKind};
-use crate::{Calls, Given};
-use sh_base::Value;
-use sh_map::{Call, Reply};
+use crate::rows::{push_rows, room_words};
+use crate::{Calls, GivenCall};
+use sh_base::{Config, Value};
+use sh_map::{Call, Reply, Row};
 use std::alloc::{AllocError, Global};
 
 // Which call it is.
@@ -136,25 +139,23 @@ fn reply_in(kind: ReplyKind, words: &[u64]) -> Option<Reply>
 fn write_words(words: &mut [u64], at: usize, value: &[u64])
     requires { at + length value.now ≤ length words.old }
     ensures long { length words.new ≡ length words.old }
-    ensures before { take at words.new ≡ take at words.old }
-    ensures here { take (length value.now) (drop at words.new) ≡ value.now }
-    ensures behind { drop (at + length value.now) words.new ≡ drop (at + length value.now) words.old }
+    ensures written { IsWritten words.old words.new at value.now }
 {
     words[at..at + value.len()].copy_from_slice(value);
 }
 
 impl Calls {
-    // No calls, whose values are to have so many words: 1 to 8. It takes no memory.
+    // No calls of a world of this setting. It takes no memory.
     #[tactic(auto, unfolding(crate::specs::Columns::calls_of))]
-    pub(crate) fn new(alloc: Global, width: u32) -> Calls
-        requires low { 1 ≤ width }
-        requires high { width ≤ 8 }
-        ensures { result ≡ record { width = width; calls = [] } }
+    pub(crate) fn new(alloc: Global, cfg: &Config) -> Calls
+        ensures { result ≡ record { setting = parts_of cfg.now; calls = [] } }
     {
         Calls {
-            width,
+            cfg: *cfg,
             kept: Vec::new(alloc),
             words: Vec::new(alloc),
+            rows: Vec::new(alloc),
+            owed: 0,
         }
     }
 
@@ -165,16 +166,16 @@ impl Calls {
         self.kept.len()
     }
 
-    /// A call. Condition: the index is below their number.
-    pub fn get(&self, index: usize) -> Given
+    /// A call, without its rows. Condition: the index is below their number.
+    pub fn get(&self, index: usize) -> GivenCall
         requires { index < length self.now.calls }
-        ensures { slice_get self.now.calls index ≡ Some result }
+        ensures { slice_get self.now.calls index ≡ Some (with_rows result (rows_at self.now.calls index)) }
     {
         prove!(index < self.kept.len());
-        let width = self.width as usize;
+        let width = self.cfg.value_words() as usize;
         let at = index * (2 * width);
         let kept = &self.kept[index];
-        Given {
+        GivenCall {
             seat: kept.seat,
             call: call_in(kept.call, kept.key, &self.words[at..at + width]),
             reply: reply_in(kept.reply, &self.words[at + width..at + 2 * width]),
@@ -183,37 +184,58 @@ impl Calls {
         }
     }
 
-    // A seat's call joins them as the last. After want of memory nothing has changed.
+    // A seat's call joins them as the last, and the places of its answer and of its rows are reserved, so that answering
+    // it takes no memory. After want of memory nothing has changed.
     pub(crate) fn push(&mut self, seat: u32, call: &Call) -> Result<(), AllocError>
-        requires { IsCallWide self.old.width call.now }
-        ensures ok { OnOk result (self.new ≡ record self.old { calls = self.old.calls ++ record { seat = seat; call = call.now; reply = None; first = 0; point = 0 } ∷ [] }) }
+        requires { IsCallWide self.old.setting.value_words call.now }
+        ensures ok { OnOk result (self.new ≡ record self.old { calls = self.old.calls ++ fresh_call seat call.now ∷ [] }) }
         ensures err { OnErr result (self.new ≡ self.old) }
     {
-        let width = self.width as usize;
+        let width = self.cfg.value_words() as usize;
         let words = call_words(call, width);
+        let owed = self.owed + room_words(&self.cfg, call);
         self.kept.reserve(1)?;
+        self.rows.reserve(owed)?;
         self.words.extend_from_slice(&words[..2 * width])?;
         self.kept.push_reserved(Kept {
             key: key_of(call),
             seat,
             first: 0,
             point: 0,
+            start: 0,
+            count: 0,
             call: kind_of(call),
             reply: ReplyKind::Waiting,
         });
+        self.owed = owed;
         Ok(())
     }
 
-    // Answers the call at this place. It takes no memory. Conditions: there is one, and a reply's value has the words of
-    // theirs.
-    pub(crate) fn answer(&mut self, place: usize, reply: &Reply, first: u32, point: u32)
+    // Answers the call at this place. It takes no memory. Conditions: there is one, and it isn't answered; a reply's value
+    // has the setting's words; and a range has no more rows than keys and than the setting lets it have, whose values have
+    // the setting's words, and any other call has none.
+    pub(crate) fn answer(
+        &mut self,
+        place: usize,
+        reply: &Reply,
+        rows: &[Row],
+        first: u32,
+        point: u32,
+    )
         requires place { place < length self.old.calls }
-        requires wide { IsReplyWide self.old.width reply.now }
-        ensures { self.new ≡ record self.old { calls = answered self.old.calls place reply.now first point } }
+        requires waits { (g : Given) → slice_get self.old.calls place ≡ Some g → g.reply ≡ None }
+        requires wide { IsReplyWide self.old.setting.value_words reply.now }
+        requires rows { length rows.now ≤ self.old.setting.rows }
+        requires keys { (g : Given) → slice_get self.old.calls place ≡ Some g → length rows.now ≤ keys_of g.call }
+        requires values { All (IsRowWide self.old.setting.value_words) rows.now }
+        ensures { self.new ≡ record self.old { calls = answered self.old.calls place reply.now rows.now first point } }
     {
         prove!(place < self.kept.len());
-        let width = self.width as usize;
+        let width = self.cfg.value_words() as usize;
         let words = reply_words(reply, width);
+        let owed = self.owed - room_words(&self.cfg, &self.get(place).call);
+        let start = self.rows.len();
+        push_rows(&mut self.rows, rows, width);
         write_words(
             &mut self.words,
             place * (2 * width) + width,
@@ -223,5 +245,8 @@ impl Calls {
         kept.reply = reply_kind_of(reply);
         kept.first = first;
         kept.point = point;
+        kept.start = start;
+        kept.count = rows.len() as u32;
+        self.owed = owed;
     }
 }

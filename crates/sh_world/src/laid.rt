@@ -7,11 +7,11 @@ ghost use Rattle.sh_world.specs.Laid.{bare_words};
 ghost use Rattle.sh_world.specs.States.{dones_of, dones_from, free_line, fresh_from, fresh_place};
 
 use crate::node::write_node;
-use crate::{Calls, Given, Line, Seat};
+use crate::{Calls, GivenCall, Line, Seat};
 use sh_base::{Config, Value};
 use sh_client::Client;
 use sh_image::{LeafImage, write_leaf};
-use sh_map::{Done, Dones, Rows};
+use sh_map::{Done, Dones};
 use std::alloc::{AllocError, Global};
 
 // The number of the first leaf.
@@ -64,7 +64,7 @@ pub(crate) fn fresh_seats(alloc: Global, cfg: &Config) -> Result<Vec<Seat>, Allo
     let mut seats = Vec::new(alloc);
     for seat in 0..cfg.all_seats() {
         seats.push(Seat {
-            client: Client::new(cfg, seat)?,
+            client: Client::new(alloc, cfg, seat)?,
             numbers: Vec::new(alloc),
             ended: 0,
             number: 0,
@@ -96,7 +96,7 @@ pub(crate) fn ended_calls(alloc: Global, calls: &Calls) -> Result<Dones, AllocEr
 {
     let mut dones = Vec::new(alloc);
     for i in 0..calls.len() {
-        let Given {
+        let GivenCall {
             seat,
             call,
             reply,
@@ -111,7 +111,7 @@ pub(crate) fn ended_calls(alloc: Global, calls: &Calls) -> Result<Dones, AllocEr
                 reply,
                 first: u64::from(first),
                 point: u64::from(point),
-                rows: Rows::new(alloc),
+                rows: calls.rows_of(alloc, i)?,
             })?;
         }
     }

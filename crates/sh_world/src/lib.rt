@@ -13,6 +13,7 @@ mod laws;
 mod lines;
 mod node;
 mod points;
+mod rows;
 mod seats;
 mod state;
 mod turn;
@@ -20,7 +21,7 @@ mod world;
 
 pub use calls::Calls;
 pub use sh_client::Tally;
-pub use state::{Given, World};
+pub use state::{GivenCall, World};
 pub(crate) use state::{Line, Seat};
 pub use turn::Turn;
 

@@ -7,7 +7,6 @@ ghost use Rattle.sh_map.specs.Calls.{IsInRange};
 ghost use Rattle.sh_client.specs.declared.state.Phase.TheVariants.{Idle};
 ghost use Rattle.sh_client.specs.Feeds.{fed_by, turned_by};
 ghost use Rattle.sh_client.specs.Giving.{makes};
-ghost use Rattle.sh_client.specs.Sound.{IsPointCall};
 ghost use Rattle.sh_client.specs.Steps.{HasLoaded, HasStepped};
 ghost use Rattle.sh_client.specs.Wants.{want_of, IsWithin};
 ghost use Rattle.sh_world.specs.Turning.{asked, calls_after, is_idle, line_called, place_after, place_called, started, starts_next, place_stepped};
@@ -52,7 +51,6 @@ impl Seat {
     fn start(&mut self, number: u32, call: Call, seen: u64)
         requires idle { self.old.client.phase ≡ Idle }
         requires in_range { IsInRange self.old.client.setting call }
-        requires point { IsPointCall call }
         ensures { self.new ≡ started self.old number call seen }
     {
         self.client.begin(call);
@@ -128,14 +126,14 @@ impl Seat {
     ) -> u64
         requires at { at_of event < length words.old }
         requires room { vec_len log.old < vec_capacity log.old }
-        requires settles { CanSettle log.old.items calls.old.width calls.old.calls self.old (fed_by self.old.client (found_by words.old event)) }
+        requires settles { CanSettle calls.old.setting log.old.items calls.old.calls self.old (fed_by self.old.client (found_by words.old event)) }
         ensures found { result ≡ found_by words.old event }
         ensures words { words.new ≡ apply words.old event }
         ensures log { log.new.items ≡ log.old.items ++ makes self.old.client }
         ensures room { vec_capacity log.new ≡ vec_capacity log.old }
         ensures seat { self.new ≡ place_after self.old log.old.items (makes self.old.client) (fed_by self.old.client (found_by words.old event)) }
         ensures calls { calls.new.calls ≡ calls_after calls.old.calls self.old log.old.items (fed_by self.old.client (found_by words.old event)) }
-        ensures width { calls.new.width ≡ calls.old.width }
+        ensures setting { calls.new.setting ≡ calls.old.setting }
     {
         let seen = log.len() as u64;
         let found = event.apply(words);
@@ -179,11 +177,11 @@ impl Seat {
     // It makes the call on a line that its client wants.
     pub(crate) fn call(&mut self, want: &Want, line: &mut Line, log: &[Entry], calls: &mut Calls)
         requires bound { IfSome line.old.left (λ d. d ≤ self.old.client.setting.bound) }
-        requires settles { CanSettle log.now calls.old.width calls.old.calls (place_called self.old line.old want.now) (place_called self.old line.old want.now).client }
+        requires settles { CanSettle calls.old.setting log.now calls.old.calls (place_called self.old line.old want.now) (place_called self.old line.old want.now).client }
         ensures line { line.new ≡ line_called self.old line.old want.now }
         ensures seat { self.new ≡ place_after (place_called self.old line.old want.now) log.now [] (place_called self.old line.old want.now).client }
         ensures calls { calls.new.calls ≡ calls_after calls.old.calls (place_called self.old line.old want.now) log.now (place_called self.old line.old want.now).client }
-        ensures width { calls.new.width ≡ calls.old.width }
+        ensures setting { calls.new.setting ≡ calls.old.setting }
     {
         self.feed_line(want, line);
         self.settle(log, log.len() as u64, calls);
@@ -193,10 +191,10 @@ impl Seat {
     fn settle(&mut self, log: &[Entry], seen: u64, calls: &mut Calls)
         requires seen { seen ≤ length log.now }
         requires one { length log.now ≤ seen + 1 }
-        requires settles { CanSettle (take seen log.now) calls.old.width calls.old.calls self.old self.old.client }
+        requires settles { CanSettle calls.old.setting (take seen log.now) calls.old.calls self.old self.old.client }
         ensures seat { self.new ≡ place_after self.old (take seen log.now) (drop seen log.now) self.old.client }
         ensures calls { calls.new.calls ≡ calls_after calls.old.calls self.old (take seen log.now) self.old.client }
-        ensures width { calls.new.width ≡ calls.old.width }
+        ensures setting { calls.new.setting ≡ calls.old.setting }
     {
         match self.client.reply() {
             Some(reply) => {
@@ -209,7 +207,8 @@ impl Seat {
                     &calls.get(place).call,
                     &reply,
                 );
-                calls.answer(place, &reply, self.first as u32, point as u32);
+                let rows = self.client.rows_told();
+                calls.answer(place, &reply, rows, self.first as u32, point as u32);
                 self.client.finish();
                 self.ended += 1;
                 self.seen = seen;

@@ -5,10 +5,10 @@ use sh_client::Client;
 use sh_map::{Call, Log, Reply};
 use std::marker::Model;
 
-/// A call that was given to a seat. Once it has ended it has its reply, and `first` and `point` are the log's length
-/// before its first turn, and the point of the log where it is answered; before, they are 0.
+/// A call that was given to a seat, without its rows. Once it has ended it has its reply, and `first` and `point` are the
+/// log's length before its first turn, and the point of the log where it is answered; before, they are 0.
 #[derive(Clone, Copy, Debug)]
-pub struct Given {
+pub struct GivenCall {
     pub seat: u32,
     pub call: Call,
     pub reply: Option<Reply>,
@@ -66,5 +66,5 @@ impl Model for World {
 
     ghost view = { λ w. record { setting = w.cfg.parts; words = w.words.items; log = w.log.items; seats = w.seats.items; calls = w.calls.calls; lines = w.lines.items } };
 
-    ghost invariant = { λ w. IsWorld (record { setting = w.cfg.parts; words = w.words.items; log = w.log.items; seats = w.seats.items; calls = w.calls.calls; lines = w.lines.items }) (vec_capacity w.log) w.calls.width };
+    ghost invariant = { λ w. IsWorld (record { setting = w.cfg.parts; words = w.words.items; log = w.log.items; seats = w.seats.items; calls = w.calls.calls; lines = w.lines.items }) (vec_capacity w.log) w.calls.setting };
 }

@@ -33,7 +33,7 @@ fn give(world: &mut World, seat: u32, call: &Call) -> Result<(), AllocError> {
         Call::Get { key } => world.give(seat, Call::Get { key }),
         Call::Put { key, value } => world.give(seat, Call::Put { key, value }),
         Call::Del { key } => world.give(seat, Call::Del { key }),
-        Call::Range { .. } => Ok(()),
+        Call::Range { low, high } => world.give(seat, Call::Range { low, high }),
     }
 }
 
@@ -207,6 +207,73 @@ fn a_full_leaf_stays_where_the_pool_is_spent(rt: HostRuntime) {
     let told =
         "root 1 level 0 nodes 1 chunks 1 log 4 again 0 splits 0 handed 0 skipped 0 rewritten 0";
     assert!(rt; leaves(rt.alloc(), small(1, 8), FIVE, told).unwrap_or(false));
+}
+
+// How many turns the seat takes until one more of its calls has ended, at most 1000.
+fn count(world: &mut World, seat: u32) -> u64 {
+    if seat >= world.seats() {
+        return 0;
+    }
+    let ended = world.done_calls(seat);
+    for turns in 0..1000 {
+        if seat >= world.seats() || world.done_calls(seat) != ended {
+            return turns;
+        }
+        world.turn(seat);
+    }
+    1000
+}
+
+// Whether the calls of these seats, one after another, take so many turns, behind the sheet's turn rows; and how many of
+// seat 0's calls began at a cached node then.
+fn takes_turns(
+    alloc: Global,
+    cached: u32,
+    sheet: &[u8],
+    told: &[(u32, u64)],
+    from_cache: u64,
+) -> Result<bool, AllocError> {
+    let parts = ConfigParts {
+        cached,
+        ..small(4, 8)
+    };
+    let mut world = begun(alloc, parts, sheet)?;
+    for (seat, turns) in told {
+        if count(&mut world, *seat) != *turns {
+            return Ok(false);
+        }
+    }
+    Ok(world.seats() > 0 && world.tally(0).from_cache == from_cache)
+}
+
+const SIX_MORE: &[u8] = b"put,0,10,1\nput,0,20,2\nput,0,30,3\nput,0,40,4\nput,0,50,5\n\
+    get,0,40,\nget,0,40,\nget,0,70,\nget,0,70,\nput,0,70,8\nrange,0,1,100\nput,1,60,6\nput,1,70,7\nturn,0,377,\n";
+
+#[test]
+fn cached_nodes_save_turns(rt: HostRuntime) {
+    let alloc = rt.alloc();
+    let cached = [
+        (0, 47),
+        (0, 23),
+        (1, 57),
+        (1, 153),
+        (0, 46),
+        (0, 47),
+        (0, 33),
+        (0, 69),
+    ];
+    let none = [
+        (0, 47),
+        (0, 47),
+        (1, 57),
+        (1, 177),
+        (0, 47),
+        (0, 47),
+        (0, 57),
+        (0, 93),
+    ];
+    assert!(rt; takes_turns(alloc, 4, SIX_MORE, &cached, 4) == Ok(true));
+    assert!(rt; takes_turns(alloc, 0, SIX_MORE, &none, 0) == Ok(true));
 }
 
 #[test]

@@ -2,7 +2,6 @@
 ghost use Rattle.std.specs.Prelude.{◌≡◌, ◌+◌, ◌-◌, ◌^◌, ◌<◌, ◌≤◌, OnOk, OnErr, IfOk, length, slice_get};
 ghost use Rattle.sh_base.specs.Parts.{parts_of};
 ghost use Rattle.sh_map.specs.Calls.{IsInRange};
-ghost use Rattle.sh_client.specs.Sound.{IsPointCall};
 ghost use Rattle.sh_image.specs.Laid.{AreLaid};
 ghost use Rattle.sh_world.specs.States.{dones_by, dones_of, fresh_state, IsBlank};
 ghost use Rattle.sh_world.specs.Turning.{answer_of, give_of, is_idle_at, tally_at, turn_of, IsTurn};
@@ -22,7 +21,7 @@ impl World {
     {
         let cfg = Config::default();
         World {
-            calls: Calls::new(alloc, cfg.value_words()),
+            calls: Calls::new(alloc, &cfg),
             cfg,
             words: Vec::new(alloc),
             log: Vec::new(alloc),
@@ -161,13 +160,12 @@ impl World {
         }
     }
 
-    /// Gives the seat a call: it joins the seat's calls as the last. The places of its log entry and of its answer are
-    /// reserved. After want of memory nothing has changed. Conditions: it is laid, the seat is one of its setting, the call
-    /// is in range and no range, and fewer than 2^32 - 1 calls were given.
+    /// Gives the seat a call: it joins the seat's calls as the last. The places of its log entry, of its answer and of its
+    /// rows are reserved, so that no turn takes memory. After want of memory nothing has changed. Conditions: it is laid, the
+    /// seat is one of its setting, the call is in range, and fewer than 2^32 - 1 calls were given.
     pub fn give(&mut self, seat: u32, call: Call) -> Result<(), AllocError>
         requires seat { seat < length self.old.seats }
         requires in_range { IsInRange self.old.setting call }
-        requires point { IsPointCall call }
         requires few { length self.old.calls < 2 ^ 32 - 1 }
         ensures ok { OnOk result (self.new ≡ give_of self.old seat call) }
         ensures err { OnErr result (self.new ≡ self.old) }
@@ -194,7 +192,7 @@ impl World {
         let lines = free_lines(alloc, cfg)?;
         let log = Vec::with_capacity(alloc, 1)?;
         self.cfg = *cfg;
-        self.calls = Calls::new(alloc, cfg.value_words());
+        self.calls = Calls::new(alloc, cfg);
         self.words = words;
         self.log = log;
         self.seats = seats;
@@ -202,7 +200,7 @@ impl World {
         Ok(())
     }
 
-    /// The log, and the calls that have ended, in the order in which they were given.
+    /// The log, and the calls that have ended with their rows, in the order in which they were given.
     pub fn book(&self, alloc: Global) -> Result<Book, AllocError>
         ensures log { IfOk result (λ b. b.log.items ≡ self.now.log) }
         ensures dones { IfOk result (λ b. b.dones.items ≡ dones_of self.now.calls) }

@@ -4,17 +4,18 @@ use Rattle.sh_image.specs.Inner.{Inner}
 use Rattle.sh_state.specs.TreeState.{Seat}
 use Rattle.sh_readers.specs.Hand.{IsImageOf}
 use Rattle.sh_readers.proofs.HandLemmas.{down_named}
-use Rattle.sh_readers.proofs.RowLemmas.{all_kept, all_forgotten, rows_on, own_low, row_found}
+use Rattle.sh_cache.proofs.RowLemmas.{kept_all, forgotten_all}
+use Rattle.sh_readers.proofs.RowLemmas.{rows_on, own_low, row_found}
 use Rattle.sh_readers.proofs.hops.rows_in_hand.Goals as goal
 
 pub returns-clause-act : goal.returns-clause-act
 returns-clause-act c = λ s t seat rows ch h. rows_on c.args.cfg.now.parts (λ o. o ≢ Seat seat) s t ch rows h
 
 pub returns-clause-kept : goal.returns-clause-kept
-returns-clause-kept c = λ s room low rows row h rest. all_kept (λ (r : Inner). IsImageOf s 1 r.low (InnerImage r)) room rows row rest (own_low s low row h)
+returns-clause-kept c = λ s room low rows row h rest. kept_all (λ (r : Inner). IsImageOf s 1 r.low (InnerImage r)) room rows row rest (own_low s low row h)
 
 pub returns-clause-forgotten : goal.returns-clause-forgotten
-returns-clause-forgotten c = λ s low rows h. all_forgotten (λ (r : Inner). IsImageOf s 1 r.low (InnerImage r)) rows low h
+returns-clause-forgotten c = λ s low rows h. forgotten_all (λ (r : Inner). IsImageOf s 1 r.low (InnerImage r)) rows low h
 
 pub returns-clause-found : goal.returns-clause-found
 returns-clause-found c = λ s key rows row h f. row_found s key rows row h f

@@ -15,9 +15,6 @@ give-requires-clause-in_range c =
     let call = served_at c.args.world.now.setting c.args.items.now c.loop-item.item-index c.item-item.result _ c.requires.items c.loop-item-test.true c.item-item.is c.in-Ask.is in
     subst (λ p. IsInRange p c.in-Ask.call) (sym (ap (λ w. w.setting) c.loop-item.invariant ∙ given_setting (take c.loop-item.item-index c.args.items.now) c.args.world.now)) call.1
 
-pub give-requires-clause-point : goal.give-requires-clause-point
-give-requires-clause-point c = (served_at c.args.world.now.setting c.args.items.now c.loop-item.item-index c.item-item.result _ c.requires.items c.loop-item-test.true c.item-item.is c.in-Ask.is).2
-
 pub give-requires-clause-few : goal.give-requires-clause-few
 give-requires-clause-few c = few_given c.args.world.now _ c.args.items.now c.loop-item.item-index c.loop-item.invariant c.requires.none c.requires.few
 

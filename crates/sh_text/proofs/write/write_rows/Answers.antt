@@ -1,12 +1,8 @@
 use Rattle.sh_text.specs.Text.{row_line}
-use Rattle.sh_text.proofs.Fronts.{front_more, front_so_far, part_at, parts_at}
+use Rattle.sh_text.proofs.Fronts.{front_more, part_at}
 use Rattle.sh_text.proofs.write.write_rows.Goals as goal
-
-pub returns-in_default-clause-err : goal.returns-in_default-clause-err
-returns-in_default-clause-err g c =
-    front_so_far _ _ _ _ _ (parts_at (row_line c.args.n) c.args.rows.now c.loop-row.row-index) c.loop-row.invariant.0
 
 pub returns-in-Err-clause-err : goal.returns-in-Err-clause-err
 returns-in-Err-clause-err g c =
-    let wrote = rw (c.as_bytes.ensures.value, c.in-Ok.ensures, c.row-item.is) at c.in-Err.ensures.err in
+    let wrote = rw c.row-item.is at c.in-Err.ensures.err in
     front_more _ _ _ _ _ _ _ (part_at (row_line c.args.n) c.args.rows.now c.loop-row.row-index c.row-item.result c.loop-row-test.true) c.loop-row.invariant.0 wrote

@@ -18,6 +18,8 @@ invariant_of-self c =
     let h = chunk_is_in c.self.inside.cfg.parts c.self.inside.cfg.lawful c.args.server c.args.chunk _ _ (subst (λ (m : Machine). c.args.server < m.setting.servers) (sym c.self.view_is) c.requires.server) (subst (λ (m : Machine). c.args.chunk < m.setting.chunks) (sym c.self.view_is) c.requires.chunk) c.first_node-first.ensures (ap (λ (p : ConfigParts). p.chunk_nodes) c.parts.ensures) in
     record {
       one_setting = c.self.invariant.one_setting;
+      rows_fit = c.self.invariant.rows_fit;
+      cached_fit = c.self.invariant.cached_fit;
       seat_is = c.self.invariant.seat_is;
       in_range = c.self.invariant.in_range;
       spares = spare_left c.self.inside.cfg.parts _ _ _ h.0 h.1 h.2 (c.take-lowest.ensures.rest ∙ ap without_lowest c.fill.ensures);

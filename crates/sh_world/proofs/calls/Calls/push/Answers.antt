@@ -1,13 +1,22 @@
-use Rattle.std.proofs.Common.{◌∙◌, ◌++◌, ◌∷◌, [], None, ap}
+use Rattle.std.proofs.Common.{◌∙◌, ◌++◌, ◌∷◌, [], ap, arith}
 use Rattle.sh_world.specs.declared.calls.ReplyKind.TheVariants.{Waiting}
+use Rattle.sh_world.specs.States.{fresh_call}
 use Rattle.sh_world.specs.Columns.{Listed}
-use Rattle.sh_world.proofs.ColumnLemmas.{call_pushed}
+use Rattle.sh_world.proofs.KeptLemmas.{pushed_is, pushed_keeps}
 use Rattle.sh_world.proofs.calls.Calls.push.Goals as goal
+
+pub invariant_of-self-2 : goal.invariant_of-self-2
+invariant_of-self-2 c =
+    let i = c.self.inside in
+    let more = c.push_reserved.ensures.items ∙ (λ t. c.reserve.ensures.items t ++ record { key = c.key_of.ensures t; seat = c.args.seat; first = 0; point = 0; start = 0; count = 0; call = c.kind_of.ensures t; reply = Waiting } ∷ []) in
+    let rows = c.reserve-2.ensures.items in
+    pushed_keeps i.cfg.parts i.kept.items i.words.items i.rows.items i.owed _ c.self.invariant _ _ _ _ c.call_words-words.result c.args.seat c.args.call.now c.value_words-width.ensures more c.in_ok-extend_from_slice.ensures.items rows c.call_words-words.ensures.back
+    c.room_words.result _ c.room_words.ensures.value (omega (arith, c.call_words-words.ensures.length, c.value_words-width.ensures, i.cfg.lawful.ranged.value_words.1))
+    (omega (arith, c.in_ok-reserve-2.ensures.ok, c.reserve-2.ensures.len, c.reserve-2.new.self.ok.0))
 
 pub returns-clause-ok : goal.returns-clause-ok
 returns-clause-ok c =
     let i = c.self.inside in
-    let more = c.push_reserved.ensures.items ∙ (λ t. c.reserve.ensures.items t ++ record { key = c.key_of.ensures t; seat = c.args.seat; first = 0; point = 0; call = c.kind_of.ensures t; reply = Waiting } ∷ []) in
-    let pushed = call_pushed i.width i.kept.items _ i.words.items _ _ c.args.seat c.args.call.now c.self.invariant.long c.call_words-words.ensures.back more c.in_ok-extend_from_slice.ensures.items in
-    ap (λ cs. record { width = i.width; calls = cs }) pushed
-    ∙ ap (λ (l : Listed). record { width = l.width; calls = l.calls ++ record { seat = c.args.seat; call = c.args.call.now; reply = None; first = 0; point = 0 } ∷ [] }) c.self.view_is
+    let more = c.push_reserved.ensures.items ∙ (λ t. c.reserve.ensures.items t ++ record { key = c.key_of.ensures t; seat = c.args.seat; first = 0; point = 0; start = 0; count = 0; call = c.kind_of.ensures t; reply = Waiting } ∷ []) in
+    ap (λ cs. record { setting = i.cfg.parts; calls = cs }) (pushed_is i.cfg.parts i.kept.items i.words.items i.rows.items i.owed _ c.self.invariant _ _ _ _ c.call_words-words.result c.args.seat c.args.call.now c.value_words-width.ensures more c.in_ok-extend_from_slice.ensures.items c.reserve-2.ensures.items c.call_words-words.ensures.back)
+    ∙ ap (λ (l : Listed). record { setting = l.setting; calls = l.calls ++ fresh_call c.args.seat c.args.call.now ∷ [] }) c.self.view_is

@@ -31,7 +31,7 @@ call-requires-clause-settles c =
 pub invariant_of-self : goal.invariant_of-self
 invariant_of-self c =
     let a = is_asked (the_view c.self.inside) c.args.self.now _ _ c.args.seat c.index_mut-place.result.now c.ask-want.new.self _ _ _ _ c.self.view_is c.self.invariant c.requires c.index_mut-place.ensures.value refl (c.len.ensures ∙ c.self.inside.log.ok.0) c.ask-want.ensures.seat c.ask-want.ensures.want c.ask-want.ensures.within refl in
-    kept_is _ _ _ _ _ _ a _ _ _ (called_world _ c.args.seat _ _ a.asked_is c.in-Some.lock c.line_at.result _ c.index_mut-line.result.now _ _ _ _ _ c.deref.ensures.value refl c.line_at.ensures.at (omega (arith, c.line_at.ensures.within, a.run.lines.count)) c.index_mut-line.ensures.value (sym c.wanted_lock.ensures ∙ c.in-Some.is) c.call.ensures.line c.call.ensures.seat c.call.ensures.calls) refl c.call.ensures.width
+    kept_is _ _ _ _ _ _ a _ _ _ (called_world _ c.args.seat _ _ a.asked_is c.in-Some.lock c.line_at.result _ c.index_mut-line.result.now _ _ _ _ _ c.deref.ensures.value refl c.line_at.ensures.at (omega (arith, c.line_at.ensures.within, a.run.lines.count)) c.index_mut-line.ensures.value (sym c.wanted_lock.ensures ∙ c.in-Some.is) c.call.ensures.line c.call.ensures.seat c.call.ensures.calls) refl c.call.ensures.setting
 
 pub returns-in-Some : goal.returns-in-Some
 returns-in-Some c =
@@ -57,7 +57,7 @@ make-found-requires-clause-settles c =
 pub invariant_of-self-in-Event : goal.invariant_of-self-in-Event
 invariant_of-self-in-Event c =
     let a = is_asked (the_view c.self.inside) c.args.self.now _ _ c.args.seat c.index_mut-place.result.now c.ask-want.new.self _ _ _ _ c.self.view_is c.self.invariant c.requires c.index_mut-place.ensures.value refl (c.len.ensures ∙ c.self.inside.log.ok.0) c.ask-want.ensures.seat c.ask-want.ensures.want c.ask-want.ensures.within c.in-Event.is in
-    kept_is _ _ _ _ _ _ a _ _ _ (event_world _ c.args.seat _ _ a.asked_is c.in-Event.event _ _ _ _ _ _ _ _ c.deref_mut.ensures.value refl c.make-found.ensures.words c.make-found.ensures.log c.make-found.ensures.seat c.make-found.ensures.calls (sym c.self.inside.words.ok.0)) c.make-found.ensures.room c.make-found.ensures.width
+    kept_is _ _ _ _ _ _ a _ _ _ (event_world _ c.args.seat _ _ a.asked_is c.in-Event.event _ _ _ _ _ _ _ _ c.deref_mut.ensures.value refl c.make-found.ensures.words c.make-found.ensures.log c.make-found.ensures.seat c.make-found.ensures.calls (sym c.self.inside.words.ok.0)) c.make-found.ensures.room c.make-found.ensures.setting
 
 pub returns-in-Event : goal.returns-in-Event
 returns-in-Event c =

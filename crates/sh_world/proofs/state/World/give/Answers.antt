@@ -24,9 +24,9 @@ invariant_of-self-2 c =
     (ap (λ (k : ℕ). k + 1) c.len-number.ensures)
     (ap (λ (ns : List ℕ). record { client = c.given.inside.client; numbers = ns; ended = c.given.inside.ended; number = c.given.inside.number; ticket = c.given.inside.ticket; seen = c.given.inside.seen; first = c.given.inside.first; point = c.given.inside.point }) (c.push_reserved.ensures.items ∙ ap (λ (ns : List ℕ). ns ++ (c.len-number.result + 1) ∷ []) c.reserve-2.ensures.items) ∙ ap (λ (y : Place). queued y (c.len-number.result + 1)) c.given.view_is)
     calls c.reserve.ensures.items in
-    given_world (the_view c.self.inside) c.args.self.now c.args.seat _ _ c.index_mut-given.result.now c.args.call _ c.self.view_is g.0 at c.requires.in_range c.requires.point c.requires.few is
+    given_world (the_view c.self.inside) c.args.self.now c.args.seat _ _ c.index_mut-given.result.now c.args.call _ c.self.view_is g.0 at c.requires.in_range c.requires.few is
     (let room : vec_len c.reserve.new.self + (c.len-number.result + 1 + 1 - c.len.result) ≤ vec_capacity c.reserve.new.self = c.in_ok-reserve.ensures.ok in omega (arith, room, c.reserve.ensures.len, c.len.ensures, c.len-number.ensures, given_long _ _ _ calls, log_few (the_view c.self.inside) g.0, c.self.inside.log.ok.0))
-    (ap (λ (l : Listed). l.width) c.in_ok-push.ensures.ok ∙ g.3)
+    (ap (λ (l : Listed). l.setting) c.in_ok-push.ensures.ok ∙ g.3)
 
 pub returns-clause-ok : goal.returns-clause-ok
 returns-clause-ok c =

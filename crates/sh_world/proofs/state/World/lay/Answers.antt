@@ -1,4 +1,4 @@
-use Rattle.std.proofs.Common.{◌∙◌, ap, arith}
+use Rattle.std.proofs.Common.{ap, arith}
 use Rattle.sh_world.specs.Columns.{Listed}
 use Rattle.sh_world.proofs.OpenLemmas.{open_world}
 use Rattle.sh_world.proofs.state.World.lay.Goals as goal
@@ -9,4 +9,4 @@ invariant_of-self c =
     open_world p c.args.cfg.now.lawful c.in_ok-words.words.items c.in_ok-words.ensures _ _ _
     (λ z. record { setting = p; words = c.in_ok-words.words.items; log = c.in_ok-log.ensures.items z; seats = c.in_ok-seats.ensures z; calls = (c.new.ensures z).calls; lines = c.in_ok-lines.ensures z })
     (omega (arith, c.in_ok-log.ensures.exact))
-    (ap (λ (l : Listed). l.width) c.new.ensures ∙ c.value_words.ensures)
+    (ap (λ (l : Listed). l.setting) c.new.ensures)

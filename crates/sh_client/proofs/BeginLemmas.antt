@@ -1,0 +1,40 @@
+-- What a client is that has begun a call.
+use Rattle.std.proofs.Common.{◌≡◌, ◌≢◌, ℕ, Bool, true, false, Option, Some, None, refl}
+use Rattle.std.specs.Prelude.{if◌then◌else◌}
+use Rattle.sh_map.specs.declared.call.Call.{Call}
+use Rattle.sh_read.specs.Reads.{reads_start, wanted}
+use Rattle.sh_decide.specs.declared.state.Aim.TheVariants.{Own}
+use Rattle.sh_decide.specs.Aims.{aim_of, call_key, takes_lock}
+use Rattle.sh_client.specs.declared.state.Origin.{Origin}
+use Rattle.sh_client.specs.declared.state.Phase.TheVariants.{Read, Draw}
+use Rattle.sh_client.specs.declared.state.Want.TheVariants as want
+use Rattle.sh_client.specs.InLine.{Away, stand_of}
+use Rattle.sh_client.specs.Machine.{Machine, began_cached, reading, to}
+use Rattle.sh_client.specs.Cached.{origin_of}
+use Rattle.sh_client.specs.Feeds.{began_at, begun, calling, from_cached}
+use Rattle.sh_client.specs.Rests.{is_resting}
+use Rattle.sh_client.specs.Wants.{load_of, want_of}
+use Rattle.sh_client.proofs.ReadLemmas.{start_loading}
+
+-- It has the call, stands in no line, and wants a turn.
+pub record HasBegun (m : Machine) (call : Call) : Type 0 where
+  pub call_is : m.registers.call ≡ call
+  pub away : stand_of m ≡ Away
+  pub busy : is_resting m ≡ false
+  pub wants : want_of m ≢ want.Done
+
+some_load : (o : Option ℕ) → o ≢ None → load_of o ≢ want.Done
+some_load (Some at) ne = λ e. cc
+some_load None ne = absurd (ne refl)
+
+module _ (m : Machine) (call : Call) where
+  at_child : (origin : Origin) (t : Bool) → let x : Machine = began_cached (from_cached (calling m call) origin.low) in HasBegun (if t then to x (Draw (aim_of call) origin.child) else reading x origin.child (Read (aim_of call) false)) call
+  at_child origin true = record { call_is = refl; away = refl; busy = refl; wants = λ e. cc }
+  at_child origin false = record { call_is = refl; away = refl; busy = refl; wants = some_load (wanted m.setting (reads_start origin.child)) (start_loading m.setting origin.child) }
+
+  by_origin : (o : Option Origin) → HasBegun (began_at (calling m call) call o) call
+  by_origin None = record { call_is = refl; away = refl; busy = refl; wants = λ e. cc }
+  by_origin (Some origin) = at_child origin (takes_lock call Own)
+
+  pub has_begun : HasBegun (begun m call) call
+  has_begun = by_origin (origin_of m.registers.cached (call_key call))

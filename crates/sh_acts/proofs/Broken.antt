@@ -1,22 +1,12 @@
 -- What would break the words' hold on the scene.
 use Rattle.std.proofs.Common.{◌≡◌, ◌≢◌, ℕ, ◌<◌, List, get_or, set, ap, sym, ◌∙◌, ⊎_elim, arith, get_or-set_other}
-use Rattle.sh_base.specs.declared.config.ConfigParts.{ConfigParts}
-use Rattle.sh_base.specs.Setting.{node_size, IsSetting}
-use Rattle.sh_base.specs.Layout.{lock_of, rear_at}
-use Rattle.sh_base.specs.Places.{Node, Lock, address}
-use Rattle.sh_base.proofs.PlacesLemmas.{are_places_apart}
-use Rattle.sh_base.proofs.PlanLemmas.{lock_below}
-use Rattle.sh_base.proofs.LayoutLemmas.{rear_at_low, node_size_is}
+use Rattle.sh_base.{specs.{declared.config.ConfigParts.{ConfigParts}, Setting.{node_size, IsSetting}, Layout.{lock_of, rear_at}, Places.{Node, Lock, address}}, proofs.PlacesLemmas.{are_places_apart}}
+use Rattle.sh_base.proofs.{PlanLemmas.{lock_below}, LayoutLemmas.{rear_at_low, node_size_is}}
 use Rattle.sh_map.specs.declared.log.Entry.{Entry}
-use Rattle.sh_read.specs.Moments.{Writing, Idle, Whole, word, IsVersioned}
-use Rattle.sh_read.proofs.Words.{not_stored}
-use Rattle.sh_state.specs.TreeState.{Fresh, Linked, ParentLink, Pending, Nobody, Writes, LockState, TreeState, put, writing_of}
-use Rattle.sh_state.specs.Nodes.{low_in, next_in}
-use Rattle.sh_state.specs.Ground.{Ground}
-use Rattle.sh_acts.specs.Stores.{GoesOn}
-use Rattle.sh_acts.specs.Acts.{with_hold, ended}
-use Rattle.sh_state.proofs.Puts.{put_here, put_else}
-use Rattle.sh_state.proofs.Scenes.{writes_here, fresh_linked}
+use Rattle.sh_read.{specs.Moments.{Writing, Idle, Whole, word, IsVersioned}, proofs.Words.{not_stored}}
+use Rattle.sh_state.specs.{TreeState.{Fresh, Linked, ParentLink, Pending, Nobody, Writes, LockState, TreeState, put, writing_of}, Nodes.{low_in, next_in}, Ground.{Ground}}
+use Rattle.sh_state.proofs.{Puts.{put_here, put_else}, Scenes.{writes_here, fresh_linked}}
+use Rattle.sh_acts.specs.{Stores.{GoesOn}, Acts.{with_hold, ended}}
 
 -- the rear version is stored first
 pub rear_first : (p : ConfigParts) (level : ℕ) (node new : List ℕ) → IsVersioned p level node → IsVersioned p level new → get_or node 0 0 < get_or new 0 0 → GoesOn p level node Idle (Whole new 1) (rear_at p) (get_or new (rear_at p) 0) → ⊥

@@ -1,27 +1,15 @@
 -- The last store of a WRITE of a linked node: over the same fences, or as a split, on any level.
-use Rattle.std.proofs.Common.{◌≡◌, ◌≢◌, ◌⊎◌, None, ℕ, suc, ◌<◌, ◌≤◌, List, ◌++◌, length, set, refl, ap, sym, ◌∙◌, subst, ⊎_elim, inl, inr, arith}
-use Rattle.std.specs.Prelude.{◌-◌, ◌^◌, ◌↔◌}
+use Rattle.std.{proofs.Common.{◌≡◌, ◌≢◌, ◌⊎◌, None, ℕ, suc, ◌<◌, ◌≤◌, List, ◌++◌, length, set, refl, ap, sym, ◌∙◌, subst, ⊎_elim, inl, inr, arith}, specs.Prelude.{◌-◌, ◌^◌, ◌↔◌}}
 use mathlib.Core.Logic.{dite}
 use native.Mathlib.Decide.{ℕ_discrete}
-use Rattle.sh_base.specs.declared.config.ConfigParts.{ConfigParts}
-use Rattle.sh_base.specs.Setting.{node_size}
-use Rattle.sh_base.specs.Layout.{lock_of}
-use Rattle.sh_base.specs.Places.{Site, Own, Root, Counter, Lock, Node, address, IsSite}
-use Rattle.sh_map.specs.declared.log.Entry.{Entry}
-use Rattle.sh_map.specs.Map.{get}
-use Rattle.sh_map.specs.Log.{map_of, IsLegal}
+use Rattle.sh_base.specs.{declared.config.ConfigParts.{ConfigParts}, Setting.{node_size}, Layout.{lock_of}, Places.{Site, Own, Root, Counter, Lock, Node, address, IsSite}}
+use Rattle.sh_map.specs.{declared.log.Entry.{Entry}, Map.{get}, Log.{map_of, IsLegal}}
 use Rattle.sh_read.specs.Moments.{Writing, Idle, word, Next, still}
 use Rattle.sh_state.specs.TreeState.{Class, Undrawn, Fresh, Linked, ParentLink, Posted, Pending, Owner, Seat, LockState, Held, Writes, Owns, hold_word, TreeState, put, writing_of, writing, shown}
-use Rattle.sh_state.specs.Nodes.{level_in, low_in, high_in, next_in, IsLinked, LeadsTo, standing_pairs, Body, LeadsRight, Sits, AreApart, Orderly}
-use Rattle.sh_state.specs.Ground.{Ground, HasParent}
-use Rattle.sh_state.specs.Change.{IsPostOf, HasNoneOf, Change}
-use Rattle.sh_acts.specs.Stores.{Ends}
-use Rattle.sh_acts.specs.Acts.{ended}
-use Rattle.sh_acts.specs.Images.{IsOver, IsHalved, PostsOver}
-use Rattle.sh_state.proofs.Puts.{put_here, put_else, put_case, shows_store}
+use Rattle.sh_state.specs.{Nodes.{level_in, low_in, high_in, next_in, IsLinked, LeadsTo, standing_pairs, Body, LeadsRight, Sits, AreApart, Orderly}, Ground.{Ground, HasParent}}
+use Rattle.sh_state.{specs.Change.{IsPostOf, HasNoneOf, Change}, proofs.Puts.{put_here, put_else, put_case, shows_store}}
 use Rattle.sh_state.proofs.Scenes.{Links, linked_is, fresh_linked, fresh_is, undrawn_fresh, links_on, follows_on, sits_on, orderly_on, child_linked, led_down, leads_join, leads_left, leads_right}
-use Rattle.sh_acts.proofs.Holds.{IsWriter, none_else}
-use Rattle.sh_acts.proofs.Posts.{pending_of, posted_of}
+use Rattle.sh_acts.{specs.{Stores.{Ends}, Acts.{ended}, Images.{IsOver, IsHalved, PostsOver}}, proofs.{Holds.{IsWriter, none_else}, Posts.{pending_of, posted_of}}}
 
 module _ (p : ConfigParts) (words : List ℕ) (s : TreeState) (g : Ground p words s) (i d n lv a : ℕ) (image : List ℕ) (w : Writing) (at x : ℕ) (more : List Entry)
     (link : s.class n ≡ Linked lv a) (k : IsWriter p (s.hold (lock_of p n)) i d n w) (bound : d ≤ p.bound) (e : Ends p (s.node n) w image at x)

@@ -1,24 +1,14 @@
 -- An entry in its leaf's words, and the leaf with another entry stored.
 use Rattle.std.proofs.Common.{◌≡◌, ◌≢◌, ◌⊎◌, ℕ, suc, ◌+◌, ◌<◌, ◌≤◌, List, [], ◌∷◌, length, get_or, set, take, drop, sym, ap, ◌∙◌, subst, inl, inr, arith, length-set, get_or-set_same, get_or-set_other}
-use Rattle.std.proofs.lemmas.Bool.{cases_lt, cases_eq}
-use Rattle.std.proofs.lemmas.Grind.{same_number_lists}
-use Rattle.std.proofs.lemmas.List.{same_lists, length-take-le, length-drop, get_or-take, get_or-drop, get_or_append_left, get_or-append-add}
+use Rattle.std.proofs.lemmas.{Bool.{cases_lt, cases_eq}, Grind.{same_number_lists}, List.{same_lists, length-take-le, length-drop, get_or-take, get_or-drop, get_or_append_left, get_or-append-add}}
 use Rattle.sh_logic.proofs.Lists.{all_set}
-use Rattle.sh_base.specs.declared.config.ConfigParts.{ConfigParts}
-use Rattle.sh_base.specs.Setting.{node_size}
-use Rattle.sh_base.specs.Layout.{entry_at, entry_rear_at, rear_at}
+use Rattle.sh_base.specs.{declared.config.ConfigParts.{ConfigParts}, Setting.{node_size}, Layout.{entry_at, entry_rear_at, rear_at}}
 use Rattle.sh_base.proofs.LayoutLemmas.{node_size_is, entry_within, entry_high, entry_low, entry_apart, entry_size_is}
-use Rattle.sh_image.specs.declared.leaf.LeafEntry.{LeafEntry}
-use Rattle.sh_image.specs.Entries.{entry_words}
-use Rattle.sh_image.specs.Leaf.{IsEntry, IsLeaf, leaf_in, Spells}
-use Rattle.sh_image.proofs.EntriesLemmas.{length-entry_words}
-use Rattle.sh_image.proofs.ReadLemmas.{entry_read, words_from_untorn, header_spelled}
-use Rattle.sh_image.proofs.UntornLemmas.{untorn_spelled}
+use Rattle.sh_image.{specs.{declared.leaf.LeafEntry.{LeafEntry}, Entries.{entry_words}, Leaf.{IsEntry, IsLeaf, leaf_in, Spells}}, proofs.EntriesLemmas.{length-entry_words}}
+use Rattle.sh_image.proofs.{ReadLemmas.{entry_read, words_from_untorn, header_spelled}, UntornLemmas.{untorn_spelled}}
 use Rattle.sh_read.specs.Reading.{IsEntryWord}
-use Rattle.sh_state.specs.Nodes.{standing_entries}
-use Rattle.sh_state.proofs.EntryWords.{same_entry, length-entries_of}
-use Rattle.sh_acts.specs.Images.{patched}
-use Rattle.sh_acts.proofs.StoreLemmas.{length-patched, patched_inside, patched_outside}
+use Rattle.sh_state.{specs.Nodes.{standing_entries}, proofs.EntryWords.{same_entry, length-entries_of}}
+use Rattle.sh_acts.{specs.Images.{patched}, proofs.StoreLemmas.{length-patched, patched_inside, patched_outside}}
 
 module _ (p : ConfigParts) where
   module _ (ws : List ℕ) (j : ℕ) (x : LeafEntry) (long : length ws ≡ node_size p) (h : j < p.leaf) (value : length x.value ≡ p.value_words) where

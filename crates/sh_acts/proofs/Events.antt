@@ -1,15 +1,7 @@
 -- What an event leaves of the words, by the word that it finds.
-use Rattle.std.proofs.Common.{◌≡◌, ◌≢◌, ℕ, ◌+◌, ◌<◌, List, get_or, set, refl, ap, sym, ◌∙◌, arith, ne_eqb, eq-eqb}
-use Rattle.std.specs.Prelude.{◌^◌, ◌%◌}
-use Rattle.std.proofs.Math.Nat.{mod-eq_of_lt}
-use Rattle.sh_base.specs.declared.config.ConfigParts.{ConfigParts}
-use Rattle.sh_base.specs.declared.event.Event.TheVariants.{Exchange, Add}
-use Rattle.sh_base.specs.Setting.{all_locks}
-use Rattle.sh_base.specs.Layout.{lock_word}
-use Rattle.sh_base.specs.Places.{Lock}
-use Rattle.sh_base.specs.Memory.{apply}
-use Rattle.sh_state.specs.TreeState.{Seat, Grant, LockState, Nobody, Held, Writes, hold_word, TreeState}
-use Rattle.sh_state.specs.Ground.{Ground}
+use Rattle.std.{proofs.{Common.{◌≡◌, ◌≢◌, ℕ, ◌+◌, ◌<◌, List, get_or, set, refl, ap, sym, ◌∙◌, arith, ne_eqb, eq-eqb}, Math.Nat.{mod-eq_of_lt}}, specs.Prelude.{◌^◌, ◌%◌}}
+use Rattle.sh_base.specs.{declared.{config.ConfigParts.{ConfigParts}, event.Event.TheVariants.{Exchange, Add}}, Setting.{all_locks}, Layout.{lock_word}, Places.{Lock}, Memory.{apply}}
+use Rattle.sh_state.specs.{TreeState.{Seat, Grant, LockState, Nobody, Held, Writes, hold_word, TreeState}, Ground.{Ground}}
 
 pub exchanged : (words : List ℕ) (at old new : ℕ) → get_or words at 0 ≡ old → apply words (Exchange at old new) ≡ set words at new
 exchanged words at old new e = rw (eq-eqb (get_or words at 0) old e)

@@ -2,19 +2,11 @@
 use Rattle.std.proofs.Common.{◌≡◌, ◌≢◌, ℕ, ◌+◌, ◌<◌, ◌≤◌, List, [], set, refl, ap, sym, ◌∙◌, subst, inl, inr, arith, append-nil}
 use mathlib.Core.Logic.{dite}
 use native.Mathlib.Decide.{ℕ_discrete}
-use Rattle.sh_base.specs.declared.config.ConfigParts.{ConfigParts}
-use Rattle.sh_base.specs.Setting.{all_locks}
-use Rattle.sh_base.specs.Layout.{lock_of, compute_of}
-use Rattle.sh_base.specs.Places.{Site, Own, Root, Counter, Lock, Node, address, IsSite}
+use Rattle.sh_base.specs.{declared.config.ConfigParts.{ConfigParts}, Setting.{all_locks}, Layout.{lock_of, compute_of}, Places.{Site, Own, Root, Counter, Lock, Node, address, IsSite}}
 use Rattle.sh_read.specs.Moments.{Writing, Idle, word, Next, still}
-use Rattle.sh_state.specs.TreeState.{Linked, Owner, Seat, LockState, Nobody, Held, Writes, Owns, owner_word, hold_word, TreeState, writing_of, shown, Shows}
-use Rattle.sh_state.specs.Nodes.{Orderly}
-use Rattle.sh_state.specs.Ground.{Ground}
-use Rattle.sh_state.specs.Change.{ChangeFor, Change}
-use Rattle.sh_acts.specs.Stores.{GoesOn}
-use Rattle.sh_acts.specs.Acts.{with_hold}
-use Rattle.sh_state.proofs.Puts.{put_here, put_else, put_case, shows_same, shows_store}
-use Rattle.sh_state.proofs.Scenes.{writes_else, writes_here, body_on, sits_on, orderly_on}
+use Rattle.sh_state.specs.{TreeState.{Linked, Owner, Seat, LockState, Nobody, Held, Writes, Owns, owner_word, hold_word, TreeState, writing_of, shown, Shows}, Nodes.{Orderly}, Ground.{Ground}}
+use Rattle.sh_state.{specs.Change.{ChangeFor, Change}, proofs.{Puts.{put_here, put_else, put_case, shows_same, shows_store}, Scenes.{writes_else, writes_here, body_on, sits_on, orderly_on}}}
+use Rattle.sh_acts.specs.{Stores.{GoesOn}, Acts.{with_hold}}
 
 -- a holder with no WRITE under way, or nobody
 abbrev pub Rests : LockState → Type 0

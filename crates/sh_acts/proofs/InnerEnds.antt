@@ -1,38 +1,18 @@
 -- An inner node's WRITE ends: a pair was added, or the node was split at one.
 use Rattle.std.specs.Prelude.{◌-◌, ◌^◌}
 use Rattle.std.proofs.Common.{◌≡◌, ◌⊎◌, None, ℕ, suc, ◌*◌, ◌<◌, ◌≤◌, List, [], ◌∷◌, ◌++◌, length, take, drop, get_or, set, refl, ap, sym, ◌∙◌, subst, ⊎_elim, inl, inr, arith, append-nil}
-use Rattle.std.specs.List.{AllByRecursion}
-use Rattle.std.proofs.lemmas.Bool.{cases_lt}
-use Rattle.std.proofs.lemmas.List.{take-append-drop}
+use Rattle.std.{specs.List.{AllByRecursion}, proofs.lemmas.{Bool.{cases_lt}, List.{take-append-drop}}}
 use mathlib.Core.Logic.{dite}
 use native.Mathlib.Decide.{ℕ_discrete}
-use Rattle.sh_logic.proofs.Lists.{all_drop, all_take}
-use Rattle.sh_logic.proofs.Tests.{less_test, not_less_test}
-use Rattle.sh_base.specs.declared.config.ConfigParts.{ConfigParts}
-use Rattle.sh_base.specs.Setting.{last_version, IsSetting}
-use Rattle.sh_base.specs.Layout.{lock_of, rear_at}
-use Rattle.sh_base.specs.Places.{Node, address}
-use Rattle.sh_map.specs.declared.log.Entry.{Entry}
-use Rattle.sh_map.specs.Map.{get}
-use Rattle.sh_map.specs.Log.{map_of, IsLegal}
-use Rattle.sh_image.specs.declared.inner.Pair.{Pair}
-use Rattle.sh_image.specs.Inner.{Inner, IsInner, inner_in, inner_words, HasChild}
-use Rattle.sh_edit.specs.Pairing.{pairs_with, with_pair, middle_of, left_inner, right_inner, IsNewSeparator}
-use Rattle.sh_edit.proofs.RiseLemmas.{with_lawful, middle_within, left_inner_lawful, right_inner_lawful}
+use Rattle.sh_logic.proofs.{Lists.{all_drop, all_take}, Tests.{less_test, not_less_test}}
+use Rattle.sh_base.specs.{declared.config.ConfigParts.{ConfigParts}, Setting.{last_version, IsSetting}, Layout.{lock_of, rear_at}, Places.{Node, address}}
+use Rattle.sh_map.specs.{declared.log.Entry.{Entry}, Map.{get}, Log.{map_of, IsLegal}}
+use Rattle.sh_image.specs.{declared.inner.Pair.{Pair}, Inner.{Inner, IsInner, inner_in, inner_words, HasChild}}
+use Rattle.sh_edit.{specs.Pairing.{pairs_with, with_pair, middle_of, left_inner, right_inner, IsNewSeparator}, proofs.RiseLemmas.{with_lawful, middle_within, left_inner_lawful, right_inner_lawful}}
 use Rattle.sh_read.specs.Moments.{Whole}
-use Rattle.sh_state.specs.TreeState.{Fresh, Linked, Posted, Pending, Seat, Writes, TreeState, put}
-use Rattle.sh_state.specs.Nodes.{low_in, high_in, LeadsTo, LeadDown, standing_pairs, IsStandingInner}
-use Rattle.sh_state.specs.Ground.{Ground}
-use Rattle.sh_state.specs.Change.{Change}
-use Rattle.sh_acts.specs.Acts.{ended}
-use Rattle.sh_acts.specs.Images.{PostsOver}
-use Rattle.sh_state.proofs.Puts.{put_else, put_case}
-use Rattle.sh_state.proofs.Scenes.{Links, lead_on, body_on, fresh_linked}
-use Rattle.sh_acts.proofs.Holds.{writer_writes}
-use Rattle.sh_acts.proofs.Posts.{posted_of, pending_of}
-use Rattle.sh_state.proofs.Spelled.{inner_is, inner_long, inner_stands}
-use Rattle.sh_acts.proofs.StoreLemmas.{whole_ends}
-use Rattle.sh_acts.proofs.Ends.{over_end, split_end}
+use Rattle.sh_state.specs.{TreeState.{Fresh, Linked, Posted, Pending, Seat, Writes, TreeState, put}, Nodes.{low_in, high_in, LeadsTo, LeadDown, standing_pairs, IsStandingInner}, Ground.{Ground}}
+use Rattle.sh_state.{specs.Change.{Change}, proofs.{Puts.{put_else, put_case}, Scenes.{Links, lead_on, body_on, fresh_linked}, Spelled.{inner_is, inner_long, inner_stands}}}
+use Rattle.sh_acts.{specs.{Acts.{ended}, Images.{PostsOver}}, proofs.{Holds.{writer_writes}, Posts.{posted_of, pending_of}, StoreLemmas.{whole_ends}, Ends.{over_end, split_end}}}
 
 all_with : (P : Pair → Type 0) (xs : List Pair) (new : Pair) → P new → AllByRecursion P xs → AllByRecursion P (pairs_with xs new)
 all_with P [] new q h = (q, tt)

@@ -1,30 +1,14 @@
 -- A laid pool shows its scene, and all holds of it.
-use Rattle.std.proofs.Common.{◌≡◌, ℕ, ◌<◌, ◌≤◌, Bool, true, false, List, [], length, get_or, replicate, refl, ap, sym, ◌∙◌, subst, inl, inr, arith}
-use Rattle.std.specs.Prelude.{◌-◌, ◌^◌, if◌then◌else◌}
-use Rattle.std.specs.Ordering.{nat_cmp}
-use Rattle.std.specs.FinMap.{get-empty}
-use Rattle.std.proofs.lemmas.List.{length-replicate, get_or-replicate}
-use Rattle.sh_base.specs.declared.config.ConfigParts.{ConfigParts}
-use Rattle.sh_base.specs.Setting.{node_size, IsNode, IsSetting}
-use Rattle.sh_base.specs.Layout.{first_node}
-use Rattle.sh_base.specs.Places.{Site, Own, Root, Counter, Lock, Node, address, IsSite}
+use Rattle.std.{proofs.Common.{◌≡◌, ℕ, ◌<◌, ◌≤◌, Bool, true, false, List, [], length, get_or, replicate, refl, ap, sym, ◌∙◌, subst, inl, inr, arith}, specs.Prelude.{◌-◌, ◌^◌, if◌then◌else◌}}
+use Rattle.std.{specs.{Ordering.{nat_cmp}, FinMap.{get-empty}}, proofs.lemmas.List.{length-replicate, get_or-replicate}}
+use Rattle.sh_base.specs.{declared.config.ConfigParts.{ConfigParts}, Setting.{node_size, IsNode, IsSetting}, Layout.{first_node}, Places.{Site, Own, Root, Counter, Lock, Node, address, IsSite}}
 use Rattle.sh_base.proofs.LayoutLemmas.{part_word}
-use Rattle.sh_image.specs.declared.leaf.LeafEntry.{LeafEntry}
-use Rattle.sh_image.specs.Leaf.{leaf_words, empty_entry}
-use Rattle.sh_edit.specs.Held.{key_at, no_entry}
-use Rattle.sh_edit.proofs.HeldLemmas.{held_none}
-use Rattle.sh_state.specs.TreeState.{Class, Undrawn, Reserved, Fresh, Linked, TreeState, put, shown}
-use Rattle.sh_state.specs.Nodes.{IsStandingLeaf, Sits}
-use Rattle.sh_state.specs.Ground.{Ground, IsInChunk}
-use Rattle.sh_acts.specs.Acts.{in_chunk}
-use Rattle.sh_state.proofs.Puts.{put_here, put_else, put_case}
-use Rattle.sh_state.proofs.Scenes.{linked_is}
-use Rattle.sh_state.proofs.Spelled.{leaf_long, leaf_stands}
-use Rattle.sh_image.specs.Laid.{blank_leaf, AreLaid}
-use Rattle.sh_image.proofs.LaidLemmas.{blank_lawful, laid_zero}
+use Rattle.sh_image.{specs.{declared.leaf.LeafEntry.{LeafEntry}, Leaf.{leaf_words, empty_entry}, Laid.{blank_leaf, AreLaid}}, proofs.LaidLemmas.{blank_lawful, laid_zero}}
+use Rattle.sh_edit.{specs.Held.{key_at, no_entry}, proofs.HeldLemmas.{held_none}}
+use Rattle.sh_state.specs.{TreeState.{Class, Undrawn, Reserved, Fresh, Linked, TreeState, put, shown}, Nodes.{IsStandingLeaf, Sits}, Ground.{Ground, IsInChunk}}
+use Rattle.sh_state.proofs.{Puts.{put_here, put_else, put_case}, Scenes.{linked_is}, Spelled.{leaf_long, leaf_stands}}
+use Rattle.sh_acts.{specs.{Acts.{in_chunk}, Laid.{laid_class, none_drawn, laid_scene}}, proofs.ChunkLemmas.{chunk_node, chunk_once, in_chunk_is}}
 use Rattle.sh_logic.proofs.Tests.{not_true}
-use Rattle.sh_acts.specs.Laid.{laid_class, none_drawn, laid_scene}
-use Rattle.sh_acts.proofs.ChunkLemmas.{chunk_node, chunk_once, in_chunk_is}
 
 module _ (p : ConfigParts) (ok : IsSetting p) where
   no_key : (n i : ℕ) → i < length (replicate n (empty_entry p)) → key_at (replicate n (empty_entry p)) i ≡ 0

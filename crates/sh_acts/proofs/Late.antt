@@ -4,9 +4,8 @@ use mathlib.Core.Logic.{dite}
 use native.Mathlib.Decide.{ℕ_discrete, dec_le}
 use native.Mathlib.Nat.{lt_of_not-le}
 use Rattle.sh_logic.proofs.Tests.{not_true}
-use Rattle.sh_state.specs.TreeState.{put}
+use Rattle.sh_state.{specs.TreeState.{put}, proofs.Puts.{put_here, put_else}}
 use Rattle.sh_acts.specs.Counters.{one_where, count, Bounded}
-use Rattle.sh_state.proofs.Puts.{put_here, put_else}
 
 one_le : (b : Bool) → one_where b ≤ 1
 one_le true = omega arith

@@ -1,44 +1,18 @@
 -- A leaf's WRITE ends, and its entry comes into the log.
 use Rattle.std.specs.Prelude.{◌-◌, ◌^◌}
-use Rattle.std.proofs.Common.{None, ◌⊎◌, ◌≡◌, ◌≢◌, ℕ, zero, suc, ◌+◌, ◌<◌, ◌≤◌, List, [], ◌∷◌, ◌++◌, length, get_or, set, refl, ap, sym, ◌∙◌, subst, ⊎_elim, inl, inr, arith}
-use Rattle.std.specs.Prelude.{◌^◌}
-use Rattle.std.proofs.lemmas.Bool.{cases_eq}
-use Rattle.sh_base.specs.declared.config.ConfigParts.{ConfigParts}
-use Rattle.sh_base.specs.Setting.{last_version}
-use Rattle.sh_base.specs.Layout.{lock_of, entry_at, entry_rear_at, rear_at}
-use Rattle.sh_base.specs.Places.{Node, address}
-use Rattle.sh_map.specs.declared.log.Change.{Change as MapChange}
-use Rattle.sh_map.specs.declared.log.Change.TheVariants.{Put, Del}
-use Rattle.sh_map.specs.declared.log.Entry.{Entry}
-use Rattle.sh_map.specs.Map.{Map, get}
+use Rattle.std.proofs.{Common.{None, ◌⊎◌, ◌≡◌, ◌≢◌, ℕ, zero, suc, ◌+◌, ◌<◌, ◌≤◌, List, [], ◌∷◌, ◌++◌, length, get_or, set, refl, ap, sym, ◌∙◌, subst, ⊎_elim, inl, inr, arith}, lemmas.Bool.{cases_eq}}
+use Rattle.sh_base.specs.{declared.config.ConfigParts.{ConfigParts}, Setting.{last_version}, Layout.{lock_of, entry_at, entry_rear_at, rear_at}, Places.{Node, address}}
+use Rattle.sh_map.specs.{declared.log.{Change.{Change as MapChange, TheVariants.{Put, Del}}, Entry.{Entry}}, Map.{Map, get}, Log.{change_key, changed, map_of, IsNext, IsLegal}}
+use Rattle.sh_map.proofs.{MapLemmas.{get-put, get-put_other, get-del, get-del_other}, LogLemmas.{map_of-push, changed_other, IsLegal-push}}
 use Rattle.sh_map.specs.Map as map
-use Rattle.sh_map.specs.Log.{change_key, changed, map_of, IsNext, IsLegal}
-use Rattle.sh_map.proofs.MapLemmas.{get-put, get-put_other, get-del, get-del_other}
-use Rattle.sh_map.proofs.LogLemmas.{map_of-push, changed_other, IsLegal-push}
-use Rattle.sh_image.specs.declared.leaf.LeafEntry.{LeafEntry}
-use Rattle.sh_image.specs.declared.inner.Pair.{Pair}
-use Rattle.sh_image.specs.Entries.{entry_words}
-use Rattle.sh_image.specs.Leaf.{Leaf, IsEntry, IsLeaf, leaf_in, leaf_words}
-use Rattle.sh_edit.specs.Held.{held, map_of_entries, HasKeysOnce}
-use Rattle.sh_edit.specs.Splitting.{left_half, right_half, separator_of, IsSplit}
-use Rattle.sh_edit.proofs.HeldLemmas.{get-map_of_entries}
-use Rattle.sh_edit.proofs.SplitLemmas.{sides}
+use Rattle.sh_image.specs.{declared.{leaf.LeafEntry.{LeafEntry}, inner.Pair.{Pair}}, Entries.{entry_words}, Leaf.{Leaf, IsEntry, IsLeaf, leaf_in, leaf_words}}
+use Rattle.sh_edit.{specs.{Held.{held, map_of_entries, HasKeysOnce}, Splitting.{left_half, right_half, separator_of, IsSplit}}, proofs.{HeldLemmas.{get-map_of_entries}, SplitLemmas.{sides}}}
 use Rattle.sh_edit.proofs.HalvesLemmas.{left_once, right_once, separator_within, left_lawful, right_lawful}
 use Rattle.sh_read.specs.Moments.{Writing, Whole, One}
-use Rattle.sh_state.specs.TreeState.{Fresh, Linked, Pending, Seat, Writes, TreeState, put}
-use Rattle.sh_state.specs.Nodes.{low_in, high_in, standing_pairs, standing_entries, IsStandingLeaf, Body, Orderly}
-use Rattle.sh_state.specs.Ground.{Ground}
-use Rattle.sh_state.specs.Change.{HasNoneOf, Change}
-use Rattle.sh_acts.specs.Stores.{Ends}
-use Rattle.sh_acts.specs.Acts.{ended}
-use Rattle.sh_acts.specs.Images.{IsOver, IsHalved, PostsOver, patched}
-use Rattle.sh_state.proofs.Scenes.{Links, inner_on, fresh_linked}
-use Rattle.sh_state.proofs.Puts.{put_else}
-use Rattle.sh_acts.proofs.Holds.{IsWriter, writer_writes}
-use Rattle.sh_state.proofs.Spelled.{leaf_long, leaf_stands}
-use Rattle.sh_acts.proofs.StoreLemmas.{whole_ends, one_ends, patched_word, length-patched}
-use Rattle.sh_acts.proofs.EntryStores.{entries_patched, leaf_patched, spelled_patched}
-use Rattle.sh_acts.proofs.Ends.{over_end, split_end}
+use Rattle.sh_state.specs.{TreeState.{Fresh, Linked, Pending, Seat, Writes, TreeState, put}, Nodes.{low_in, high_in, standing_pairs, standing_entries, IsStandingLeaf, Body, Orderly}, Ground.{Ground}}
+use Rattle.sh_state.{specs.Change.{HasNoneOf, Change}, proofs.{Scenes.{Links, inner_on, fresh_linked}, Puts.{put_else}, Spelled.{leaf_long, leaf_stands}}}
+use Rattle.sh_acts.{specs.{Stores.{Ends}, Acts.{ended}, Images.{IsOver, IsHalved, PostsOver, patched}}, proofs.Holds.{IsWriter, writer_writes}}
+use Rattle.sh_acts.proofs.{StoreLemmas.{whole_ends, one_ends, patched_word, length-patched}, EntryStores.{entries_patched, leaf_patched, spelled_patched}, Ends.{over_end, split_end}}
 
 -- two maps that agree at a key agree there after the same change
 changed_alike : (m n : Map) (c : MapChange) (q : ℕ) → get m q ≡ get n q → get (changed m c) q ≡ get (changed n c) q

@@ -1,19 +1,12 @@
 -- A seat's own nodes: a store into one, and a chunk that is drawn.
 use Rattle.std.proofs.Common.{◌≡◌, ◌≢◌, ◌⊎◌, ℕ, suc, ◌+◌, ◌<◌, ◌≤◌, Bool, true, false, List, [], length, set, refl, ap, sym, ◌∙◌, subst, ⊎_elim, inl, inr, arith, append-nil, length-set, get_or-set_same, get_or-set_other}
 use Rattle.std.specs.Prelude.{if◌then◌else◌}
-use Rattle.sh_base.specs.declared.config.ConfigParts.{ConfigParts}
-use Rattle.sh_base.specs.Setting.{node_size, IsNode}
-use Rattle.sh_base.specs.Layout.{lock_of}
-use Rattle.sh_base.specs.Places.{Site, Own, Root, Counter, Lock, Node, address, IsSite}
+use Rattle.sh_base.specs.{declared.config.ConfigParts.{ConfigParts}, Setting.{node_size, IsNode}, Layout.{lock_of}, Places.{Site, Own, Root, Counter, Lock, Node, address, IsSite}}
 use Rattle.sh_read.specs.Moments.{Writing, Idle, word, Next, still}
 use Rattle.sh_state.specs.TreeState.{Class, Undrawn, Fresh, Linked, Seat, LockState, Nobody, Held, Writes, TreeState, put, writing_of, writing, shown}
-use Rattle.sh_state.specs.Nodes.{high_in, LeadsTo, standing_pairs, Orderly}
-use Rattle.sh_state.specs.Ground.{Ground, IsInChunk, HasParent}
-use Rattle.sh_state.specs.Change.{Change}
-use Rattle.sh_acts.specs.Acts.{in_chunk, filled, counted, drawn}
-use Rattle.sh_state.proofs.Puts.{put_here, put_else, put_case, shows_store}
+use Rattle.sh_state.{specs.{Nodes.{high_in, LeadsTo, standing_pairs, Orderly}, Ground.{Ground, IsInChunk, HasParent}, Change.{Change}}, proofs.Puts.{put_here, put_else, put_case, shows_store}}
 use Rattle.sh_state.proofs.Scenes.{Links, fresh_linked, fresh_is, undrawn_fresh, undrawn_linked, links_on, writes_else, body_on, sits_on, orderly_on}
-use Rattle.sh_acts.proofs.ChunkLemmas.{chunk_node, chunk_once, in_chunk_is, is_in_chunk}
+use Rattle.sh_acts.{specs.Acts.{in_chunk, filled, counted, drawn}, proofs.ChunkLemmas.{chunk_node, chunk_once, in_chunk_is, is_in_chunk}}
 
 module _ (p : ConfigParts) (words : List ℕ) (s : TreeState) (g : Ground p words s) where
   not_linked : (r j n l a : ℕ) → s.class r ≡ Fresh j → s.class n ≡ Linked l a → n ≢ r

@@ -4,12 +4,9 @@ use mathlib.Core.Logic.{dite}
 use native.Mathlib.Decide.{ℕ_discrete}
 use Rattle.sh_base.specs.declared.config.ConfigParts.{ConfigParts}
 use Rattle.sh_read.specs.Moments.{still}
-use Rattle.sh_state.specs.TreeState.{Linked, ParentLink, Posted, Pending, Skipped, Seat, TreeState, shown}
-use Rattle.sh_state.specs.Ground.{Ground, HasParent}
-use Rattle.sh_state.specs.Change.{IsPostOf, Change}
+use Rattle.sh_state.specs.{TreeState.{Linked, ParentLink, Posted, Pending, Skipped, Seat, TreeState, shown}, Ground.{Ground, HasParent}, Change.{IsPostOf, Change}}
+use Rattle.sh_state.proofs.{Puts.{put_else, put_case, shows_same}, Scenes.{linked_is, is_linked, body_on, sits_on, orderly_on}}
 use Rattle.sh_acts.specs.Acts.{skipped}
-use Rattle.sh_state.proofs.Puts.{put_else, put_case, shows_same}
-use Rattle.sh_state.proofs.Scenes.{linked_is, is_linked, body_on, sits_on, orderly_on}
 
 pub posted_of : (i : ℕ) (x : ParentLink) → IsPostOf i x → Posted ≡ x → ⊥
 posted_of i Posted h e = h

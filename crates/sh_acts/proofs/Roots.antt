@@ -1,27 +1,18 @@
 -- A new root is hung in.
-use Rattle.std.proofs.Common.{◌≡◌, ◌≢◌, ◌⊎◌, ℕ, zero, suc, ◌+◌, ◌-◌, ◌<◌, ◌≤◌, List, [], ◌∷◌, set, refl, ap, sym, ◌∙◌, subst, ⊎_elim, inl, inr, arith, append-nil}
-use Rattle.std.specs.Prelude.{◌^◌}
+use Rattle.std.{proofs.Common.{◌≡◌, ◌≢◌, ◌⊎◌, ℕ, zero, suc, ◌+◌, ◌-◌, ◌<◌, ◌≤◌, List, [], ◌∷◌, set, refl, ap, sym, ◌∙◌, subst, ⊎_elim, inl, inr, arith, append-nil}, specs.Prelude.{◌^◌}}
 use Rattle.std.proofs.lemmas.Bool.{cases_lt}
 use mathlib.Core.Logic.{dite}
 use native.Mathlib.Decide.{ℕ_discrete}
 use Rattle.sh_logic.proofs.Pigeons.{at_most}
-use Rattle.sh_base.specs.declared.config.ConfigParts.{ConfigParts}
-use Rattle.sh_base.specs.Setting.{nodes, IsNode, IsSetting}
-use Rattle.sh_base.specs.Places.{Site, Own, Root, Counter, Lock, Node, address, IsSite}
-use Rattle.sh_image.specs.declared.inner.Pair.{Pair}
-use Rattle.sh_image.specs.Inner.{Inner, inner_words, IsInner, AreSeparators}
-use Rattle.sh_edit.specs.Pairing.{root_over}
-use Rattle.sh_edit.proofs.RiseLemmas.{root_lawful}
+use Rattle.sh_base.specs.{declared.config.ConfigParts.{ConfigParts}, Setting.{nodes, IsNode, IsSetting}, Places.{Site, Own, Root, Counter, Lock, Node, address, IsSite}}
+use Rattle.sh_image.specs.{declared.inner.Pair.{Pair}, Inner.{Inner, inner_words, IsInner, AreSeparators}}
+use Rattle.sh_edit.{specs.Pairing.{root_over}, proofs.RiseLemmas.{root_lawful}}
 use Rattle.sh_read.specs.Moments.{still}
 use Rattle.sh_state.specs.TreeState.{Fresh, Linked, Posted, Pending, Seat, TreeState, shown}
-use Rattle.sh_state.specs.Nodes.{level_in, low_in, high_in, next_in, IsLinked, LeadsTo, LeadDown, standing_pairs, Body, LeadsRight, Sits}
-use Rattle.sh_state.specs.Ground.{Ground, HasParent}
-use Rattle.sh_state.specs.Change.{Change}
-use Rattle.sh_acts.specs.Acts.{grown}
-use Rattle.sh_state.proofs.Puts.{put_here, put_else, put_case, shows_store}
-use Rattle.sh_state.proofs.Scenes.{Links, linked_is, fresh_linked, fresh_is, undrawn_fresh, links_on, body_on, sits_on, orderly_on}
-use Rattle.sh_acts.proofs.Posts.{posted_of, pending_of}
+use Rattle.sh_state.specs.{Nodes.{level_in, low_in, high_in, next_in, IsLinked, LeadsTo, LeadDown, standing_pairs, Body, LeadsRight, Sits}, Ground.{Ground, HasParent}, Change.{Change}}
+use Rattle.sh_state.proofs.{Puts.{put_here, put_else, put_case, shows_store}, Scenes.{Links, linked_is, fresh_linked, fresh_is, undrawn_fresh, links_on, body_on, sits_on, orderly_on}}
 use Rattle.sh_state.proofs.Spelled.{inner_is, inner_stands}
+use Rattle.sh_acts.{specs.Acts.{grown}, proofs.Posts.{posted_of, pending_of}}
 
 -- the first pair's separator is the low fence
 first_pair : (pairs : List Pair) (low high l : ℕ) (s : TreeState) → AreSeparators low high pairs → LeadDown s l pairs → (1 ≤ Rattle.std.proofs.Common.length pairs) → (n : ℕ) × (s.class n ≡ Linked l low) × LeadsTo pairs n

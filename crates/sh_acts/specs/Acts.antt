@@ -1,7 +1,6 @@
 -- The scene after an act.
 use Rattle.std.specs.Prelude.{ℕ, suc, ◌+◌, ◌&&◌, if◌then◌else◌, nat_le, nat_lt, Bool, List, ◌++◌, slice_set}
-use Rattle.sh_base.specs.declared.config.ConfigParts.{ConfigParts}
-use Rattle.sh_base.specs.Layout.{lock_of, first_node}
+use Rattle.sh_base.specs.{declared.config.ConfigParts.{ConfigParts}, Layout.{lock_of, first_node}}
 use Rattle.sh_map.specs.declared.log.Entry.{Entry}
 use Rattle.sh_state.specs.TreeState.{Class, Fresh, Linked, ParentLink, Posted, Skipped, Seat, LockState, Held, TreeState, put}
 

@@ -1,11 +1,8 @@
 -- What the new image of a linked node, or its two halves, are to the node, its neighbours and its parent.
 use Rattle.std.specs.Prelude.{◌≡◌, ◌≢◌, ◌⊎◌, ◌↔◌, ℕ, suc, ◌+◌, ◌<◌, ◌≤◌, List, [], ◌∷◌, slice_set}
-use Rattle.sh_map.specs.declared.log.Entry.{Entry}
-use Rattle.sh_map.specs.Log.{change_key, map_of, IsNext}
+use Rattle.sh_map.specs.{declared.log.Entry.{Entry}, Log.{change_key, map_of, IsNext}}
 use Rattle.sh_image.specs.declared.inner.Pair.{Pair}
-use Rattle.sh_state.specs.TreeState.{Linked, ParentLink, Posted, Pending, Seat, TreeState}
-use Rattle.sh_state.specs.Nodes.{level_in, low_in, high_in, next_in, IsLinked, LeadsTo}
-use Rattle.sh_state.specs.Change.{IsPostOf}
+use Rattle.sh_state.specs.{TreeState.{Linked, ParentLink, Posted, Pending, Seat, TreeState}, Nodes.{level_in, low_in, high_in, next_in, IsLinked, LeadsTo}, Change.{IsPostOf}}
 
 -- words with others stored from an offset on
 abbrev pub patched : List ℕ → (offset : ℕ) → List ℕ → List ℕ

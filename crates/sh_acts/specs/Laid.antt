@@ -1,9 +1,7 @@
 -- The scene of a laid pool.
 use Rattle.std.specs.Prelude.{ℕ, if◌then◌else◌, [], replicate}
-use Rattle.sh_base.specs.declared.config.ConfigParts.{ConfigParts}
-use Rattle.sh_base.specs.Setting.{node_size}
-use Rattle.sh_image.specs.Leaf.{leaf_words}
-use Rattle.sh_image.specs.Laid.{blank_leaf}
+use Rattle.sh_base.specs.{declared.config.ConfigParts.{ConfigParts}, Setting.{node_size}}
+use Rattle.sh_image.specs.{Leaf.{leaf_words}, Laid.{blank_leaf}}
 use Rattle.sh_state.specs.TreeState.{Class, Undrawn, Reserved, Linked, Posted, Nobody, TreeState, put}
 use Rattle.sh_acts.specs.Acts.{in_chunk}
 

@@ -1,34 +1,16 @@
 -- The laws of acts: what each leaves of the tree and to the others, one law for each.
 use Rattle.std.specs.Prelude.{◌≡◌, ◌≢◌, ◌+◌, ◌<◌, ◌≤◌, ℕ, List, ◌-◌, ◌^◌, suc, slice_index, ◌*◌, [], ◌∷◌, length, slice_set}
-use Rattle.sh_base.specs.Setting.{all_seats, node_size, all_locks, nodes, last_version}
-use Rattle.sh_base.specs.Layout.{counter_word, node_word, root_word, lock_word, lock_of, compute_of, entry_at, entry_rear_at, rear_at}
-use Rattle.sh_base.specs.Memory.{apply}
-use Rattle.sh_base.specs.declared.event.Event.TheVariants.{Store, Add, Exchange}
-use Rattle.sh_state.specs.TreeState.{TreeState, Fresh, Nobody, Held, Writes, Seat, Owner, owner_word, writing, Linked, Pending, Posted, put}
-use Rattle.sh_state.specs.Ground.{Ground, IsInChunk}
-use Rattle.sh_state.specs.Change.{Change, ChangeFor}
-use Rattle.sh_acts.specs.Acts.{filled, counted, drawn, with_hold, skipped, grown, ended}
-use Rattle.sh_acts.specs.Counters.{Bounded, IsAmong}
-use Rattle.sh_image.specs.Laid.{AreLaid}
-use Rattle.sh_acts.specs.Laid.{laid_scene}
-use Rattle.sh_image.specs.Inner.{inner_words, Inner, IsInner, inner_in}
-use Rattle.sh_edit.specs.Pairing.{root_over, with_pair, middle_of, left_inner, right_inner, IsNewSeparator}
-use Rattle.sh_read.specs.Moments.{IsNodeMoment, Writing, Idle, Whole, One, IsVersioned, IsWriting}
-use Rattle.sh_acts.specs.Stores.{GoesOn}
-use Rattle.sh_map.specs.declared.log.Change.TheVariants.{Put}
-use Rattle.sh_map.specs.declared.log.Entry.{Entry}
-use Rattle.sh_map.specs.Map.{put as put_key, del}
-use Rattle.sh_map.specs.Log.{changed}
-use Rattle.sh_image.specs.declared.leaf.LeafEntry.{LeafEntry}
-use Rattle.sh_image.specs.declared.inner.Pair.{Pair}
-use Rattle.sh_image.specs.Entries.{entry_words}
-use Rattle.sh_image.specs.Leaf.{Leaf, IsEntry, IsLeaf, leaf_in, leaf_words}
-use Rattle.sh_edit.specs.Held.{key_at, map_of_entries, HasKeysOnce}
-use Rattle.sh_edit.specs.Placing.{IsFirstWith, LacksKey}
-use Rattle.sh_edit.specs.Splitting.{left_half, right_half, separator_of, IsSplit}
+use Rattle.sh_base.specs.{Setting.{all_seats, node_size, all_locks, nodes, last_version}, Layout.{counter_word, node_word, root_word, lock_word, lock_of, compute_of, entry_at, entry_rear_at, rear_at}}
+use Rattle.sh_base.specs.{Memory.{apply}, declared.{event.Event.TheVariants.{Store, Add, Exchange}, config.ConfigParts.{ConfigParts}}}
+use Rattle.sh_state.specs.{TreeState.{TreeState, Fresh, Nobody, Held, Writes, Seat, Owner, owner_word, writing, Linked, Pending, Posted, put}, Ground.{Ground, IsInChunk}, Change.{Change, ChangeFor}}
 use Rattle.sh_state.specs.Nodes.{standing_entries, standing_pairs}
-use Rattle.sh_acts.specs.Images.{patched, IsEntryOf, IsPairOf}
-use Rattle.sh_base.specs.declared.config.ConfigParts.{ConfigParts}
+use Rattle.sh_acts.specs.{Acts.{filled, counted, drawn, with_hold, skipped, grown, ended}, Counters.{Bounded, IsAmong}, Laid.{laid_scene}, Stores.{GoesOn}, Images.{patched, IsEntryOf, IsPairOf}}
+use Rattle.sh_image.specs.{Laid.{AreLaid}, Inner.{inner_words, Inner, IsInner, inner_in}, declared.{leaf.LeafEntry.{LeafEntry}, inner.Pair.{Pair}}, Entries.{entry_words}}
+use Rattle.sh_image.specs.Leaf.{Leaf, IsEntry, IsLeaf, leaf_in, leaf_words}
+use Rattle.sh_edit.specs.{Pairing.{root_over, with_pair, middle_of, left_inner, right_inner, IsNewSeparator}, Held.{key_at, map_of_entries, HasKeysOnce}, Placing.{IsFirstWith, LacksKey}}
+use Rattle.sh_edit.specs.Splitting.{left_half, right_half, separator_of, IsSplit}
+use Rattle.sh_read.specs.Moments.{IsNodeMoment, Writing, Idle, Whole, One, IsVersioned, IsWriting}
+use Rattle.sh_map.specs.{declared.log.{Change.TheVariants.{Put}, Entry.{Entry}}, Map.{put as put_key, del}, Log.{changed}}
 
 -- ---- own nodes
 abbrev pub OwnNodesFill : ConfigParts → Type 0

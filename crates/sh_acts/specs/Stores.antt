@@ -1,7 +1,6 @@
 -- What one store of a WRITE does to a node.
 use Rattle.std.specs.Prelude.{◌≡◌, ◌≢◌, ℕ, ◌<◌, List, length, slice_index}
-use Rattle.sh_base.specs.declared.config.ConfigParts.{ConfigParts}
-use Rattle.sh_base.specs.Setting.{node_size}
+use Rattle.sh_base.specs.{declared.config.ConfigParts.{ConfigParts}, Setting.{node_size}}
 use Rattle.sh_read.specs.Moments.{Writing, Idle, IsWriting, Next, word}
 
 -- A store of the word x at an offset begins a WRITE or goes on with it: w was under way, and v is. The node stands as it

@@ -1,18 +1,9 @@
 -- What the words of a walk's run were.
-use Rattle.std.proofs.Common.{◌≡◌, ◌⊎◌, ℕ, ◌+◌, ◌-◌, ◌%◌, ◌<◌, ◌≤◌, List, [], ◌∷◌, ◌++◌, inl, inr, refl, sym, ap, subst, ◌∙◌, arith}
-use Rattle.std.proofs.Math.Nat.{mod-eq_of_lt, add-mod_right}
-use Rattle.std.proofs.lemmas.Nat.{mod_below}
-use Rattle.std.proofs.lemmas.Bool.{cases_lt}
-use Rattle.std.proofs.lemmas.Bool.Decides.{nat_tests}
-use Rattle.sh_base.specs.declared.config.ConfigParts.{ConfigParts}
-use Rattle.sh_base.specs.Layout.{counter_word}
-use Rattle.sh_alloc.specs.declared.state.Phase.{Phase}
-use Rattle.sh_alloc.specs.declared.state.Phase.TheVariants.{Loading, Adding, Found, Spent}
-use Rattle.sh_alloc.specs.declared.state.Walk.{Walk}
-use Rattle.sh_alloc.specs.declared.state.ChunkWant.{ChunkWant}
-use Rattle.sh_alloc.specs.declared.state.ChunkWant.TheVariants.{Got, AllSpent}
-use Rattle.sh_alloc.specs.Walks.{walk_at, walk_start, walk_wants, walk_fed, run_of}
-use Rattle.sh_alloc.specs.Chunks.{Asks, FindsSpent, FindsChunk}
+use Rattle.std.proofs.{Common.{◌≡◌, ◌⊎◌, ℕ, ◌+◌, ◌-◌, ◌%◌, ◌<◌, ◌≤◌, List, [], ◌∷◌, ◌++◌, inl, inr, refl, sym, ap, subst, ◌∙◌, arith}, Math.Nat.{mod-eq_of_lt, add-mod_right}, lemmas.Nat.{mod_below}}
+use Rattle.std.proofs.lemmas.Bool.{cases_lt, Decides.{nat_tests}}
+use Rattle.sh_base.specs.{declared.config.ConfigParts.{ConfigParts}, Layout.{counter_word}}
+use Rattle.sh_alloc.specs.declared.state.{Phase.{Phase, TheVariants.{Loading, Adding, Found, Spent}}, Walk.{Walk}, ChunkWant.{ChunkWant, TheVariants.{Got, AllSpent}}}
+use Rattle.sh_alloc.specs.{Walks.{walk_at, walk_start, walk_wants, walk_fed, run_of}, Chunks.{Asks, FindsSpent, FindsChunk}}
 
 abbrev Runs : Phase → Type 0
 Runs Loading = Unit {0}

@@ -1,14 +1,7 @@
 -- What walks want, and what the words of a run were.
 use Rattle.std.specs.Prelude.{ℕ, ◌≡◌, ◌<◌, ◌≤◌, List, [], ◌∷◌, ◌++◌}
-use Rattle.sh_base.specs.declared.config.ConfigParts.{ConfigParts}
-use Rattle.sh_base.specs.declared.event.Event.TheVariants.{Add}
-use Rattle.sh_base.specs.Layout.{counter_word}
-use Rattle.sh_base.specs.Memory.{at_of}
-use Rattle.sh_alloc.specs.declared.state.Walk.{Walk}
-use Rattle.sh_alloc.specs.declared.state.Chunks.{Chunks}
-use Rattle.sh_alloc.specs.declared.state.ChunkWant.{ChunkWant}
-use Rattle.sh_alloc.specs.declared.state.ChunkWant.TheVariants.{Event, Got, AllSpent}
-use Rattle.sh_alloc.specs.Walks.{walk_wants, run_of}
+use Rattle.sh_base.specs.{declared.{config.ConfigParts.{ConfigParts}, event.Event.TheVariants.{Add}}, Layout.{counter_word}, Memory.{at_of}}
+use Rattle.sh_alloc.specs.{declared.state.{Walk.{Walk}, Chunks.{Chunks}, ChunkWant.{ChunkWant, TheVariants.{Event, Got, AllSpent}}}, Walks.{walk_wants, run_of}}
 
 abbrev pub walk_of : Chunks → Walk
 walk_of chunks = chunks.walk

@@ -1,7 +1,6 @@
 -- Spare nodes: a range of numbers, taken from its low end.
 use Rattle.std.specs.Prelude.{ℕ, ◌≡◌, ◌+◌, ◌-◌, ◌<◌, ◌≤◌, ◌==◌, if◌then◌else◌, Option, Some, None}
-use Rattle.sh_alloc.specs.declared.state.NodeRange.{NodeRange}
-use Rattle.sh_alloc.specs.declared.state.Spare.{Spare}
+use Rattle.sh_alloc.specs.declared.state.{NodeRange.{NodeRange}, Spare.{Spare}}
 
 abbrev pub range_of : Spare → NodeRange
 range_of spare = spare.range

@@ -1,13 +1,7 @@
 -- The walk over the counters, as a machine that is fed words.
 use Rattle.std.specs.Prelude.{ℕ, ◌≡◌, ◌+◌, ◌%◌, ◌<◌, nat_lt, if◌then◌else◌, List, [], ◌∷◌}
-use Rattle.sh_base.specs.declared.config.ConfigParts.{ConfigParts}
-use Rattle.sh_base.specs.declared.event.Event.TheVariants.{Load, Add}
-use Rattle.sh_base.specs.Layout.{counter_word}
-use Rattle.sh_alloc.specs.declared.state.Phase.{Phase}
-use Rattle.sh_alloc.specs.declared.state.Phase.TheVariants.{Loading, Adding, Found, Spent}
-use Rattle.sh_alloc.specs.declared.state.Walk.{Walk}
-use Rattle.sh_alloc.specs.declared.state.ChunkWant.{ChunkWant}
-use Rattle.sh_alloc.specs.declared.state.ChunkWant.TheVariants.{Event, Got, AllSpent}
+use Rattle.sh_base.specs.{declared.{config.ConfigParts.{ConfigParts}, event.Event.TheVariants.{Load, Add}}, Layout.{counter_word}}
+use Rattle.sh_alloc.specs.declared.state.{Phase.{Phase, TheVariants.{Loading, Adding, Found, Spent}}, Walk.{Walk}, ChunkWant.{ChunkWant, TheVariants.{Event, Got, AllSpent}}}
 
 abbrev pub walk_at : (first passed : ℕ) → Phase → Walk
 walk_at first passed phase = record { first = first; passed = passed; phase = phase }

@@ -1,9 +1,7 @@
 // The walk over the counters.
 ghost use Rattle.std.specs.Prelude.{◌≡◌, ◌<◌};
-ghost use Rattle.sh_base.specs.Parts.{parts_of};
-ghost use Rattle.sh_base.specs.Setting.{all_seats};
-ghost use Rattle.sh_alloc.specs.Walks.{server_at, walk_start, walk_wants, walk_fed, walk_next, with_phase};
-ghost use Rattle.sh_alloc.specs.Chunks.{setting_of, walk_of, WantsEvent, IsWantOf};
+ghost use Rattle.sh_base.specs.{Parts.{parts_of}, Setting.{all_seats}};
+ghost use Rattle.sh_alloc.specs.{Walks.{server_at, walk_start, walk_wants, walk_fed, walk_next, with_phase}, Chunks.{setting_of, walk_of, WantsEvent, IsWantOf}};
 
 use crate::state::{Phase, Walk};
 use crate::{ChunkWant, Chunks};

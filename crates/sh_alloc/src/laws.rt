@@ -1,11 +1,8 @@
 // What spare nodes and walks keep to.
 ghost use Rattle.std.specs.Prelude.{◌≡◌, ◌<◌, ◌≤◌, ◌↔◌, ℕ, List, Some};
 ghost use Rattle.sh_base.specs.declared.config.ConfigParts.{ConfigParts};
-ghost use Rattle.sh_alloc.specs.declared.state.NodeRange.{NodeRange};
-ghost use Rattle.sh_alloc.specs.declared.state.ChunkWant.TheVariants.{Got, AllSpent};
-ghost use Rattle.sh_alloc.specs.Spares.{lowest, without_lowest, with_lowest, IsSpare, MayPutBack};
-ghost use Rattle.sh_alloc.specs.Walks.{walk_start, walk_wants, run_of};
-ghost use Rattle.sh_alloc.specs.Chunks.{FindsSpent, FindsChunk};
+ghost use Rattle.sh_alloc.specs.{declared.state.{NodeRange.{NodeRange}, ChunkWant.TheVariants.{Got, AllSpent}}, Spares.{lowest, without_lowest, with_lowest, IsSpare, MayPutBack}};
+ghost use Rattle.sh_alloc.specs.{Walks.{walk_start, walk_wants, run_of}, Chunks.{FindsSpent, FindsChunk}};
 
 /// A node that is taken was spare, and the spare nodes behind it are those that are greater: so the least goes first,
 /// and none goes twice. It may be put back, and then all is as before.

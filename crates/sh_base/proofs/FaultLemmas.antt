@@ -1,11 +1,6 @@
 -- The chain of tests of a setting's numbers.
-use Rattle.std.proofs.Common.{◌≡◌, ℕ, ◌<◌, ◌≤◌, Option, None, Some, ◌∙◌, arith}
-use Rattle.std.proofs.lemmas.Bool.Decides.{nat_tests}
-use Rattle.sh_base.specs.declared.config.ConfigParts.{ConfigParts}
-use Rattle.sh_base.specs.declared.config.ConfigFault.{ConfigFault}
-use Rattle.sh_base.specs.declared.config.ConfigFault.TheVariants.{TooLarge}
-use Rattle.sh_base.specs.Setting.{pool_words, IsRanged}
-use Rattle.sh_base.specs.Faults.{outside, first_outside, fault_of}
+use Rattle.std.proofs.{Common.{◌≡◌, ℕ, ◌<◌, ◌≤◌, Option, None, Some, ◌∙◌, arith}, lemmas.Bool.Decides.{nat_tests}}
+use Rattle.sh_base.specs.{declared.config.{ConfigParts.{ConfigParts}, ConfigFault.{ConfigFault, TheVariants.{TooLarge}}}, Setting.{pool_words, IsRanged}, Faults.{outside, first_outside, fault_of}}
 
 -- a test that finds no fault was passed, and so was what is tested next
 passed : (n low high : ℕ) (f : ConfigFault) (next : Option ConfigFault) → outside n low high f next ≡ None → ((low ≤ n) × (n ≤ high)) × (next ≡ None)

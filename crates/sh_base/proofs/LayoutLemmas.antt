@@ -1,13 +1,9 @@
 -- Linear facts about the layout: proofs above cite these and never multiply.
 use Rattle.std.proofs.Common.{◌≡◌, ℕ, zero, suc, ◌+◌, ◌-◌, ◌*◌, ◌<◌, ◌≤◌, ◌≢◌, List, [], ◌∷◌, length, get_or, set, take, drop, refl, ap, subst, ◌∙◌, inl, inr, ◌⊎◌, rules, arith}
-use Rattle.std.proofs.Math.Nat.{mul-le-mul_left, mul-le-mul_right}
-use Rattle.std.proofs.lemmas.Nat.{mul-le}
-use Rattle.std.proofs.lemmas.Bool.{cases_lt}
+use Rattle.std.proofs.{Math.Nat.{mul-le-mul_left, mul-le-mul_right}, lemmas.{Nat.{mul-le}, Bool.{cases_lt}}}
 use Rattle.std.proofs.lemmas.List.{take-set-le, drop-set-lt, drop-set-add, length-drop, length-take-le, get_or-take, get_or-drop}
-use Rattle.sh_base.specs.declared.config.ConfigParts.{ConfigParts}
-use Rattle.sh_base.specs.Setting.{nodes, entry_size, node_size, first_node_word, pool_words, IsNode, IsRanged, IsSetting, default_parts}
-use Rattle.sh_base.specs.Layout.{node_word, entry_at, rear_at, node_part, entry_part}
-use Rattle.sh_base.specs.Places.{IsInEntry}
+use Rattle.sh_base.specs.{declared.config.ConfigParts.{ConfigParts}, Setting.{nodes, entry_size, node_size, first_node_word, pool_words, IsNode, IsRanged, IsSetting, default_parts}}
+use Rattle.sh_base.specs.{Layout.{node_word, entry_at, rear_at, node_part, entry_part}, Places.{IsInEntry}}
 
 -- a store among the first n words
 pub take_set_in : {X : Type 0} → (n : ℕ) (xs : List X) (i : ℕ) (y : X) → i < n → take n (set xs i y) ≡ set (take n xs) i y

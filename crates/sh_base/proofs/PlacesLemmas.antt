@@ -1,12 +1,7 @@
 -- Places and addresses are the same, one to one.
 use Rattle.std.proofs.Common.{◌≡◌, ℕ, ◌+◌, ◌-◌, ◌*◌, ◌/◌, ◌%◌, ◌<◌, ◌≤◌, List, set, eqb, ltb, if◌then◌else◌, refl, sym, ap, ◌∙◌, inl, inr, arith}
-use Rattle.std.proofs.lemmas.Nat.{div_below, mod_below, div-add-mod', div-mul-add, mod-mul-add}
-use Rattle.std.proofs.lemmas.List.{get_or-set_other}
-use Rattle.std.proofs.lemmas.Bool.{cases_lt, cases_eq}
-use Rattle.std.proofs.lemmas.Bool.Decides.{nat_tests}
-use Rattle.sh_base.specs.declared.config.ConfigParts.{ConfigParts}
-use Rattle.sh_base.specs.Setting.{nodes, node_size, first_node_word, pool_words}
-use Rattle.sh_base.specs.Layout.{node_word, node_part}
+use Rattle.std.proofs.lemmas.{Nat.{div_below, mod_below, div-add-mod', div-mul-add, mod-mul-add}, List.{get_or-set_other}, Bool.{cases_lt, cases_eq, Decides.{nat_tests}}}
+use Rattle.sh_base.specs.{declared.config.ConfigParts.{ConfigParts}, Setting.{nodes, node_size, first_node_word, pool_words}, Layout.{node_word, node_part}}
 use Rattle.sh_base.specs.Places.{Site, Own, Root, Counter, Lock, Node, address, IsSite, ArePlacesApart, IsBelowNodes, StoresKeepApart}
 use Rattle.sh_base.proofs.LayoutLemmas.{node_word_high, node_size_is, part_other_node, part_below, part_same_node, entry_other, entry_own, entry_header, entry_rear}
 

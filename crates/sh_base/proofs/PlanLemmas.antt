@@ -1,16 +1,9 @@
 -- The steps of verbs keep to their node.
 use Rattle.std.proofs.Common.{◌≡◌, ℕ, ◌+◌, ◌-◌, ◌*◌, ◌%◌, ◌<◌, ◌≤◌, Bool, true, false, refl, sym, arith}
-use Rattle.std.proofs.lemmas.Nat.{div_below, mod_below}
-use Rattle.std.proofs.Math.Nat.{mul-le-mul_right, mul_assoc}
-use Rattle.std.proofs.lemmas.Bool.Decides.{nat_tests}
-use Rattle.sh_base.specs.declared.config.ConfigParts.{ConfigParts}
-use Rattle.sh_base.specs.declared.plan.Place.TheVariants.{Body, Lock}
-use Rattle.sh_base.specs.declared.plan.ReadPlan.{ReadPlan}
-use Rattle.sh_base.specs.declared.plan.WritePlan.{WritePlan}
-use Rattle.sh_base.specs.Setting.{all_locks, node_size, IsNode, IsSetting}
-use Rattle.sh_base.specs.Layout.{node_word, lock_word, lock_of, server_of}
-use Rattle.sh_base.specs.Plans.{IsReadOf, FallsOver, IsWriteOf, RisesOver, rising, steps_with, unlocked_word}
-use Rattle.sh_base.proofs.LayoutLemmas.{node_size_is}
+use Rattle.std.proofs.{lemmas.{Nat.{div_below, mod_below}, Bool.Decides.{nat_tests}}, Math.Nat.{mul-le-mul_right, mul_assoc}}
+use Rattle.sh_base.specs.declared.{config.ConfigParts.{ConfigParts}, plan.{Place.TheVariants.{Body, Lock}, ReadPlan.{ReadPlan}, WritePlan.{WritePlan}}}
+use Rattle.sh_base.specs.{Setting.{all_locks, node_size, IsNode, IsSetting}, Layout.{node_word, lock_word, lock_of, server_of}}
+use Rattle.sh_base.{specs.Plans.{IsReadOf, FallsOver, IsWriteOf, RisesOver, rising, steps_with, unlocked_word}, proofs.LayoutLemmas.{node_size_is}}
 
 pub falls_over : (p : ConfigParts) (n : ℕ) (plan : ReadPlan) → IsReadOf p n plan → FallsOver p n plan
 falls_over p n plan h step below = (omega (arith, node_size_is p), rw (h.0, h.1) refl)

@@ -1,9 +1,7 @@
 -- Which number of a setting is refused.
 use Rattle.std.specs.Prelude.{ℕ, ◌&&◌, nat_le, if◌then◌else◌, Option, Some, None}
-use Rattle.sh_base.specs.declared.config.ConfigParts.{ConfigParts}
-use Rattle.sh_base.specs.declared.config.ConfigFault.{ConfigFault}
-use Rattle.sh_base.specs.declared.config.ConfigFault.TheVariants.{Servers, Chunks, ChunkNodes, Locks, Leaf, Computes, Seats, Bound, Bits, Rows, Cached, ValueWords, TooLarge}
-use Rattle.sh_base.specs.Setting.{pool_words}
+use Rattle.sh_base.specs.declared.config.{ConfigParts.{ConfigParts}, ConfigFault.{ConfigFault}}
+use Rattle.sh_base.specs.{declared.config.ConfigFault.TheVariants.{Servers, Chunks, ChunkNodes, Locks, Leaf, Computes, Seats, Bound, Bits, Rows, Cached, ValueWords, TooLarge}, Setting.{pool_words}}
 
 -- the fault where n is outside its range, else what is tested next
 unfoldable pub outside : ℕ → ℕ → ℕ → ConfigFault → Option ConfigFault → Option ConfigFault

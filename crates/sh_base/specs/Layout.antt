@@ -1,7 +1,6 @@
 -- Where each thing of a pool lies, in words from its start, and each part of a node, in words from the node's first.
 use Rattle.std.specs.Prelude.{ℕ, ◌+◌, ◌-◌, ◌*◌, ◌/◌, ◌%◌, List, take, drop}
-use Rattle.sh_base.specs.declared.config.ConfigParts.{ConfigParts}
-use Rattle.sh_base.specs.Setting.{entry_size, node_size, first_node_word}
+use Rattle.sh_base.specs.{declared.config.ConfigParts.{ConfigParts}, Setting.{entry_size, node_size, first_node_word}}
 
 -- word 0 is the pool's own; word 1 names the root node
 abbrev pub root_word : ℕ

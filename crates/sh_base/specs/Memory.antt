@@ -1,7 +1,6 @@
 -- The word memory and its events.
 use Rattle.std.specs.Prelude.{ℕ, ◌+◌, ◌%◌, ◌^◌, ◌==◌, if◌then◌else◌, List, slice_index, slice_set}
-use Rattle.sh_base.specs.declared.event.Event.{Event}
-use Rattle.sh_base.specs.declared.event.Event.TheVariants.{Load, Store, Exchange, Add}
+use Rattle.sh_base.specs.declared.event.Event.{Event, TheVariants.{Load, Store, Exchange, Add}}
 
 abbrev pub Memory : Type 0
 Memory = List ℕ

@@ -1,7 +1,6 @@
 -- What a word of the pool belongs to, and where it lies.
 use Rattle.std.specs.Prelude.{◌≡◌, ◌≢◌, ℕ, ◌+◌, ◌-◌, ◌<◌, ◌≤◌, List, slice_index, slice_set}
-use Rattle.sh_base.specs.declared.config.ConfigParts.{ConfigParts}
-use Rattle.sh_base.specs.Setting.{all_locks, entry_size, node_size, pool_words, IsNode}
+use Rattle.sh_base.specs.{declared.config.ConfigParts.{ConfigParts}, Setting.{all_locks, entry_size, node_size, pool_words, IsNode}}
 use Rattle.sh_base.specs.Layout.{root_word, counter_word, lock_word, node_word, entry_at, rear_at, node_part, entry_part}
 
 pub data Site : Type 0 where

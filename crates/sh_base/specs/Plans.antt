@@ -1,13 +1,7 @@
 -- The steps of a verb: which word each loads or stores.
 use Rattle.std.specs.Prelude.{◌≡◌, ℕ, ◌+◌, ◌-◌, ◌<◌, ◌≤◌, if◌then◌else◌, nat_lt, Bool, true, false, Option, Some, None}
-use Rattle.sh_base.specs.declared.config.ConfigParts.{ConfigParts}
-use Rattle.sh_base.specs.declared.plan.Place.{Place}
-use Rattle.sh_base.specs.declared.plan.Place.TheVariants.{Body, Lock}
-use Rattle.sh_base.specs.declared.plan.ReadPlan.{ReadPlan}
-use Rattle.sh_base.specs.declared.plan.WritePlan.{WritePlan}
-use Rattle.sh_base.specs.Setting.{all_locks, node_size}
-use Rattle.sh_base.specs.Layout.{node_word, lock_of, lock_word}
-use Rattle.sh_base.specs.Places.{Node, Lock as LockSite, address}
+use Rattle.sh_base.specs.{declared.{config.ConfigParts.{ConfigParts}, plan.{Place.{Place, TheVariants.{Body, Lock}}, ReadPlan.{ReadPlan}, WritePlan.{WritePlan}}}, Setting.{all_locks, node_size}}
+use Rattle.sh_base.specs.{Layout.{node_word, lock_of, lock_word}, Places.{Node, Lock as LockSite, address}}
 
 -- a READ of a node: as many steps as the node has words
 abbrev pub IsReadOf : ConfigParts → ℕ → ReadPlan → Type 0

@@ -1,7 +1,5 @@
 -- A value: one to eight words, kept in an array whose rest is 0.
-use Rattle.std.specs.Prelude.{◌≡◌, ℕ, ◌-◌, ◌≤◌, List, ◌++◌, length, take, drop, replicate}
-use Rattle.std.proofs.Common.{ap, ◌∙◌, sym, arith}
-use Rattle.std.proofs.lemmas.List.{length-take-le, take-append-drop}
+use Rattle.std.{specs.Prelude.{◌≡◌, ℕ, ◌-◌, ◌≤◌, List, ◌++◌, length, take, drop, replicate}, proofs.{Common.{ap, ◌∙◌, sym, arith}, lemmas.List.{length-take-le, take-append-drop}}}
 
 -- the words, and zeros behind them
 abbrev pub eight : List ℕ → List ℕ

@@ -1,8 +1,6 @@
 // Where the things of a pool lie, and the parts of a node.
 ghost use Rattle.std.specs.Prelude.{◌≡◌, ◌<◌};
-ghost use Rattle.sh_base.specs.Parts.{parts_of};
-ghost use Rattle.sh_base.specs.Setting.{all_locks, all_seats, IsNode};
-ghost use Rattle.sh_base.specs.Layout.{counter_word, lock_word, node_word, server_of, lock_of, first_node, compute_of, entry_at, rear_at};
+ghost use Rattle.sh_base.specs.{Parts.{parts_of}, Setting.{all_locks, all_seats, IsNode}, Layout.{counter_word, lock_word, node_word, server_of, lock_of, first_node, compute_of, entry_at, rear_at}};
 ghost use Rattle.sh_base.specs.Places.{ArePlacesApart, StoresKeepApart};
 
 use crate::Config;

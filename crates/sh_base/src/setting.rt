@@ -1,7 +1,6 @@
 // The numbers of a setting: which are lawful, and what follows from them.
 ghost use Rattle.std.specs.Prelude.{◌≡◌, ◌<◌, ◌≤◌, MatchResult, None, Some};
-ghost use Rattle.sh_base.specs.Parts.{parts_of};
-ghost use Rattle.sh_base.specs.Setting.{nodes, all_locks, all_seats, entry_size, node_size, pool_words, last_version, last_entry_version, IsRanged, default_parts};
+ghost use Rattle.sh_base.specs.{Parts.{parts_of}, Setting.{nodes, all_locks, all_seats, entry_size, node_size, pool_words, last_version, last_entry_version, IsRanged, default_parts}};
 ghost use Rattle.sh_base.specs.Faults.{outside, first_outside, fault_of};
 
 use crate::{Config, ConfigFault, ConfigParts};

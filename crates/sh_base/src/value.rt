@@ -11,8 +11,7 @@ pub struct Value {
 }
 
 impl Model for Value {
-    ghost use Rattle.std.specs.Prelude.{List, ℕ, ◌≡◌, ◌≤◌, length, take};
-    ghost use Rattle.std.specs.Coded.{coded_list, coded_ℕ};
+    ghost use Rattle.std.specs.{Prelude.{List, ℕ, ◌≡◌, ◌≤◌, length, take}, Coded.{coded_list, coded_ℕ}};
     ghost use Rattle.sh_base.specs.Values.{eight, eight_take, IsValue};
 
     ghost Value = { List ℕ };

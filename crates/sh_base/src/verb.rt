@@ -1,8 +1,6 @@
 // The steps of a READ and of a WRITE.
 ghost use Rattle.std.specs.Prelude.{◌≡◌, ◌<◌, Bool, ℕ};
-ghost use Rattle.sh_base.specs.Parts.{parts_of};
-ghost use Rattle.sh_base.specs.Setting.{all_locks, entry_size, node_size, IsNode};
-ghost use Rattle.sh_base.specs.Layout.{entry_at};
+ghost use Rattle.sh_base.specs.{Parts.{parts_of}, Setting.{all_locks, entry_size, node_size, IsNode}, Layout.{entry_at}};
 ghost use Rattle.sh_base.specs.Plans.{IsReadOf, read_steps, read_at, unlocked_word, IsWriteOf, IsUnlockOf, write_steps, place_of, FallsOver, RisesOver};
 
 use crate::{Config, Place, ReadPlan, WritePlan};

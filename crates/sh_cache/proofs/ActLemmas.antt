@@ -1,14 +1,10 @@
 -- What is found after keeps and forgets was kept, and not forgotten or replaced since.
 use Rattle.std.proofs.Common.{◌≡◌, ◌≢◌, ℕ, Bool, true, false, List, [], ◌∷◌, ◌++◌, drop, length, refl, ap, sym, subst, ◌∙◌, append_assoc, append-nil, arith}
-use Rattle.std.specs.Prelude.{◌==◌, nat_lt, if◌then◌else◌, Some}
-use Rattle.std.specs.List.{AllByRecursion}
-use Rattle.std.proofs.lemmas.Bool.Decides.{nat_tests}
+use Rattle.std.{specs.{Prelude.{◌==◌, nat_lt, if◌then◌else◌, Some}, List.{AllByRecursion}}, proofs.lemmas.Bool.Decides.{nat_tests}}
 use Rattle.sh_image.specs.Inner.{Inner}
-use Rattle.sh_cache.specs.Cached.{added, covers, forgotten, found, has_low, kept, replaced, HaveOwnLows}
-use Rattle.sh_cache.specs.Acts.{Act, Keep, Forget, LeavesRow, StillKept, after_act, rows_after}
+use Rattle.sh_cache.specs.{Cached.{added, covers, forgotten, found, has_low, kept, replaced, HaveOwnLows}, Acts.{Act, Keep, Forget, LeavesRow, StillKept, after_act, rows_after}}
+use Rattle.sh_cache.proofs.{FindLemmas.{found_has, found_covers}, RowLemmas.{apart_forgotten, apart_kept}}
 use Rattle.sh_logic.proofs.Lists.{all_join, all_drop}
-use Rattle.sh_cache.proofs.FindLemmas.{found_has, found_covers}
-use Rattle.sh_cache.proofs.RowLemmas.{apart_forgotten, apart_kept}
 
 module _ (acts : List Act) where
   -- a row that was kept before stays so at an act that is about another low fence

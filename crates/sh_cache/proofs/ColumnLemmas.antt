@@ -1,17 +1,11 @@
 -- A cache's columns after a row is replaced, put behind the others, or taken away.
-use Rattle.std.proofs.Common.{◌≡◌, ℕ, suc, ◌-◌, ◌<◌, ◌≤◌, List, [], ◌∷◌, ◌++◌, map, length, get_or, set, take, drop, refl, sym, ap, ap₂, subst, ◌∙◌, length-append, arith}
-use Rattle.std.specs.Prelude.{Some}
-use Rattle.std.specs.List.{remove}
-use Rattle.std.proofs.Math.Seq.{map-set_same}
-use Rattle.std.proofs.lemmas.List.{get_or_default, map-set, map-append, take-map, drop-map, length-map, length-set}
-use Rattle.std.proofs.lemmas.List.Edits.{length-remove}
+use Rattle.std.{proofs.Common.{◌≡◌, ℕ, suc, ◌-◌, ◌<◌, ◌≤◌, List, [], ◌∷◌, ◌++◌, map, length, get_or, set, take, drop, refl, sym, ap, ap₂, subst, ◌∙◌, length-append, arith}, specs.Prelude.{Some}}
+use Rattle.std.{specs.List.{remove}, proofs.{Math.Seq.{map-set_same}, lemmas.List.{get_or_default, map-set, map-append, take-map, drop-map, length-map, length-set, Edits.{length-remove}}}}
 use Rattle.sh_logic.proofs.Lists.{all_join, all_set, all_take, all_drop}
 use Rattle.sh_lanes.specs.Scans.{LacksWord, IsFirst}
 use Rattle.sh_image.specs.Inner.{Inner}
-use Rattle.sh_cache.specs.Cached.{found, HaveOwnLows}
-use Rattle.sh_cache.specs.Columns.{lows_of, no_row, row_in, rows_in, AreColumns, AreNumbers, AreSlots, IsCache, IsFoundAt}
-use Rattle.sh_cache.proofs.RowLemmas.{apart_pushed, apart_remove, apart_replaced, no_low, replaced_is}
-use Rattle.sh_cache.proofs.PlaceLemmas.{low_at}
+use Rattle.sh_cache.specs.{Cached.{found, HaveOwnLows}, Columns.{lows_of, no_row, row_in, rows_in, AreColumns, AreNumbers, AreSlots, IsCache, IsFoundAt}}
+use Rattle.sh_cache.proofs.{RowLemmas.{apart_pushed, apart_remove, apart_replaced, no_low, replaced_is}, PlaceLemmas.{low_at}}
 use Rattle.sh_cache.proofs.SlotLemmas.{length_rows, no_rows, numbers_slots, row_of, rows_push, rows_remove, rows_set, slots_moved}
 
 abbrev pub HasLevel1 : Inner → Type 0

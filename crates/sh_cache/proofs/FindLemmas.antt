@@ -1,14 +1,11 @@
 -- The row that is found, row by row.
 use Rattle.std.proofs.Common.{◌≡◌, ℕ, zero, suc, ◌+◌, ◌<◌, ◌≤◌, ◌⊎◌, Bool, true, false, List, [], ◌∷◌, length, drop, refl, ap, sym, subst, inl, inr, arith}
-use Rattle.std.specs.Prelude.{◌&&◌, nat_lt, if◌then◌else◌, slice_get, Option, Some, None}
-use Rattle.std.specs.List.{AllByRecursion}
+use Rattle.std.specs.{Prelude.{◌&&◌, nat_lt, if◌then◌else◌, slice_get, Option, Some, None}, List.{AllByRecursion}}
 use mathlib.Core.Bool.{false≢true}
-use Rattle.std.proofs.lemmas.Bool.Decides.{nat_tests}
-use Rattle.std.proofs.lemmas.List.{drop_more}
+use Rattle.std.proofs.lemmas.{Bool.Decides.{nat_tests}, List.{drop_more}}
 use Rattle.sh_logic.proofs.Tests.{and_true}
 use Rattle.sh_image.specs.Inner.{Inner}
-use Rattle.sh_cache.specs.Cached.{better, covers, found, found_from, FoundBy}
-use Rattle.sh_cache.specs.Columns.{no_row, row_in}
+use Rattle.sh_cache.specs.{Cached.{better, covers, found, found_from, FoundBy}, Columns.{no_row, row_in}}
 
 pub found_step : (rows : List Inner) (i : ℕ) (best : Option Inner) (key : ℕ) → i < length rows → found_from best (drop i rows) key ≡ found_from (better best (row_in rows i) key) (drop (i + 1) rows) key
 found_step rows i best key below = ap (λ l. found_from best l key) (drop_more rows i no_row below)

@@ -1,12 +1,8 @@
 -- The place of the row that is found, in the columns of the fences.
 use Rattle.std.proofs.Common.{◌≡◌, ℕ, ◌+◌, ◌<◌, Bool, true, false, List, length, drop, refl, sym, ap, ap₂, ◌∙◌, arith}
-use Rattle.std.specs.Prelude.{◌&&◌, nat_le, nat_lt, if◌then◌else◌, option_map, IfSome, Option, Some, None, slice_index}
-use Rattle.std.proofs.Math.ListN.{get_or-map}
-use Rattle.std.proofs.lemmas.List.{length-map}
+use Rattle.std.{specs.Prelude.{◌&&◌, nat_le, nat_lt, if◌then◌else◌, option_map, IfSome, Option, Some, None, slice_index}, proofs.{Math.ListN.{get_or-map}, lemmas.List.{length-map}}}
 use Rattle.sh_image.specs.Inner.{Inner}
-use Rattle.sh_cache.specs.Cached.{better, covers, found, found_from, is_above}
-use Rattle.sh_cache.specs.Columns.{better_place, covers_at, is_above_at, highs_of, lows_of, no_row, row_in}
-use Rattle.sh_cache.proofs.FindLemmas.{found_step}
+use Rattle.sh_cache.{specs.{Cached.{better, covers, found, found_from, is_above}, Columns.{better_place, covers_at, is_above_at, highs_of, lows_of, no_row, row_in}}, proofs.FindLemmas.{found_step}}
 
 module _ (rows : List Inner) where
   pub low_at : (i : ℕ) → slice_index (lows_of rows) i ≡ (row_in rows i).low

@@ -1,16 +1,11 @@
 -- Rows by their low fences.
-use Rattle.std.proofs.Common.{◌≡◌, ℕ, zero, suc, ◌<◌, ◌⊎◌, Bool, true, false, List, [], ◌∷◌, ◌++◌, length, drop, refl, ap, ◌∙◌, inl, inr, arith}
-use Rattle.std.proofs.lemmas.Bool.{cases_lt}
-use Rattle.std.specs.Prelude.{◌==◌, ◌||◌, nat_lt, if◌then◌else◌, slice_set}
-use Rattle.std.specs.List.{remove, AllByRecursion, Contains}
-use Rattle.std.proofs.lemmas.List.Elements.{All-contains, All-contains_itself, All-from_recursion, recursion_from_All}
-use Rattle.std.proofs.lemmas.Bool.Decides.{nat_tests}
-use Rattle.sh_logic.proofs.Lists.{all_drop, all_join, all_weaker}
-use Rattle.sh_logic.proofs.Tests.{less_test, not_less_test, same_test, differ_test}
+use Rattle.std.proofs.{Common.{◌≡◌, ℕ, zero, suc, ◌<◌, ◌⊎◌, Bool, true, false, List, [], ◌∷◌, ◌++◌, length, drop, refl, ap, ◌∙◌, inl, inr, arith}, lemmas.Bool.{cases_lt}}
+use Rattle.std.specs.{Prelude.{◌==◌, ◌||◌, nat_lt, if◌then◌else◌, slice_set}, List.{remove, AllByRecursion, Contains}}
+use Rattle.std.proofs.lemmas.{List.Elements.{All-contains, All-contains_itself, All-from_recursion, recursion_from_All}, Bool.Decides.{nat_tests}}
+use Rattle.sh_logic.proofs.{Lists.{all_drop, all_join, all_weaker}, Tests.{less_test, not_less_test, same_test, differ_test}}
 use Rattle.sh_lanes.specs.Scans.{LacksWord, IsFirst}
 use Rattle.sh_image.specs.Inner.{Inner}
-use Rattle.sh_cache.specs.Cached.{added, forgotten, has_low, kept, replaced, HaveOwnLows}
-use Rattle.sh_cache.specs.Columns.{lows_of, with_room}
+use Rattle.sh_cache.specs.{Cached.{added, forgotten, has_low, kept, replaced, HaveOwnLows}, Columns.{lows_of, with_room}}
 
 -- a row behind the first one
 next : (r : Inner) (rows : List Inner) {low i : ℕ} → IsFirst (lows_of (r ∷ rows)) low (suc i) → IsFirst (lows_of rows) low i

@@ -1,10 +1,8 @@
 -- The rows whose images lie in slots, after a slot takes another image, and after a slot goes behind the others.
-use Rattle.std.proofs.Common.{◌≡◌, ◌≢◌, ℕ, suc, ◌+◌, ◌-◌, ◌<◌, ◌≤◌, List, [], ◌∷◌, ◌++◌, length, get_or, set, take, refl, sym, ap, ◌∙◌, inl, inr, length-append, arith}
-use Rattle.std.specs.List.{remove}
+use Rattle.std.{proofs.Common.{◌≡◌, ◌≢◌, ℕ, suc, ◌+◌, ◌-◌, ◌<◌, ◌≤◌, List, [], ◌∷◌, ◌++◌, length, get_or, set, take, refl, sym, ap, ◌∙◌, inl, inr, length-append, arith}, specs.List.{remove}}
 use Rattle.std.proofs.lemmas.Bool.{cases_lt, cases_eq}
 use Rattle.std.proofs.lemmas.List.{same_lists, get_or-map, get_or-take, get_or-set_same, get_or-set_other, get_or_append_left, get_or_at, get_or_default, length-map, length-take-le, length-set}
-use Rattle.std.proofs.lemmas.List.Edits.{get_or-remove_below, get_or-remove_above, length-remove}
-use Rattle.std.proofs.lemmas.List.Elements.{All-append, All-cons, All-nil, All-take, All-drop}
+use Rattle.std.proofs.lemmas.List.{Edits.{get_or-remove_below, get_or-remove_above, length-remove}, Elements.{All-append, All-cons, All-nil, All-take, All-drop}}
 use Rattle.std.proofs.lemmas.List.Quantifiers.{all_pairs_push, all_pairs_remove}
 use Rattle.sh_image.specs.Inner.{Inner}
 use Rattle.sh_cache.specs.Columns.{no_row, row_in, rows_in, AreNumbers, AreSlots}

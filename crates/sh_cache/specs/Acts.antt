@@ -1,6 +1,5 @@
 -- Keeps and forgets, one after another, and what rows they leave.
-use Rattle.std.specs.Prelude.{◌≡◌, ◌≢◌, ℕ, List, [], ◌∷◌, ◌++◌}
-use Rattle.std.specs.List.{AllByRecursion}
+use Rattle.std.specs.{Prelude.{◌≡◌, ◌≢◌, ℕ, List, [], ◌∷◌, ◌++◌}, List.{AllByRecursion}}
 use Rattle.sh_image.specs.Inner.{Inner}
 use Rattle.sh_cache.specs.Cached.{forgotten, kept}
 

@@ -1,11 +1,9 @@
 // A cache of inner nodes, in columns.
-ghost use Rattle.std.specs.Prelude.{◌≡◌, ◌<◌, ◌≤◌, ◌∷◌, ◌++◌, ℕ, [], length, option_map, slice_index, slice_set, IfOk, IfSome, MatchOption};
-ghost use Rattle.std.specs.List.{remove, AllByRecursion};
+ghost use Rattle.std.specs.{Prelude.{◌≡◌, ◌<◌, ◌≤◌, ◌∷◌, ◌++◌, ℕ, [], length, option_map, slice_index, slice_set, IfOk, IfSome, MatchOption}, List.{remove, AllByRecursion}};
 ghost use Rattle.sh_base.specs.Parts.{parts_of};
 ghost use Rattle.sh_lanes.specs.Scans.{LacksWord, IsFirst};
 ghost use Rattle.sh_image.specs.Inner.{Inner};
-ghost use Rattle.sh_cache.specs.Cached.{forgotten, found, kept, HaveOwnLows};
-ghost use Rattle.sh_cache.specs.Columns.{lows_of, with_room, AreNumbers};
+ghost use Rattle.sh_cache.specs.{Cached.{forgotten, found, kept, HaveOwnLows}, Columns.{lows_of, with_room, AreNumbers}};
 
 use crate::places::place_of_best;
 use sh_base::Config;
@@ -27,10 +25,8 @@ pub struct Cache {
 }
 
 impl Model for Cache {
-    ghost use Rattle.std.specs.Prelude.{length};
-    ghost use Rattle.std.specs.Vec.{vec_capacity};
-    ghost use Rattle.sh_cache.specs.Cached.{Rows};
-    ghost use Rattle.sh_cache.specs.Columns.{rows_in, IsCache};
+    ghost use Rattle.std.specs.{Prelude.{length}, Vec.{vec_capacity}};
+    ghost use Rattle.sh_cache.specs.{Cached.{Rows}, Columns.{rows_in, IsCache}};
 
     ghost Value = { Rows };
 

@@ -1,8 +1,7 @@
 // What a cache promises over its calls.
 ghost use Rattle.std.specs.Prelude.{◌≡◌, ◌⊎◌, ◌<◌, ℕ, List, [], false, true, Some, Contains};
 ghost use Rattle.sh_image.specs.Inner.{Inner};
-ghost use Rattle.sh_cache.specs.Cached.{covers, forgotten, found, has_low, kept, HaveOwnLows, FoundBy, IsOldest};
-ghost use Rattle.sh_cache.specs.Acts.{rows_after, Act, StillKept};
+ghost use Rattle.sh_cache.specs.{Cached.{covers, forgotten, found, has_low, kept, HaveOwnLows, FoundBy, IsOldest}, Acts.{rows_after, Act, StillKept}};
 
 /// What a cache promises: a row that is found covers the key with the greatest low fence, and none is found exactly
 /// where no row covers the key; a forgotten low fence is no row's.

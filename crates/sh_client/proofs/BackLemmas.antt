@@ -2,20 +2,10 @@
 use Rattle.std.proofs.Common.{◌≡◌, ℕ, ◌+◌, Some, None, refl, sym, ap, subst, ◌∙◌}
 use Rattle.sh_image.specs.declared.inner.Image.{Image}
 use Rattle.sh_lock.specs.Locks.{release_of}
-use Rattle.sh_read.specs.declared.state.Progress.TheVariants.{Accepted, Odd}
-use Rattle.sh_read.specs.Reads.{accepted, progress_of, read_fed}
-use Rattle.sh_decide.specs.declared.state.Aim.{Aim}
-use Rattle.sh_decide.specs.declared.state.Decision.TheVariants.{Restart}
-use Rattle.sh_client.specs.declared.state.Phase.TheVariants.{ReadLocked, Waiting}
-use Rattle.sh_client.specs.declared.state.Then.TheVariants.{Starts}
-use Rattle.sh_client.specs.declared.state.Write.TheVariants.{Nothing}
-use Rattle.sh_client.specs.Courses.{node_read, wants_over, GivesBack}
-use Rattle.sh_decide.specs.Deciding.{decision_of}
-use Rattle.sh_client.specs.Cached.{settling}
-use Rattle.sh_client.specs.Feeds.{did, fed_by, fed_in, held_by, hold_by, loaded}
-use Rattle.sh_client.specs.Giving.{carried, released}
-use Rattle.sh_client.specs.Machine.{Machine, to}
-use Rattle.sh_client.specs.Splitting.{giving_of}
+use Rattle.sh_read.specs.{declared.state.Progress.TheVariants.{Accepted, Odd}, Reads.{accepted, progress_of, read_fed}}
+use Rattle.sh_decide.specs.{declared.state.{Aim.{Aim}, Decision.TheVariants.{Restart}}, Deciding.{decision_of}}
+use Rattle.sh_client.specs.{declared.state.{Phase.TheVariants.{ReadLocked, Waiting}, Then.TheVariants.{Starts}, Write.TheVariants.{Nothing}}, Courses.{node_read, wants_over, GivesBack}}
+use Rattle.sh_client.specs.{Cached.{settling}, Feeds.{did, fed_by, fed_in, held_by, hold_by, loaded}, Giving.{carried, released}, Machine.{Machine, to}, Splitting.{giving_of}}
 use Rattle.sh_client.proofs.GiveLemmas.{freed}
 
 gives_back : (m : Machine) (node depth : ℕ) (aim : Aim) → GivesBack (to m (Waiting depth (giving_of node Nothing (Starts aim)))) node depth aim

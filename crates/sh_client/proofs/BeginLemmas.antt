@@ -1,20 +1,11 @@
 -- What a client is that has begun a call.
-use Rattle.std.proofs.Common.{◌≡◌, ◌≢◌, ℕ, Bool, true, false, Option, Some, None, refl}
-use Rattle.std.specs.Prelude.{if◌then◌else◌}
+use Rattle.std.{proofs.Common.{◌≡◌, ◌≢◌, ℕ, Bool, true, false, Option, Some, None, refl}, specs.Prelude.{if◌then◌else◌}}
 use Rattle.sh_map.specs.declared.call.Call.{Call}
 use Rattle.sh_read.specs.Reads.{reads_start, wanted}
-use Rattle.sh_decide.specs.declared.state.Aim.TheVariants.{Own}
-use Rattle.sh_decide.specs.Aims.{aim_of, call_key, takes_lock}
-use Rattle.sh_client.specs.declared.state.Origin.{Origin}
-use Rattle.sh_client.specs.declared.state.Phase.TheVariants.{Read, Draw}
+use Rattle.sh_decide.specs.{declared.state.Aim.TheVariants.{Own}, Aims.{aim_of, call_key, takes_lock}}
+use Rattle.sh_client.specs.{declared.state.{Origin.{Origin}, Phase.TheVariants.{Read, Draw}}, InLine.{Away, stand_of}, Machine.{Machine, began_cached, reading, to}, Cached.{origin_of}}
+use Rattle.sh_client.{specs.{Feeds.{began_at, begun, calling, from_cached}, Rests.{is_resting}, Wants.{load_of, want_of}}, proofs.ReadLemmas.{start_loading}}
 use Rattle.sh_client.specs.declared.state.Want.TheVariants as want
-use Rattle.sh_client.specs.InLine.{Away, stand_of}
-use Rattle.sh_client.specs.Machine.{Machine, began_cached, reading, to}
-use Rattle.sh_client.specs.Cached.{origin_of}
-use Rattle.sh_client.specs.Feeds.{began_at, begun, calling, from_cached}
-use Rattle.sh_client.specs.Rests.{is_resting}
-use Rattle.sh_client.specs.Wants.{load_of, want_of}
-use Rattle.sh_client.proofs.ReadLemmas.{start_loading}
 
 -- It has the call, stands in no line, and wants a turn.
 pub record HasBegun (m : Machine) (call : Call) : Type 0 where

@@ -1,34 +1,16 @@
 -- What a client's turns do to its cached nodes: each lemma says that a part of a turn leaves them, and the counter of calls
 -- that began at one.
-use Rattle.std.proofs.Common.{rules, ◌≡◌, ℕ, Bool, true, false, Option, Some, None, refl, ap, ◌∙◌}
-use Rattle.std.specs.Option.{option_map}
-use Rattle.std.specs.Prelude.{if◌then◌else◌}
+use Rattle.std.{proofs.Common.{rules, ◌≡◌, ℕ, Bool, true, false, Option, Some, None, refl, ap, ◌∙◌}, specs.{Option.{option_map}, Prelude.{if◌then◌else◌}}}
 use Rattle.sh_alloc.specs.declared.state.ChunkWant.{ChunkWant}
 use Rattle.sh_map.specs.declared.call.Call.{Call}
-use Rattle.sh_image.specs.Inner.{Inner}
-use Rattle.sh_image.specs.declared.inner.Image.{Image}
-use Rattle.sh_read.specs.Reads.{accepted, progress_of}
-use Rattle.sh_read.specs.declared.state.Progress.{Progress}
-use Rattle.sh_read.specs.declared.state.Progress.TheVariants.{More, Accepted, Again, Odd}
+use Rattle.sh_image.specs.{Inner.{Inner}, declared.inner.Image.{Image}}
+use Rattle.sh_read.specs.{Reads.{accepted, progress_of}, declared.state.Progress.{Progress, TheVariants.{More, Accepted, Again, Odd}}}
 use Rattle.sh_cache.specs.Cached.{found}
-use Rattle.sh_decide.specs.declared.state.Aim.{Aim}
-use Rattle.sh_decide.specs.declared.state.Aim.TheVariants.{Own, Gathers, Posts}
-use Rattle.sh_decide.specs.Aims.{aim_of, call_key, takes_lock}
-use Rattle.sh_decide.specs.declared.state.Decision.{Decision}
-use Rattle.sh_decide.specs.declared.state.Way.{Way}
-use Rattle.sh_client.specs.declared.state.Edge.{Edge}
-use Rattle.sh_client.specs.declared.state.Need.{Need}
-use Rattle.sh_client.specs.declared.state.Origin.{Origin}
-use Rattle.sh_client.specs.declared.state.Phase.{Phase}
-use Rattle.sh_client.specs.declared.state.Phase.TheVariants.{Read, Draw, ReadLocked}
-use Rattle.sh_client.specs.Machine.{Machine, began_cached, reading, to}
-use Rattle.sh_client.specs.Cached.{learning, origin_in, settling}
-use Rattle.sh_client.specs.CachedTurns.{KeepsCached, BeginsBy, first_turn, image_by, learnt, learnt_by, learnt_in, settles}
-use Rattle.sh_client.specs.Courses.{KeepsCall}
+use Rattle.sh_decide.specs.{declared.state.{Aim.{Aim, TheVariants.{Own, Gathers, Posts}}, Decision.{Decision}, Way.{Way}}, Aims.{aim_of, call_key, takes_lock}}
+use Rattle.sh_client.specs.{declared.state.{Edge.{Edge}, Need.{Need}, Origin.{Origin}, Phase.{Phase, TheVariants.{Read, Draw, ReadLocked}}}, Machine.{Machine, began_cached, reading, to}}
+use Rattle.sh_client.specs.{Cached.{learning, origin_in, settling}, CachedTurns.{KeepsCached, BeginsBy, first_turn, image_by, learnt, learnt_by, learnt_in, settles}, Courses.{KeepsCall}}
 use Rattle.sh_client.specs.Feeds.{arrived, began_at, begun, calling, did, fed_by, fed_in, from_cached, held_by, hold_by, loaded, read_by, turned_by, turned_in, went}
-use Rattle.sh_client.specs.Ranges.{edge_of, gathered, gathering, rows_taken}
-use Rattle.sh_client.specs.Splitting.{needing, sought_by, with_fresh}
-use Rattle.sh_client.specs.Wants.{want_of}
+use Rattle.sh_client.specs.{Ranges.{edge_of, gathered, gathering, rows_taken}, Splitting.{needing, sought_by, with_fresh}, Wants.{want_of}}
 
 fresh_goes_on : (m : Machine) (fresh : ℕ) (need : Need) → KeepsCached m (with_fresh m fresh need)
 fresh_goes_on m fresh need = search rules

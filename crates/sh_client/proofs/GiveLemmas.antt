@@ -1,42 +1,19 @@
 -- The turns of a client that gives a lock back.
 use Rattle.std.proofs.Common.{rules, ◌≡◌, ◌≢◌, ◌⊎◌, ℕ, zero, suc, ◌+◌, ◌-◌, ◌<◌, ◌≤◌, false, cond, Option, None, List, [], ◌∷◌, length, drop, refl, sym, ap, subst, ◌∙◌, arith}
-use Rattle.std.specs.Prelude.{slice_index}
-use Rattle.std.proofs.lemmas.Bool.Decides.{nat_tests}
-use Rattle.std.proofs.lemmas.List.{drop_all, length-replicate}
+use Rattle.std.{specs.Prelude.{slice_index}, proofs.lemmas.{Bool.Decides.{nat_tests}, List.{drop_all, length-replicate}}}
 use Rattle.sh_logic.proofs.Tests.{same_test, differ_test}
-use Rattle.sh_base.specs.declared.event.Event.TheVariants.{Store}
-use Rattle.sh_base.specs.Layout.{entry_at, node_word}
-use Rattle.sh_base.specs.Setting.{entry_size, node_size}
-use Rattle.sh_image.specs.Leaf.{Leaf as LeafOf, IsLeaf, leaf_words}
-use Rattle.sh_base.specs.declared.config.ConfigParts.{ConfigParts}
-use Rattle.sh_map.specs.declared.call.Call.{Call}
-use Rattle.sh_map.specs.declared.call.Call.TheVariants.{Get, Put, Del, Range}
-use Rattle.sh_map.specs.Calls.{IsInRange}
-use Rattle.sh_image.proofs.LeafLemmas.{length-leaf_words}
-use Rattle.sh_client.proofs.ImageLemmas.{entry_is_whole, rewritten_count, rewritten_words}
-use Rattle.sh_image.specs.Entries.{entry_words}
-use Rattle.sh_image.specs.declared.inner.Image.TheVariants.{Leaf as OfLeaf}
+use Rattle.sh_base.specs.{declared.{event.Event.TheVariants.{Store}, config.ConfigParts.{ConfigParts}}, Layout.{entry_at, node_word}, Setting.{entry_size, node_size}}
+use Rattle.sh_image.{specs.{Leaf.{Leaf as LeafOf, IsLeaf, leaf_words}, Entries.{entry_words}, declared.inner.Image.TheVariants.{Leaf as OfLeaf}}, proofs.LeafLemmas.{length-leaf_words}}
+use Rattle.sh_map.specs.{declared.call.Call.{Call, TheVariants.{Get, Put, Del, Range}}, Calls.{IsInRange}}
+use Rattle.sh_client.{proofs.ImageLemmas.{entry_is_whole, rewritten_count, rewritten_words}, specs.declared.state.{Phase.TheVariants.{Waiting, Body}, Then.TheVariants.{Ends}, Write.{Write}}}
+use Rattle.sh_client.specs.{declared.state.Write.TheVariants.{Entry, Leaf}, Machine.{Machine, answering, storing, to}, Bodies.{answer_in, entry_left}}
+use Rattle.sh_client.specs.{Courses.{after_stores, node_read, stores_of, wants_over, Finds, StoresThenFrees}, Cached.{settling}, Feeds.{did, fed_by, fed_in, held_by, hold_by, loaded}}
+use Rattle.sh_client.specs.{Giving.{carried, counted, released, writes_nothing, write_begun}, Splitting.{giving_of}, declared.state.Giving.{Giving}, Wants.{lock_word_of, offset_of, want_of}}
 use Rattle.sh_edit.specs.Rewriting.{rewritten}
-use Rattle.sh_lock.specs.declared.state.Release.TheVariants.{Free}
-use Rattle.sh_lock.specs.Locks.{release_of}
-use Rattle.sh_decide.specs.declared.state.Aim.TheVariants.{Own}
-use Rattle.sh_decide.specs.declared.state.Decision.{Decision}
+use Rattle.sh_lock.specs.{declared.state.Release.TheVariants.{Free}, Locks.{release_of}}
+use Rattle.sh_decide.specs.{declared.state.{Aim.TheVariants.{Own}, Decision.{Decision}}, Aims.{written_key, written_value}}
 use Rattle.sh_decide.specs.declared.state.Decision.TheVariants as decision
-use Rattle.sh_client.specs.declared.state.Phase.TheVariants.{Waiting, Body}
-use Rattle.sh_client.specs.declared.state.Then.TheVariants.{Ends}
 use Rattle.sh_client.specs.declared.state.Want.TheVariants as want
-use Rattle.sh_client.specs.declared.state.Write.{Write}
-use Rattle.sh_client.specs.declared.state.Write.TheVariants.{Entry, Leaf}
-use Rattle.sh_client.specs.Machine.{Machine, answering, storing, to}
-use Rattle.sh_client.specs.Bodies.{answer_in, entry_left}
-use Rattle.sh_decide.specs.Aims.{written_key, written_value}
-use Rattle.sh_client.specs.Courses.{after_stores, node_read, stores_of, wants_over, Finds, StoresThenFrees}
-use Rattle.sh_client.specs.Cached.{settling}
-use Rattle.sh_client.specs.Feeds.{did, fed_by, fed_in, held_by, hold_by, loaded}
-use Rattle.sh_client.specs.Giving.{carried, counted, released, writes_nothing, write_begun}
-use Rattle.sh_client.specs.Splitting.{giving_of}
-use Rattle.sh_client.specs.declared.state.Giving.{Giving}
-use Rattle.sh_client.specs.Wants.{lock_word_of, offset_of, want_of}
 
 drop_head : (xs : List ℕ) (k : ℕ) → k < length xs → drop k xs ≡ slice_index xs k ∷ drop (suc k) xs
 drop_head [] k h = absurd (omega (arith, h))

@@ -1,38 +1,17 @@
 -- What the rules of a node give the changes of it.
 use Rattle.std.proofs.Math.Nat.{mul-le-mul_right}
 use Rattle.std.proofs.Common.{◌≡◌, ◌≢◌, ℕ, zero, suc, ◌+◌, ◌-◌, ◌*◌, ◌<◌, ◌≤◌, Bool, true, false, cond, List, [], ◌∷◌, ◌++◌, length, map, take, drop, length-append, length-drop, Some, refl, ap, sym, subst, inl, inr, ◌∙◌, arith}
-use Rattle.std.specs.Prelude.{replicate, ◌==◌}
-use Rattle.std.specs.List.{AllByRecursion}
-use Rattle.std.proofs.lemmas.List.{length-map, length-replicate, length-set, length-take-le}
-use Rattle.std.proofs.lemmas.Bool.{cases_lt}
-use Rattle.sh_logic.proofs.Lists.{all_set, all_take, all_drop}
-use Rattle.sh_logic.proofs.Tests.{less_test, not_less_test, differ_test}
-use Rattle.sh_base.specs.declared.config.ConfigParts.{ConfigParts}
-use Rattle.sh_image.specs.declared.leaf.LeafEntry.{LeafEntry}
-use Rattle.sh_image.specs.declared.inner.Image.{Image}
-use Rattle.sh_image.specs.declared.inner.Image.TheVariants.{Leaf as OfLeaf, Inner as OfInner}
-use Rattle.sh_image.specs.Leaf.{HaveWords, IsLeaf, Leaf as LeafOf}
-use Rattle.sh_image.specs.Node.{IsImage}
-use Rattle.sh_image.proofs.LeafLemmas.{values_of}
-use Rattle.sh_edit.specs.Held.{pairs_of}
-use Rattle.sh_edit.specs.Rewriting.{cleared, rewritten}
-use Rattle.sh_edit.specs.Splitting.{empty_like, entry_with, left_count, left_half, pairs_after, right_half, IsSplit}
-use Rattle.sh_base.specs.Setting.{entry_size, node_size, nodes, IsNode, IsSetting}
-use Rattle.sh_base.specs.Layout.{first_node, node_word}
+use Rattle.std.{specs.{Prelude.{replicate, ◌==◌}, List.{AllByRecursion}}, proofs.lemmas.{List.{length-map, length-replicate, length-set, length-take-le}, Bool.{cases_lt}}}
+use Rattle.sh_logic.proofs.{Lists.{all_set, all_take, all_drop}, Tests.{less_test, not_less_test, differ_test}}
+use Rattle.sh_base.specs.{declared.config.ConfigParts.{ConfigParts}, Setting.{entry_size, node_size, nodes, IsNode, IsSetting}, Layout.{first_node, node_word}}
 use Rattle.sh_base.proofs.LayoutLemmas.{entry_size_is, node_size_is, node_word_high, nodes_small}
-use Rattle.sh_alloc.specs.declared.state.NodeRange.{NodeRange}
-use Rattle.sh_alloc.specs.Spares.{nodes_from, without_lowest}
-use Rattle.sh_client.specs.declared.state.Write.{Write}
-use Rattle.sh_client.specs.declared.state.Write.TheVariants.{Nothing, Entry}
-use Rattle.sh_client.specs.Giving.{writes_nothing}
-use Rattle.sh_client.specs.Sound.{AreSpare, IsBody, IsFilled}
-use Rattle.sh_image.specs.Entries.{entry_words}
-use Rattle.sh_image.specs.declared.inner.Pair.{Pair}
-use Rattle.sh_edit.specs.Pairing.{pairs_with, right_inner}
-use Rattle.sh_image.specs.Inner.{Inner as InnerOf}
-use Rattle.sh_read.specs.Reads.{Reads, accepted}
-use Rattle.sh_read.proofs.CauseLemmas.{image_spelled}
-use Rattle.sh_edit.proofs.SplitLemmas.{all_after, length-pairs_after}
+use Rattle.sh_image.specs.{declared.{leaf.LeafEntry.{LeafEntry}, inner.Image.{Image, TheVariants.{Leaf as OfLeaf, Inner as OfInner}}}, Leaf.{HaveWords, IsLeaf, Leaf as LeafOf}, Node.{IsImage}}
+use Rattle.sh_image.{proofs.LeafLemmas.{values_of}, specs.{Entries.{entry_words}, declared.inner.Pair.{Pair}, Inner.{Inner as InnerOf}}}
+use Rattle.sh_edit.specs.{Held.{pairs_of}, Rewriting.{cleared, rewritten}, Splitting.{empty_like, entry_with, left_count, left_half, pairs_after, right_half, IsSplit}}
+use Rattle.sh_edit.{specs.Pairing.{pairs_with, right_inner}, proofs.SplitLemmas.{all_after, length-pairs_after}}
+use Rattle.sh_alloc.specs.{declared.state.NodeRange.{NodeRange}, Spares.{nodes_from, without_lowest}}
+use Rattle.sh_client.specs.{declared.state.Write.{Write, TheVariants.{Nothing, Entry}}, Giving.{writes_nothing}, Sound.{AreSpare, IsBody, IsFilled}}
+use Rattle.sh_read.{specs.Reads.{Reads, accepted}, proofs.CauseLemmas.{image_spelled}}
 
 pub one_pair_more : (xs : List Pair) (new : Pair) → length (pairs_with xs new) ≡ length xs + 1
 one_pair_more [] new = refl

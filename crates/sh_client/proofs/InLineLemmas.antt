@@ -1,60 +1,25 @@
 -- Where a client stands in the ticket lines, turn by turn.
-use Rattle.std.proofs.Common.{◌≡◌, ℕ, ◌+◌, ◌==◌, Bool, true, false, cond, Option, Some, None, length, refl, ◌∙◌, sym, ap, subst, suc, zero}
-use Rattle.sh_base.specs.Setting.{node_size}
-use Rattle.sh_alloc.specs.declared.state.ChunkWant.{ChunkWant}
-use Rattle.sh_alloc.specs.declared.state.ChunkWant.TheVariants as chunk
-use Rattle.sh_alloc.specs.Spares.{lowest, nodes_from, with_lowest, without_lowest}
-use Rattle.sh_alloc.specs.Walks.{walk_fed, walk_start, walk_wants}
-use Rattle.sh_base.specs.Layout.{first_node}
-use Rattle.sh_image.specs.declared.inner.Image.{Image}
-use Rattle.sh_image.specs.declared.inner.Image.TheVariants.{Leaf as OfLeaf, Inner as OfInner}
-use Rattle.sh_lock.specs.Locks.{release_of}
-use Rattle.sh_read.specs.declared.state.Progress.{Progress}
-use Rattle.sh_read.specs.declared.state.Progress.TheVariants.{More, Accepted, Again, Odd}
-use Rattle.sh_read.specs.Reads.{accepted, progress_of}
-use Rattle.sh_decide.specs.declared.state.Aim.{Aim}
-use Rattle.sh_decide.specs.declared.state.Aim.TheVariants.{Own, Gathers, Posts}
-use Rattle.sh_decide.specs.declared.state.Decision.{Decision}
-use Rattle.sh_decide.specs.declared.state.Decision.TheVariants as decision
-use Rattle.sh_client.specs.declared.state.Phase.{Phase}
-use Rattle.sh_client.specs.declared.state.Phase.TheVariants.{Root, Read, Draw, Look, Grab, ReadLocked, Seek, Fill, Waiting, Body, Unlock, Leave, Swap, Ended}
-use Rattle.sh_client.specs.declared.state.Giving.{Giving}
-use Rattle.sh_client.specs.declared.state.Need.{Need}
-use Rattle.sh_client.specs.declared.state.Need.TheVariants.{ToSplit, ToGrow}
-use Rattle.sh_client.specs.declared.state.Filling.{Filling}
-use Rattle.sh_client.specs.declared.state.Filling.TheVariants.{RightHalf, NewRoot}
-use Rattle.sh_alloc.specs.declared.state.NodeRange.{NodeRange}
+use Rattle.std.{proofs.Common.{◌≡◌, ℕ, ◌+◌, ◌==◌, Bool, true, false, cond, Option, Some, None, length, refl, ◌∙◌, sym, ap, subst, suc, zero, inl, inr}, specs.Prelude.{nat_lt, ◌⊎◌, ◌∷◌}}
+use Rattle.sh_base.specs.{Setting.{node_size}, Layout.{first_node, lock_of}, declared.config.ConfigParts.{ConfigParts}}
+use Rattle.sh_alloc.specs.{declared.state.{ChunkWant.{ChunkWant}, NodeRange.{NodeRange}}, Spares.{lowest, nodes_from, with_lowest, without_lowest}, Walks.{walk_fed, walk_start, walk_wants}}
 use Rattle.sh_alloc.specs.declared.state.Walk.{Walk}
-use Rattle.sh_client.specs.declared.state.Then.{Then}
-use Rattle.sh_client.specs.declared.state.Then.TheVariants.{Ends, Starts, Takes}
-use Rattle.sh_decide.specs.declared.state.Way.{Way}
-use Rattle.sh_decide.specs.declared.state.Way.TheVariants as way
-use Rattle.sh_client.specs.declared.state.Write.{Write}
-use Rattle.sh_client.specs.declared.state.Write.TheVariants.{Leaf, LeftLeaf, LeftInner}
-use Rattle.sh_decide.specs.Aims.{end_of, is_node}
-use Rattle.sh_decide.specs.Deciding.{decision_of}
-use Rattle.sh_client.specs.Feeds.{arrived, did, fed_in, from_root, held_by, hold_by, loaded, read_by, turned_in, went}
-use Rattle.sh_client.specs.Cached.{learning, settling}
-use Rattle.sh_client.specs.Ranges.{edge_of, gathered, gathering, is_whole, passing, range_ended, rows_taken}
-use Rattle.sh_client.specs.declared.state.Edge.{Edge}
-use Rattle.sh_client.specs.Giving.{carried, counted, followed, queue_left, released, writes_nothing, write_begun}
-use Rattle.sh_client.specs.Machine.{Machine, handed_over, reading, rewrite_done, sparing, split_done, to}
-use Rattle.sh_client.specs.Splitting.{all_spent, chunk_taken, fill_done, root_grown, halved, halved_by, needing, sought_by, walked, with_fresh}
-use Rattle.sh_decide.specs.Ways.{way_of}
-use Rattle.sh_client.specs.declared.state.Want.{Want}
-use Rattle.sh_client.specs.declared.state.Want.TheVariants as want
-use Rattle.sh_client.specs.Wants.{count_of, load_of, want_in}
-use Rattle.sh_base.specs.Layout.{lock_of}
-use Rattle.sh_base.specs.declared.config.ConfigParts.{ConfigParts}
-use Rattle.sh_lock.specs.declared.state.Release.{Release}
-use Rattle.sh_lock.specs.declared.state.Release.TheVariants.{Hand, Free}
-use Rattle.sh_read.specs.Reads.{Reads, reads_left, reads_with, wanted, read_fed}
-use Rattle.sh_image.specs.declared.read.Seen.{Seen}
+use Rattle.sh_alloc.specs.declared.state.ChunkWant.TheVariants as chunk
+use Rattle.sh_image.specs.declared.{inner.Image.{Image, TheVariants.{Leaf as OfLeaf, Inner as OfInner}}, read.Seen.{Seen}}
 use Rattle.sh_image.specs.declared.read.Seen.TheVariants.{Leaf as LeafSeen, Inner as InnerSeen, Torn, TornEntry, Odd as OddSeen}
+use Rattle.sh_lock.specs.{Locks.{release_of}, declared.state.Release.{Release, TheVariants.{Hand, Free}}}
+use Rattle.sh_read.specs.{declared.state.Progress.{Progress, TheVariants.{More, Accepted, Again, Odd}}, Reads.{accepted, progress_of, Reads, reads_left, reads_with, wanted, read_fed}}
 use Rattle.sh_read.specs.Judging.{seen_of}
-use Rattle.std.specs.Prelude.{nat_lt, ◌⊎◌, ◌∷◌}
-use Rattle.std.proofs.Common.{inl, inr}
-use Rattle.sh_client.specs.InLine.{Stand, Away, Waits, Served, is_some, stand_for_filling, stand_for_need, stand_in, stand_of, MayHand}
+use Rattle.sh_decide.specs.{declared.state.{Aim.{Aim, TheVariants.{Own, Gathers, Posts}}, Decision.{Decision}, Way.{Way}}, Aims.{end_of, is_node}, Deciding.{decision_of}, Ways.{way_of}}
+use Rattle.sh_decide.specs.declared.state.Decision.TheVariants as decision
+use Rattle.sh_client.specs.declared.state.{Phase.{Phase, TheVariants.{Root, Read, Draw, Look, Grab, ReadLocked, Seek, Fill, Waiting, Body, Unlock, Leave, Swap, Ended}}, Giving.{Giving}, Need.{Need}}
+use Rattle.sh_client.specs.declared.state.{Need.TheVariants.{ToSplit, ToGrow}, Filling.{Filling, TheVariants.{RightHalf, NewRoot}}, Then.{Then, TheVariants.{Ends, Starts, Takes}}, Write.{Write}}
+use Rattle.sh_client.specs.{declared.state.Write.TheVariants.{Leaf, LeftLeaf, LeftInner}, Feeds.{arrived, did, fed_in, from_root, held_by, hold_by, loaded, read_by, turned_in, went}}
+use Rattle.sh_client.specs.{Cached.{learning, settling}, Ranges.{edge_of, gathered, gathering, is_whole, passing, range_ended, rows_taken}, declared.state.Edge.{Edge}}
+use Rattle.sh_client.specs.{Giving.{carried, counted, followed, queue_left, released, writes_nothing, write_begun}, Machine.{Machine, handed_over, reading, rewrite_done, sparing, split_done, to}}
+use Rattle.sh_client.specs.{Splitting.{all_spent, chunk_taken, fill_done, root_grown, halved, halved_by, needing, sought_by, walked, with_fresh}, declared.state.Want.{Want}}
+use Rattle.sh_client.specs.{Wants.{count_of, load_of, want_in}, InLine.{Stand, Away, Waits, Served, is_some, stand_for_filling, stand_for_need, stand_in, stand_of, MayHand}}
+use Rattle.sh_decide.specs.declared.state.Way.TheVariants as way
+use Rattle.sh_client.specs.declared.state.Want.TheVariants as want
 
 either : (x y : Machine) (k : Stand) (b : Bool) → stand_of x ≡ k → stand_of y ≡ k → stand_of (cond b x y) ≡ k
 either x y k true h e = h

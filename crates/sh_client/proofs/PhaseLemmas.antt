@@ -1,28 +1,14 @@
 -- What a client was at is nothing to where an image leads it.
 use Rattle.std.proofs.Common.{◌≡◌, ℕ, Bool, true, false, cond, Option, Some, None, refl, sym, ap, ◌∙◌}
-use Rattle.sh_image.specs.declared.inner.Image.{Image}
-use Rattle.sh_image.specs.declared.inner.Image.TheVariants.{Leaf as LeafImage, Inner as InnerImage}
+use Rattle.sh_image.specs.declared.inner.Image.{Image, TheVariants.{Leaf as LeafImage, Inner as InnerImage}}
 use Rattle.sh_alloc.specs.Spares.{lowest, without_lowest}
-use Rattle.sh_decide.specs.Aims.{end_of, is_node}
+use Rattle.sh_decide.specs.{Aims.{end_of, is_node}, declared.state.{Aim.{Aim, TheVariants.{Own, Gathers, Posts}}, Decision.{Decision}, Way.{Way}}, Deciding.{decision_of}, Ways.{way_of}}
 use Rattle.sh_read.specs.Reads.{accepted}
-use Rattle.sh_decide.specs.declared.state.Aim.{Aim}
-use Rattle.sh_decide.specs.declared.state.Aim.TheVariants.{Own, Gathers, Posts}
-use Rattle.sh_decide.specs.declared.state.Decision.{Decision}
 use Rattle.sh_decide.specs.declared.state.Decision.TheVariants as decision
-use Rattle.sh_decide.specs.declared.state.Way.{Way}
 use Rattle.sh_decide.specs.declared.state.Way.TheVariants as way
-use Rattle.sh_client.specs.declared.state.Edge.{Edge}
-use Rattle.sh_client.specs.declared.state.Need.{Need}
-use Rattle.sh_client.specs.declared.state.Need.TheVariants.{ToSplit, ToGrow}
-use Rattle.sh_client.specs.declared.state.Phase.{Phase}
-use Rattle.sh_client.specs.declared.state.Phase.TheVariants.{Idle, Root, Read}
-use Rattle.sh_client.specs.Machine.{Machine, reading, to, sparing}
-use Rattle.sh_client.specs.Ranges.{edge_of, gathered, gathering, is_whole, passing, range_ended, rows_taken}
-use Rattle.sh_client.specs.Splitting.{halved, halved_by, needing, root_grown, with_fresh}
-use Rattle.sh_client.specs.Cached.{learning, settling}
-use Rattle.sh_client.specs.Feeds.{arrived, did, held_by, went}
-use Rattle.sh_decide.specs.Deciding.{decision_of}
-use Rattle.sh_decide.specs.Ways.{way_of}
+use Rattle.sh_client.specs.{declared.state.{Edge.{Edge}, Need.{Need, TheVariants.{ToSplit, ToGrow}}, Phase.{Phase, TheVariants.{Idle, Root, Read}}}, Machine.{Machine, reading, to, sparing}}
+use Rattle.sh_client.specs.{Ranges.{edge_of, gathered, gathering, is_whole, passing, range_ended, rows_taken}, Splitting.{halved, halved_by, needing, root_grown, with_fresh}}
+use Rattle.sh_client.specs.{Cached.{learning, settling}, Feeds.{arrived, did, held_by, went}}
 
 module _ (m : Machine) (phase : Phase) where
   abbrev m' : Machine

@@ -1,14 +1,9 @@
 -- What a READ leaves behind a word.
-use Rattle.std.proofs.Common.{rules, ◌≡◌, ◌≢◌, ℕ, ◌+◌, ◌-◌, Bool, true, false, ◌∷◌, length, Some, None, refl, arith}
-use Rattle.std.specs.Prelude.{nat_lt}
+use Rattle.std.{proofs.Common.{rules, ◌≡◌, ◌≢◌, ℕ, ◌+◌, ◌-◌, Bool, true, false, ◌∷◌, length, Some, None, refl, arith}, specs.Prelude.{nat_lt}}
 use Rattle.sh_logic.proofs.Tests.{less_test}
-use Rattle.sh_base.specs.declared.config.ConfigParts.{ConfigParts}
-use Rattle.sh_base.specs.Setting.{node_size}
-use Rattle.sh_base.specs.Layout.{node_word}
-use Rattle.sh_base.proofs.LayoutLemmas.{node_size_is}
+use Rattle.sh_base.{specs.{declared.config.ConfigParts.{ConfigParts}, Setting.{node_size}, Layout.{node_word}}, proofs.LayoutLemmas.{node_size_is}}
 use Rattle.sh_image.specs.declared.read.Seen.{Seen}
-use Rattle.sh_read.specs.Judging.{seen_of}
-use Rattle.sh_read.specs.Reads.{Reads, answer_to, read_fed, reads_left, progress_of, reads_with, reads_start}
+use Rattle.sh_read.specs.{Judging.{seen_of}, Reads.{Reads, answer_to, read_fed, reads_left, progress_of, reads_with, reads_start}}
 use Rattle.sh_client.specs.Sound.{IsLoading, Leaves}
 
 some_is : {X : Type 0} (x : X) → Some x ≢ None

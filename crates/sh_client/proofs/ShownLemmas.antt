@@ -1,26 +1,13 @@
 -- What the image that a word shows does to the cached nodes.
-use Rattle.std.proofs.Common.{◌≡◌, ◌⊎◌, ℕ, ◌<◌, ◌≤◌, Bool, true, false, List, length, Option, Some, None, refl, sym, ap, ◌∙◌, subst, inl, inr, arith}
-use Rattle.std.specs.Prelude.{if◌then◌else◌}
-use Rattle.std.specs.List.{Contains}
-use Rattle.std.specs.Option.{unwrap_or}
-use Rattle.std.proofs.lemmas.Bool.Decides.{nat_tests}
+use Rattle.std.{proofs.Common.{◌≡◌, ◌⊎◌, ℕ, ◌<◌, ◌≤◌, Bool, true, false, List, length, Option, Some, None, refl, sym, ap, ◌∙◌, subst, inl, inr, arith}, specs.Prelude.{if◌then◌else◌}}
+use Rattle.std.{specs.{List.{Contains}, Option.{unwrap_or}}, proofs.lemmas.Bool.Decides.{nat_tests}}
 use Rattle.sh_logic.proofs.Tests.{same_test}
-use Rattle.sh_image.specs.Inner.{Inner}
-use Rattle.sh_image.specs.declared.inner.Image.{Image}
-use Rattle.sh_image.specs.declared.inner.Image.TheVariants.{Leaf as LeafImage, Inner as InnerImage}
-use Rattle.sh_cache.specs.Cached.{forgotten, kept, HaveOwnLows, IsOldest}
-use Rattle.sh_cache.proofs.RowLemmas.{forgotten_gone, forgotten_was, kept_was}
+use Rattle.sh_image.specs.{Inner.{Inner}, declared.inner.Image.{Image, TheVariants.{Leaf as LeafImage, Inner as InnerImage}}}
+use Rattle.sh_cache.{specs.Cached.{forgotten, kept, HaveOwnLows, IsOldest}, proofs.RowLemmas.{forgotten_gone, forgotten_was, kept_was}}
 use Rattle.sh_cache.proofs.StayLemmas.{forgotten_stays, kept_here, kept_stays, lacks_each, oldest_before}
-use Rattle.sh_decide.specs.declared.state.Aim.{Aim}
-use Rattle.sh_decide.specs.Aims.{target}
-use Rattle.sh_decide.specs.Ways.{leads_right}
-use Rattle.sh_client.specs.declared.state.Phase.{Phase}
-use Rattle.sh_client.specs.declared.state.Phase.TheVariants.{Read, ReadLocked}
-use Rattle.sh_client.specs.Machine.{Machine}
-use Rattle.sh_client.specs.Cached.{is_kept, keeping, without_origin}
-use Rattle.sh_client.specs.CachedTurns.{image_shown, learnt, learnt_by, learnt_in, read_aim, settles, IsReplaced, IsStale, ShowsParent}
-use Rattle.sh_client.specs.Feeds.{fed_by, loaded}
-use Rattle.sh_client.proofs.CachedLemmas.{fed_learns}
+use Rattle.sh_decide.specs.{declared.state.Aim.{Aim}, Aims.{target}, Ways.{leads_right}}
+use Rattle.sh_client.specs.{declared.state.Phase.{Phase, TheVariants.{Read, ReadLocked}}, Machine.{Machine}, Cached.{is_kept, keeping, without_origin}}
+use Rattle.sh_client.{specs.{CachedTurns.{image_shown, learnt, learnt_by, learnt_in, read_aim, settles, IsReplaced, IsStale, ShowsParent}, Feeds.{fed_by, loaded}}, proofs.CachedLemmas.{fed_learns}}
 
 -- a node that is kept is one of level 1 on the way to a leaf
 kept_parent : (aim : Aim) (a : Inner) → is_kept aim a ≡ true → (target aim ≡ 0) × (a.level ≡ 1)

@@ -5,19 +5,10 @@ use Rattle.sh_alloc.specs.Walks.{walk_wants}
 use Rattle.sh_map.specs.declared.call.Reply.{Reply}
 use Rattle.sh_read.specs.Reads.{wanted}
 use Rattle.sh_decide.specs.declared.state.Aim.{Aim}
-use Rattle.sh_client.specs.declared.state.Then.{Then}
-use Rattle.sh_client.specs.declared.state.Phase.{Phase}
-use Rattle.sh_client.specs.declared.state.Phase.TheVariants.{Idle, Read, Look, ReadLocked, Seek, Body, Leave, Ended}
-use Rattle.sh_client.specs.declared.state.Want.{Want}
-use Rattle.sh_client.specs.declared.state.Want.TheVariants as want
-use Rattle.sh_client.specs.Feeds.{fed_in}
-use Rattle.sh_client.specs.Giving.{made_in, makes}
-use Rattle.sh_client.specs.InLine.{Away, stand_in}
-use Rattle.sh_client.specs.Machine.{Machine}
-use Rattle.sh_client.specs.Rests.{has_ended, is_resting, reply_in, rests}
-use Rattle.sh_client.specs.Steps.{looks_in}
-use Rattle.sh_client.specs.Wants.{count_of, load_of, want_in, want_of}
+use Rattle.sh_client.specs.{declared.state.{Then.{Then}, Phase.{Phase, TheVariants.{Idle, Read, Look, ReadLocked, Seek, Body, Leave, Ended}}, Want.{Want}}, Feeds.{fed_in}, Giving.{made_in, makes}}
+use Rattle.sh_client.specs.{InLine.{Away, stand_in}, Machine.{Machine}, Rests.{has_ended, is_resting, reply_in, rests}, Steps.{looks_in}, Wants.{count_of, load_of, want_in, want_of}}
 use Rattle.sh_client.proofs.InLineLemmas.{load_is, count_is, not_elsewhere, Elsewhere}
+use Rattle.sh_client.specs.declared.state.Want.TheVariants as want
 
 -- ---- by what it wants
 

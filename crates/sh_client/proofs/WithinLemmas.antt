@@ -1,11 +1,6 @@
 -- The words of locks and counters, and the root word, lie in the pool.
 use Rattle.std.proofs.Common.{◌≡◌, ℕ, ◌<◌, subst, sym, arith}
-use Rattle.sh_base.specs.declared.config.ConfigParts.{ConfigParts}
-use Rattle.sh_base.specs.declared.event.Event.{Event}
-use Rattle.sh_base.specs.Setting.{all_locks, pool_words}
-use Rattle.sh_base.specs.Layout.{counter_word, lock_word}
-use Rattle.sh_base.specs.Memory.{at_of}
-use Rattle.sh_base.specs.Places.{Root, Lock}
+use Rattle.sh_base.specs.{declared.{config.ConfigParts.{ConfigParts}, event.Event.{Event}}, Setting.{all_locks, pool_words}, Layout.{counter_word, lock_word}, Memory.{at_of}, Places.{Root, Lock}}
 use Rattle.sh_base.proofs.PlacesLemmas.{are_places_apart}
 use Rattle.sh_lock.specs.Locks.{grab_of}
 

@@ -1,23 +1,12 @@
 -- What an image answers to a call, and what is stored of it before its lock is given back.
 use Rattle.std.specs.Prelude.{ℕ, ◌+◌, List, []}
 use Rattle.sh_base.specs.declared.config.ConfigParts.{ConfigParts}
-use Rattle.sh_map.specs.declared.call.Call.{Call}
-use Rattle.sh_map.specs.declared.call.Reply.{Reply}
+use Rattle.sh_map.specs.declared.call.{Call.{Call}, Reply.{Reply}}
 use Rattle.sh_map.specs.declared.call.Reply.TheVariants as reply
-use Rattle.sh_image.specs.declared.leaf.LeafEntry.{LeafEntry}
-use Rattle.sh_image.specs.Entries.{entry_words}
-use Rattle.sh_image.specs.Leaf.{Leaf, leaf_words}
-use Rattle.sh_image.specs.Inner.{inner_words}
-use Rattle.sh_image.specs.declared.inner.Pair.{Pair}
-use Rattle.sh_image.specs.declared.inner.Image.{Image}
+use Rattle.sh_image.specs.{declared.{leaf.LeafEntry.{LeafEntry}, inner.{Pair.{Pair}, Image.{Image}}}, Entries.{entry_words}, Leaf.{Leaf, leaf_words}, Inner.{inner_words}}
 use Rattle.sh_image.specs.declared.inner.Image.TheVariants.{Leaf as LeafImage, Inner as InnerImage}
-use Rattle.sh_edit.specs.Rewriting.{rewritten}
-use Rattle.sh_edit.specs.Pairing.{with_pair}
-use Rattle.sh_decide.specs.declared.state.Posting.{Posting}
-use Rattle.sh_decide.specs.declared.state.Aim.{Aim}
-use Rattle.sh_decide.specs.declared.state.Aim.TheVariants.{Own, Gathers, Posts}
-use Rattle.sh_decide.specs.Aims.{call_key, written_key, written_value}
-use Rattle.sh_decide.specs.Leaves.{leaf_answer, version_at}
+use Rattle.sh_edit.specs.{Rewriting.{rewritten}, Pairing.{with_pair}}
+use Rattle.sh_decide.specs.{declared.state.{Posting.{Posting}, Aim.{Aim, TheVariants.{Own, Gathers, Posts}}}, Aims.{call_key, written_key, written_value}, Leaves.{leaf_answer, version_at}}
 
 -- an image's answer to the call; an inner node has no entries
 abbrev pub answer_in : Call → Image → Reply

@@ -1,16 +1,10 @@
 -- What a client's READs make of its cached nodes, and where a call begins by them.
-use Rattle.std.specs.Prelude.{ℕ, ◌==◌, ◌&&◌, if◌then◌else◌, Bool, true, List, Option, Some, None}
-use Rattle.std.specs.Option.{option_map}
-use Rattle.sh_image.specs.Inner.{Inner}
-use Rattle.sh_image.specs.declared.inner.Image.{Image}
-use Rattle.sh_image.specs.declared.inner.Image.TheVariants.{Leaf as LeafImage, Inner as InnerImage}
+use Rattle.std.specs.{Prelude.{ℕ, ◌==◌, ◌&&◌, if◌then◌else◌, Bool, true, List, Option, Some, None}, Option.{option_map}}
+use Rattle.sh_image.specs.{Inner.{Inner}, declared.inner.Image.{Image, TheVariants.{Leaf as LeafImage, Inner as InnerImage}}}
 use Rattle.sh_descend.specs.Descent.{child_of}
 use Rattle.sh_cache.specs.Cached.{forgotten, found, kept}
-use Rattle.sh_decide.specs.declared.state.Aim.{Aim}
-use Rattle.sh_decide.specs.Aims.{target}
-use Rattle.sh_decide.specs.Ways.{leads_right}
-use Rattle.sh_client.specs.declared.state.Origin.{Origin}
-use Rattle.sh_client.specs.Machine.{Machine, Registers}
+use Rattle.sh_decide.specs.{declared.state.Aim.{Aim}, Aims.{target}, Ways.{leads_right}}
+use Rattle.sh_client.specs.{declared.state.Origin.{Origin}, Machine.{Machine, Registers}}
 
 -- where a call for the key begins by a cached node that covers it
 abbrev pub origin_in : (key : ℕ) → Inner → Origin

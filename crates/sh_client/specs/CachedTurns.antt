@@ -1,30 +1,15 @@
 -- What a client's turns do to its cached nodes, and where a call begins by them.
 use Rattle.std.specs.Prelude.{◌≡◌, ◌⊎◌, if◌then◌else◌, Bool, true, Option, ℕ, Some, None}
-use Rattle.sh_base.specs.declared.config.ConfigParts.{ConfigParts}
-use Rattle.sh_base.specs.declared.event.Event.TheVariants.{Load}
-use Rattle.sh_base.specs.Layout.{lock_of, root_word}
+use Rattle.sh_base.specs.{declared.{config.ConfigParts.{ConfigParts}, event.Event.TheVariants.{Load}}, Layout.{lock_of, root_word}}
 use Rattle.sh_map.specs.declared.call.Call.{Call}
-use Rattle.sh_image.specs.Inner.{Inner}
-use Rattle.sh_image.specs.declared.inner.Image.{Image}
-use Rattle.sh_image.specs.declared.inner.Image.TheVariants.{Inner as InnerImage}
-use Rattle.sh_read.specs.declared.state.Progress.{Progress}
-use Rattle.sh_read.specs.declared.state.Progress.TheVariants.{Accepted}
-use Rattle.sh_read.specs.Reads.{accepted, progress_of, reads_start, wanted}
+use Rattle.sh_image.specs.{Inner.{Inner}, declared.inner.Image.{Image, TheVariants.{Inner as InnerImage}}}
+use Rattle.sh_read.specs.{declared.state.Progress.{Progress, TheVariants.{Accepted}}, Reads.{accepted, progress_of, reads_start, wanted}}
 use Rattle.sh_descend.specs.Descent.{child_of}
 use Rattle.sh_cache.specs.Cached.{IsOldest}
-use Rattle.sh_decide.specs.declared.state.Aim.{Aim}
-use Rattle.sh_decide.specs.declared.state.Aim.TheVariants.{Own}
-use Rattle.sh_decide.specs.Aims.{call_key, takes_lock, target}
-use Rattle.sh_decide.specs.Ways.{leads_right}
-use Rattle.sh_client.specs.declared.state.Phase.{Phase}
-use Rattle.sh_client.specs.declared.state.Phase.TheVariants.{Read, ReadLocked}
-use Rattle.sh_client.specs.declared.state.Want.{Want}
-use Rattle.sh_client.specs.declared.state.Want.TheVariants as want
-use Rattle.sh_client.specs.Machine.{Machine, up}
-use Rattle.sh_client.specs.Cached.{learning, settling}
-use Rattle.sh_client.specs.Courses.{KeepsCall}
-use Rattle.sh_client.specs.Feeds.{begun, loaded}
+use Rattle.sh_decide.specs.{declared.state.Aim.{Aim, TheVariants.{Own}}, Aims.{call_key, takes_lock, target}, Ways.{leads_right}}
+use Rattle.sh_client.specs.{declared.state.{Phase.{Phase, TheVariants.{Read, ReadLocked}}, Want.{Want}}, Machine.{Machine, up}, Cached.{learning, settling}, Courses.{KeepsCall}, Feeds.{begun, loaded}}
 use Rattle.sh_client.specs.Wants.{load_of, want_of}
+use Rattle.sh_client.specs.declared.state.Want.TheVariants as want
 
 -- what is learnt of an image, where there is one, without a lock and under one
 abbrev pub learnt : Machine → Aim → Option Image → Machine

@@ -1,24 +1,12 @@
 -- A client that takes its turns one after another.
 use Rattle.std.specs.Prelude.{◌≡◌, ◌≤◌, ◌⊎◌, Option, ℕ, zero, suc, ◌+◌, List, [], ◌∷◌, length, Some, None}
-use Rattle.sh_base.specs.declared.event.Event.TheVariants.{Load, Store}
-use Rattle.sh_base.specs.Layout.{lock_of, root_word}
-use Rattle.sh_image.specs.Leaf.{Leaf}
-use Rattle.sh_image.specs.declared.inner.Image.TheVariants.{Leaf as LeafImage}
-use Rattle.sh_lock.specs.declared.state.Release.TheVariants.{Hand}
-use Rattle.sh_lock.specs.Locks.{release_of}
-use Rattle.sh_decide.specs.declared.state.Aim.{Aim}
-use Rattle.sh_read.specs.declared.state.Progress.TheVariants.{Accepted}
-use Rattle.sh_read.specs.Reads.{accepted, progress_of, read_fed}
-use Rattle.sh_decide.specs.declared.state.Aim.TheVariants.{Own}
-use Rattle.sh_decide.specs.declared.state.Decision.{Decision}
-use Rattle.sh_client.specs.declared.state.Phase.{Phase}
-use Rattle.sh_client.specs.declared.state.Phase.TheVariants.{Body, Leave, ReadLocked}
-use Rattle.sh_decide.specs.Deciding.{decision_of}
-use Rattle.sh_client.specs.declared.state.Want.{Want}
+use Rattle.sh_base.specs.{declared.event.Event.TheVariants.{Load, Store}, Layout.{lock_of, root_word}}
+use Rattle.sh_image.specs.{Leaf.{Leaf}, declared.inner.Image.TheVariants.{Leaf as LeafImage}}
+use Rattle.sh_lock.specs.{declared.state.Release.TheVariants.{Hand}, Locks.{release_of}}
+use Rattle.sh_decide.specs.{declared.state.{Aim.{Aim, TheVariants.{Own}}, Decision.{Decision}}, Deciding.{decision_of}}
+use Rattle.sh_read.specs.{declared.state.Progress.TheVariants.{Accepted}, Reads.{accepted, progress_of, read_fed}}
+use Rattle.sh_client.specs.{declared.state.{Phase.{Phase, TheVariants.{Body, Leave, ReadLocked}}, Want.{Want}}, Machine.{Machine}, Wants.{lock_word_of, want_of}, Feeds.{fed_by}}
 use Rattle.sh_client.specs.declared.state.Want.TheVariants as want
-use Rattle.sh_client.specs.Machine.{Machine}
-use Rattle.sh_client.specs.Wants.{lock_word_of, want_of}
-use Rattle.sh_client.specs.Feeds.{fed_by}
 
 -- the client after so many turns that found 0, as stores do
 abbrev pub after_stores : (count : ℕ) → Machine → Machine

@@ -1,36 +1,18 @@
 -- What a client is after the turn that it wanted, by what it was at and what the turn found.
 use Rattle.std.specs.Prelude.{ℕ, ◌==◌, if◌then◌else◌, Bool, true, false, List, [], Option, Some, None}
-use Rattle.sh_map.specs.declared.call.Call.{Call}
-use Rattle.sh_map.specs.declared.call.Call.TheVariants.{Range}
-use Rattle.sh_map.specs.declared.book.Row.{Row}
+use Rattle.sh_map.specs.declared.{call.Call.{Call, TheVariants.{Range}}, book.Row.{Row}}
 use Rattle.sh_map.specs.declared.call.Reply.TheVariants as reply
 use Rattle.sh_image.specs.declared.inner.Image.{Image}
-use Rattle.sh_read.specs.declared.state.Progress.{Progress}
-use Rattle.sh_read.specs.declared.state.Progress.TheVariants.{More, Accepted, Again, Odd}
-use Rattle.sh_read.specs.Reads.{accepted, progress_of, read_fed}
-use Rattle.sh_decide.specs.declared.state.Aim.{Aim}
-use Rattle.sh_client.specs.declared.state.Then.{Then}
-use Rattle.sh_client.specs.declared.state.Then.TheVariants.{Ends, Starts, Takes}
-use Rattle.sh_client.specs.declared.state.Write.{Write}
-use Rattle.sh_client.specs.declared.state.Write.TheVariants as write
-use Rattle.sh_decide.specs.declared.state.Way.{Way}
-use Rattle.sh_decide.specs.declared.state.Way.TheVariants as way
-use Rattle.sh_decide.specs.declared.state.Decision.{Decision}
-use Rattle.sh_decide.specs.declared.state.Decision.TheVariants as decision
-use Rattle.sh_decide.specs.declared.state.Aim.TheVariants.{Own}
-use Rattle.sh_client.specs.declared.state.Phase.{Phase}
+use Rattle.sh_read.specs.{declared.state.Progress.{Progress, TheVariants.{More, Accepted, Again, Odd}}, Reads.{accepted, progress_of, read_fed}}
+use Rattle.sh_decide.specs.{declared.state.{Aim.{Aim, TheVariants.{Own}}, Way.{Way}, Decision.{Decision}}, Aims.{aim_of, call_key, is_node, takes_lock}, Ways.{way_of}, Deciding.{decision_of}}
+use Rattle.sh_client.specs.declared.state.{Then.{Then, TheVariants.{Ends, Starts, Takes}}, Write.{Write}, Phase.{Phase}}
 use Rattle.sh_client.specs.declared.state.Phase.TheVariants.{Idle, Root, Read, Draw, Look, Grab, ReadLocked, Seek, Fill, Waiting, Body, Unlock, Leave, Swap, Ended}
-use Rattle.sh_client.specs.Machine.{Machine, to, again, answering, began_cached, reading, storing, right_hop, skipped_worn}
-use Rattle.sh_decide.specs.Aims.{aim_of, call_key, is_node, takes_lock}
-use Rattle.sh_client.specs.declared.state.Origin.{Origin}
-use Rattle.sh_client.specs.Cached.{learning, origin_of, settling}
-use Rattle.sh_client.specs.Ranges.{rows_taken}
-use Rattle.sh_client.specs.Bodies.{answer_in, entry_body, inner_body, leaf_body}
-use Rattle.sh_decide.specs.Ways.{way_of}
-use Rattle.sh_decide.specs.Deciding.{decision_of}
-use Rattle.sh_client.specs.declared.state.Need.TheVariants.{ToSplit}
-use Rattle.sh_client.specs.Giving.{queue_left, stored, count_told}
+use Rattle.sh_client.specs.{Machine.{Machine, to, again, answering, began_cached, reading, storing, right_hop, skipped_worn}, declared.state.Origin.{Origin}, Cached.{learning, origin_of, settling}}
+use Rattle.sh_client.specs.{Ranges.{rows_taken}, Bodies.{answer_in, entry_body, inner_body, leaf_body}, declared.state.Need.TheVariants.{ToSplit}, Giving.{queue_left, stored, count_told}}
 use Rattle.sh_client.specs.Splitting.{filled, giving_of, root_grown, needs, sought, swapped}
+use Rattle.sh_client.specs.declared.state.Write.TheVariants as write
+use Rattle.sh_decide.specs.declared.state.Way.TheVariants as way
+use Rattle.sh_decide.specs.declared.state.Decision.TheVariants as decision
 
 -- a descent that begins at the root begins at no cached node
 abbrev pub from_root : Machine → Machine

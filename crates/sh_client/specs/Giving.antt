@@ -1,18 +1,9 @@
 -- How a lock is given back: the stores before, and what follows.
 use Rattle.std.specs.Prelude.{ℕ, ◌+◌, ◌==◌, if◌then◌else◌, Bool, true, false, List, [], length, Option, Some, None}
-use Rattle.sh_lock.specs.declared.state.Release.{Release}
-use Rattle.sh_lock.specs.declared.state.Release.TheVariants.{Hand, Free}
-use Rattle.sh_lock.specs.Locks.{release_of}
-use Rattle.sh_map.specs.declared.log.Entry.{Entry as LogEntry}
-use Rattle.sh_map.specs.Made.{entries_by}
-use Rattle.sh_client.specs.declared.state.Then.{Then}
-use Rattle.sh_client.specs.declared.state.Then.TheVariants.{Ends, Starts, Takes}
-use Rattle.sh_client.specs.declared.state.Write.{Write}
-use Rattle.sh_client.specs.declared.state.Write.TheVariants.{Nothing, Entry, Leaf, LeftLeaf, LeftInner}
-use Rattle.sh_client.specs.declared.state.Giving.{Giving}
-use Rattle.sh_client.specs.declared.state.Phase.{Phase}
-use Rattle.sh_client.specs.declared.state.Phase.TheVariants.{Root, Draw, Body, Unlock, Leave, Ended}
-use Rattle.sh_client.specs.Machine.{Machine, to, split_done, handed_over, rewrite_done}
+use Rattle.sh_lock.specs.{declared.state.Release.{Release, TheVariants.{Hand, Free}}, Locks.{release_of}}
+use Rattle.sh_map.specs.{declared.log.Entry.{Entry as LogEntry}, Made.{entries_by}}
+use Rattle.sh_client.specs.declared.state.{Then.{Then, TheVariants.{Ends, Starts, Takes}}, Write.{Write, TheVariants.{Nothing, Entry, Leaf, LeftLeaf, LeftInner}}, Giving.{Giving}, Phase.{Phase}}
+use Rattle.sh_client.specs.{declared.state.Phase.TheVariants.{Root, Draw, Body, Unlock, Leave, Ended}, Machine.{Machine, to, split_done, handed_over, rewrite_done}}
 
 -- behind the stores the lock is handed over, or its word is set to 0
 abbrev pub released : Machine → (node : ℕ) → (carry : Option ℕ) → Then → Machine

@@ -1,14 +1,8 @@
 -- Where a client stands in the ticket lines of locks.
 use Rattle.std.specs.Prelude.{◌≡◌, ◌⊎◌, ℕ, zero, suc, Bool, true, false, Option, None, Some}
-use Rattle.sh_base.specs.declared.config.ConfigParts.{ConfigParts}
-use Rattle.sh_base.specs.Layout.{lock_of}
-use Rattle.sh_client.specs.declared.state.Need.{Need}
-use Rattle.sh_client.specs.declared.state.Need.TheVariants.{ToSplit, ToGrow}
-use Rattle.sh_client.specs.declared.state.Filling.{Filling}
-use Rattle.sh_client.specs.declared.state.Filling.TheVariants.{RightHalf, NewRoot}
-use Rattle.sh_client.specs.declared.state.Phase.{Phase}
-use Rattle.sh_client.specs.declared.state.Phase.TheVariants.{Look, Grab, ReadLocked, Seek, Fill, Waiting, Body, Unlock, Leave}
-use Rattle.sh_client.specs.Machine.{Machine, Registers}
+use Rattle.sh_base.specs.{declared.config.ConfigParts.{ConfigParts}, Layout.{lock_of}}
+use Rattle.sh_client.specs.declared.state.{Need.{Need, TheVariants.{ToSplit, ToGrow}}, Filling.{Filling, TheVariants.{RightHalf, NewRoot}}, Phase.{Phase}}
+use Rattle.sh_client.specs.{declared.state.Phase.TheVariants.{Look, Grab, ReadLocked, Seek, Fill, Waiting, Body, Unlock, Leave}, Machine.{Machine, Registers}}
 
 -- In no line; in the line of a lock with its ticket not served yet, as far as it knows; or with its turn in the line, from
 -- which it is to hand the lock over or isn't.

@@ -1,20 +1,12 @@
 -- The client as a machine: what it keeps, and how a part of it changes.
 use Rattle.std.specs.Prelude.{ℕ, ◌+◌, ◌-◌, ◌^◌, ◌==◌, if◌then◌else◌, List, [], Option, None}
 use Rattle.sh_base.specs.declared.config.ConfigParts.{ConfigParts}
-use Rattle.sh_map.specs.declared.call.Call.{Call}
-use Rattle.sh_map.specs.declared.call.Reply.{Reply}
-use Rattle.sh_map.specs.declared.book.Row.{Row}
+use Rattle.sh_map.specs.declared.{call.{Call.{Call, TheVariants.{Get}}, Reply.{Reply}}, book.Row.{Row}}
 use Rattle.sh_image.specs.Inner.{Inner}
-use Rattle.sh_alloc.specs.declared.state.NodeRange.{NodeRange}
-use Rattle.sh_alloc.specs.declared.state.Walk.{Walk}
-use Rattle.sh_alloc.specs.Spares.{no_nodes}
-use Rattle.sh_alloc.specs.Walks.{walk_start}
+use Rattle.sh_alloc.specs.{declared.state.{NodeRange.{NodeRange}, Walk.{Walk}}, Spares.{no_nodes}, Walks.{walk_start}}
 use Rattle.sh_read.specs.Reads.{Reads, reads_start}
-use Rattle.sh_map.specs.declared.call.Call.TheVariants.{Get}
 use Rattle.sh_map.specs.declared.call.Reply.TheVariants as reply
-use Rattle.sh_client.specs.declared.state.Phase.TheVariants.{Idle}
-use Rattle.sh_client.specs.declared.state.Tally.{Tally}
-use Rattle.sh_client.specs.declared.state.Phase.{Phase}
+use Rattle.sh_client.specs.declared.state.{Phase.{Phase, TheVariants.{Idle}}, Tally.{Tally}}
 
 -- What a client keeps from turn to turn beside what it is at: its spare nodes; its tally; the call under way and what it
 -- answers, once that's decided; the READ and the walk over the counters that are under way; the words that are to be stored

@@ -1,18 +1,12 @@
 -- What a range makes of a leaf: it takes the leaf's rows, and ends or goes on to the right.
 use Rattle.std.specs.Prelude.{ℕ, ◌-◌, ◌==◌, ◌||◌, not, if◌then◌else◌, nat_lt, Bool, false, List, ◌++◌, length, Option, Some, None}
 use Rattle.sh_base.specs.declared.config.ConfigParts.{ConfigParts}
-use Rattle.sh_map.specs.declared.book.Row.{Row}
-use Rattle.sh_map.specs.declared.call.Call.{Call}
+use Rattle.sh_map.specs.declared.{book.Row.{Row}, call.Call.{Call}}
 use Rattle.sh_map.specs.declared.call.Reply.TheVariants as reply
-use Rattle.sh_image.specs.declared.inner.Image.{Image}
-use Rattle.sh_image.specs.declared.inner.Image.TheVariants.{Leaf as LeafImage, Inner as InnerImage}
+use Rattle.sh_image.specs.declared.inner.Image.{Image, TheVariants.{Leaf as LeafImage, Inner as InnerImage}}
 use Rattle.sh_edit.specs.Ranging.{end_in, taken, upto_of}
-use Rattle.sh_decide.specs.declared.state.Aim.{Aim}
-use Rattle.sh_decide.specs.declared.state.Aim.TheVariants.{Own, Gathers, Posts}
-use Rattle.sh_decide.specs.Aims.{end_of, is_node}
-use Rattle.sh_client.specs.declared.state.Edge.{Edge}
-use Rattle.sh_client.specs.declared.state.Phase.TheVariants.{Root, Read, Ended}
-use Rattle.sh_client.specs.Machine.{Machine, to, answering, reading}
+use Rattle.sh_decide.specs.{declared.state.Aim.{Aim, TheVariants.{Own, Gathers, Posts}}, Aims.{end_of, is_node}}
+use Rattle.sh_client.specs.{declared.state.{Edge.{Edge}, Phase.TheVariants.{Root, Read, Ended}}, Machine.{Machine, to, answering, reading}}
 
 -- the rows with those of a leaf from a place on, as many as there is room for
 abbrev pub rows_with : ConfigParts → Call → (place : ℕ) → Image → List Row → List Row

@@ -1,12 +1,7 @@
 -- Whether a client has nothing to do, and what its call was answered.
 use Rattle.std.specs.Prelude.{Bool, true, false, List, [], Option, Some, None}
-use Rattle.sh_map.specs.declared.book.Row.{Row}
-use Rattle.sh_map.specs.declared.call.Reply.{Reply}
-use Rattle.sh_map.specs.declared.call.Call.{Call}
-use Rattle.sh_map.specs.declared.call.Call.TheVariants.{Range}
-use Rattle.sh_client.specs.declared.state.Phase.{Phase}
-use Rattle.sh_client.specs.declared.state.Phase.TheVariants.{Idle, Ended}
-use Rattle.sh_client.specs.Machine.{Machine}
+use Rattle.sh_map.specs.declared.{book.Row.{Row}, call.{Reply.{Reply}, Call.{Call, TheVariants.{Range}}}}
+use Rattle.sh_client.specs.{declared.state.Phase.{Phase, TheVariants.{Idle, Ended}}, Machine.{Machine}}
 
 -- it has no call, or its call has ended
 abbrev pub rests : Phase → Bool

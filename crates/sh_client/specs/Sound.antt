@@ -1,40 +1,16 @@
 -- What a client keeps to, whatever words it is fed.
-use Rattle.std.specs.Prelude.{◌≡◌, ◌≢◌, ℕ, ◌+◌, ◌<◌, ◌≤◌, List, length, Option, Some, None}
-use Rattle.std.specs.List.{AllByRecursion}
-use Rattle.sh_base.specs.declared.config.ConfigParts.{ConfigParts}
-use Rattle.sh_base.specs.Layout.{lock_of}
-use Rattle.sh_base.specs.Setting.{all_locks, all_seats, entry_size, node_size, nodes, IsNode}
-use Rattle.sh_map.specs.declared.call.Call.{Call}
-use Rattle.sh_map.specs.declared.book.Row.{Row}
-use Rattle.sh_map.specs.Calls.{IsInRange}
-use Rattle.sh_alloc.specs.declared.state.NodeRange.{NodeRange}
-use Rattle.sh_alloc.specs.declared.state.Walk.{Walk}
-use Rattle.sh_alloc.specs.declared.state.Chunks.{Chunks}
-use Rattle.sh_alloc.specs.Walks.{walk_wants}
-use Rattle.sh_alloc.specs.Chunks.{WantsEvent}
-use Rattle.sh_image.specs.declared.inner.Image.{Image}
-use Rattle.sh_image.specs.Inner.{IsInner}
+use Rattle.std.specs.{Prelude.{◌≡◌, ◌≢◌, ℕ, ◌+◌, ◌<◌, ◌≤◌, List, length, Option, Some, None}, List.{AllByRecursion}}
+use Rattle.sh_base.specs.{declared.config.ConfigParts.{ConfigParts}, Layout.{lock_of}, Setting.{all_locks, all_seats, entry_size, node_size, nodes, IsNode}}
+use Rattle.sh_map.specs.{declared.{call.Call.{Call}, book.Row.{Row}}, Calls.{IsInRange}}
+use Rattle.sh_alloc.specs.{declared.state.{NodeRange.{NodeRange}, Walk.{Walk}, Chunks.{Chunks}}, Walks.{walk_wants}, Chunks.{WantsEvent}}
+use Rattle.sh_image.specs.{declared.inner.Image.{Image}, Inner.{IsInner}}
 use Rattle.sh_cache.specs.Cached.{Rows as CacheRows}
-use Rattle.sh_read.specs.Reads.{Reader, Reads, accepted, wanted}
-use Rattle.sh_read.specs.declared.state.Progress.{Progress}
-use Rattle.sh_read.specs.declared.state.Progress.TheVariants.{More, Accepted, Again, Odd}
-use Rattle.sh_decide.specs.declared.state.Posting.{Posting}
-use Rattle.sh_decide.specs.declared.state.Aim.{Aim}
-use Rattle.sh_decide.specs.declared.state.Aim.TheVariants.{Own, Gathers, Posts}
-use Rattle.sh_client.specs.declared.state.Then.{Then}
-use Rattle.sh_client.specs.declared.state.Then.TheVariants.{Ends, Starts, Takes}
-use Rattle.sh_client.specs.declared.state.Write.{Write}
-use Rattle.sh_client.specs.declared.state.Write.TheVariants.{Nothing, Entry}
-use Rattle.sh_client.specs.declared.state.Giving.{Giving}
-use Rattle.sh_client.specs.declared.state.Need.{Need}
-use Rattle.sh_client.specs.declared.state.Need.TheVariants.{ToSplit, ToGrow}
-use Rattle.sh_client.specs.declared.state.Filling.{Filling}
-use Rattle.sh_client.specs.declared.state.Filling.TheVariants.{RightHalf, NewRoot}
-use Rattle.sh_client.specs.declared.state.Phase.{Phase}
-use Rattle.sh_client.specs.declared.state.Phase.TheVariants.{Root, Read, Draw, Look, Grab, ReadLocked, Seek, Fill, Waiting, Body, Unlock, Leave, Swap}
-use Rattle.sh_decide.specs.declared.state.Decision.{Decision}
+use Rattle.sh_read.specs.{Reads.{Reader, Reads, accepted, wanted}, declared.state.Progress.{Progress, TheVariants.{More, Accepted, Again, Odd}}}
+use Rattle.sh_decide.specs.declared.state.{Posting.{Posting}, Aim.{Aim, TheVariants.{Own, Gathers, Posts}}, Decision.{Decision}}
 use Rattle.sh_decide.specs.Allowed.{Allows, CanChange, CanSplit, HasEntryAt, HasRoom, HasVersion}
-use Rattle.sh_client.specs.Machine.{Machine, Registers}
+use Rattle.sh_client.specs.declared.state.{Then.{Then, TheVariants.{Ends, Starts, Takes}}, Write.{Write, TheVariants.{Nothing, Entry}}, Giving.{Giving}, Need.{Need, TheVariants.{ToSplit, ToGrow}}}
+use Rattle.sh_client.specs.declared.state.{Filling.{Filling, TheVariants.{RightHalf, NewRoot}}, Phase.{Phase}}
+use Rattle.sh_client.specs.{declared.state.Phase.TheVariants.{Root, Read, Draw, Look, Grab, ReadLocked, Seek, Fill, Waiting, Body, Unlock, Leave, Swap}, Machine.{Machine, Registers}}
 
 -- a post of a node of the setting, to a level that the setting may have
 pub record IsPost (p : ConfigParts) (post : Posting) : Type 0 where

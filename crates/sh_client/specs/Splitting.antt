@@ -1,35 +1,16 @@
 -- How a client gets a fresh node, and what it writes to it: the right half of a split, or a new root.
 use Rattle.std.specs.Prelude.{ℕ, ◌+◌, ◌==◌, if◌then◌else◌, Option, Some, None}
-use Rattle.sh_base.specs.Setting.{node_size}
-use Rattle.sh_base.specs.Layout.{first_node}
+use Rattle.sh_base.specs.{Setting.{node_size}, Layout.{first_node}}
 use Rattle.sh_map.specs.declared.call.Reply.TheVariants as reply
-use Rattle.sh_image.specs.Leaf.{Leaf, leaf_words}
-use Rattle.sh_image.specs.Inner.{Inner, inner_words}
-use Rattle.sh_image.specs.declared.inner.Image.{Image}
-use Rattle.sh_image.specs.declared.inner.Image.TheVariants.{Leaf as LeafImage, Inner as InnerImage}
-use Rattle.sh_edit.specs.Splitting.{left_half, right_half, separator_of}
-use Rattle.sh_edit.specs.Pairing.{left_inner, middle_of, right_inner, root_over}
-use Rattle.sh_alloc.specs.declared.state.ChunkWant.{ChunkWant}
+use Rattle.sh_image.specs.{Leaf.{Leaf, leaf_words}, Inner.{Inner, inner_words}, declared.inner.Image.{Image, TheVariants.{Leaf as LeafImage, Inner as InnerImage}}}
+use Rattle.sh_edit.specs.{Splitting.{left_half, right_half, separator_of}, Pairing.{left_inner, middle_of, right_inner, root_over}}
+use Rattle.sh_alloc.specs.{declared.state.ChunkWant.{ChunkWant}, Spares.{lowest, nodes_from, with_lowest, without_lowest}, Walks.{walk_fed, walk_start, walk_wants}}
 use Rattle.sh_alloc.specs.declared.state.ChunkWant.TheVariants as chunk
-use Rattle.sh_alloc.specs.Spares.{lowest, nodes_from, with_lowest, without_lowest}
-use Rattle.sh_alloc.specs.Walks.{walk_fed, walk_start, walk_wants}
 use Rattle.sh_read.specs.Reads.{accepted}
-use Rattle.sh_decide.specs.declared.state.Posting.{Posting}
-use Rattle.sh_decide.specs.declared.state.Aim.{Aim}
-use Rattle.sh_decide.specs.declared.state.Aim.TheVariants.{Own, Gathers, Posts}
-use Rattle.sh_client.specs.declared.state.Then.{Then}
-use Rattle.sh_client.specs.declared.state.Then.TheVariants.{Ends, Starts}
-use Rattle.sh_client.specs.declared.state.Write.{Write}
-use Rattle.sh_client.specs.declared.state.Write.TheVariants.{Nothing, LeftLeaf, LeftInner}
-use Rattle.sh_client.specs.declared.state.Giving.{Giving}
-use Rattle.sh_client.specs.declared.state.Need.{Need}
-use Rattle.sh_client.specs.declared.state.Need.TheVariants.{ToSplit, ToGrow}
-use Rattle.sh_client.specs.declared.state.Filling.{Filling}
-use Rattle.sh_client.specs.declared.state.Filling.TheVariants.{RightHalf, NewRoot}
-use Rattle.sh_client.specs.declared.state.Phase.TheVariants.{Root, Seek, Fill, Waiting, Swap, Ended}
-use Rattle.sh_client.specs.Machine.{Machine, to, answering, sparing, skipped_spent}
-use Rattle.sh_decide.specs.Aims.{written_key, written_value, post_of}
-use Rattle.sh_client.specs.Bodies.{pair_of}
+use Rattle.sh_decide.specs.{declared.state.{Posting.{Posting}, Aim.{Aim, TheVariants.{Own, Gathers, Posts}}}, Aims.{written_key, written_value, post_of}}
+use Rattle.sh_client.specs.declared.state.{Then.{Then, TheVariants.{Ends, Starts}}, Write.{Write, TheVariants.{Nothing, LeftLeaf, LeftInner}}, Giving.{Giving}, Need.{Need}}
+use Rattle.sh_client.specs.declared.state.{Need.TheVariants.{ToSplit, ToGrow}, Filling.{Filling, TheVariants.{RightHalf, NewRoot}}, Phase.TheVariants.{Root, Seek, Fill, Waiting, Swap, Ended}}
+use Rattle.sh_client.specs.{Machine.{Machine, to, answering, sparing, skipped_spent}, Bodies.{pair_of}}
 
 -- the walk over the counters begins
 abbrev pub walking : Machine → Machine

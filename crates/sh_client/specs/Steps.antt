@@ -1,18 +1,9 @@
 -- A step inside a verb, or an exchange on a lock that is taken: the event that a client wants, which it makes itself.
 use Rattle.std.specs.Prelude.{◌≡◌, ℕ, ◌+◌, ◌<◌, ◌==◌, not, nat_lt, Bool, true, false, List, [], length, slice_index, Option, Some, None}
-use Rattle.sh_base.specs.declared.event.Event.TheVariants.{Load, Store}
-use Rattle.sh_base.specs.Layout.{lock_of}
-use Rattle.sh_base.specs.Memory.{apply, at_of, found_by}
-use Rattle.sh_base.specs.Setting.{node_size, pool_words}
-use Rattle.sh_client.specs.declared.state.Phase.{Phase}
-use Rattle.sh_client.specs.declared.state.Phase.TheVariants.{Read, Look, Grab, ReadLocked, Fill, Body}
-use Rattle.sh_client.specs.declared.state.Step.{Step}
-use Rattle.sh_client.specs.declared.state.Want.TheVariants as want
-use Rattle.sh_client.specs.Feeds.{fed_by}
-use Rattle.sh_client.specs.Giving.{makes}
-use Rattle.sh_client.specs.Machine.{Machine}
-use Rattle.sh_client.specs.Rests.{is_resting}
+use Rattle.sh_base.specs.{declared.event.Event.TheVariants.{Load, Store}, Layout.{lock_of}, Memory.{apply, at_of, found_by}, Setting.{node_size, pool_words}}
+use Rattle.sh_client.specs.{declared.state.{Phase.{Phase, TheVariants.{Read, Look, Grab, ReadLocked, Fill, Body}}, Step.{Step}}, Feeds.{fed_by}, Giving.{makes}, Machine.{Machine}, Rests.{is_resting}}
 use Rattle.sh_client.specs.Wants.{lock_word_of, want_of}
+use Rattle.sh_client.specs.declared.state.Want.TheVariants as want
 
 -- it READs, and more than one word is left to load
 abbrev pub loads_in : Machine → Phase → Bool

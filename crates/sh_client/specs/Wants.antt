@@ -1,23 +1,15 @@
 -- The turn that a client wants, by what it is at.
 use Rattle.std.specs.Prelude.{ℕ, ◌+◌, ◌<◌, Option, Some, None, slice_index}
-use Rattle.sh_base.specs.declared.config.ConfigParts.{ConfigParts}
-use Rattle.sh_base.specs.declared.event.Event.TheVariants.{Load, Store, Exchange}
-use Rattle.sh_base.specs.Memory.{at_of}
-use Rattle.sh_base.specs.Setting.{all_locks, pool_words}
+use Rattle.sh_base.specs.{declared.{config.ConfigParts.{ConfigParts}, event.Event.TheVariants.{Load, Store, Exchange}}, Memory.{at_of}, Setting.{all_locks, pool_words}}
 use Rattle.sh_base.specs.Layout.{root_word, node_word, lock_of, lock_word, entry_at}
-use Rattle.sh_alloc.specs.declared.state.ChunkWant.{ChunkWant}
+use Rattle.sh_alloc.specs.{declared.state.ChunkWant.{ChunkWant}, Walks.{walk_wants}}
 use Rattle.sh_alloc.specs.declared.state.ChunkWant.TheVariants as chunk
-use Rattle.sh_alloc.specs.Walks.{walk_wants}
 use Rattle.sh_lock.specs.Locks.{grab_of}
 use Rattle.sh_read.specs.Reads.{wanted}
-use Rattle.sh_client.specs.declared.state.Write.{Write}
-use Rattle.sh_client.specs.declared.state.Write.TheVariants.{Entry}
-use Rattle.sh_client.specs.declared.state.Phase.{Phase}
-use Rattle.sh_client.specs.declared.state.Phase.TheVariants.{Idle, Root, Read, Draw, Look, Grab, ReadLocked, Seek, Fill, Waiting, Body, Unlock, Leave, Swap, Ended}
-use Rattle.sh_client.specs.declared.state.Want.{Want}
-use Rattle.sh_client.specs.declared.state.Want.TheVariants as want
-use Rattle.sh_client.specs.Machine.{Machine}
+use Rattle.sh_client.specs.declared.state.{Write.{Write, TheVariants.{Entry}}, Phase.{Phase}}
+use Rattle.sh_client.specs.{declared.state.{Phase.TheVariants.{Idle, Root, Read, Draw, Look, Grab, ReadLocked, Seek, Fill, Waiting, Body, Unlock, Leave, Swap, Ended}, Want.{Want}}, Machine.{Machine}}
 use Rattle.sh_client.specs.Sound.{IsCarry}
+use Rattle.sh_client.specs.declared.state.Want.TheVariants as want
 
 -- a READ wants a load while words are left
 abbrev pub load_of : Option ℕ → Want

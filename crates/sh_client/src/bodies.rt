@@ -1,7 +1,6 @@
 // What is stored of an image: an update's entry, its rewritten leaf, or a post's node.
 ghost use Rattle.std.specs.Prelude.{◌≡◌, ◌≤◌, ◌<◌, length};
-ghost use Rattle.sh_base.specs.Parts.{parts_of};
-ghost use Rattle.sh_base.specs.Setting.{entry_size, node_size};
+ghost use Rattle.sh_base.specs.{Parts.{parts_of}, Setting.{entry_size, node_size}};
 ghost use Rattle.sh_image.specs.Node.{IsImage};
 ghost use Rattle.sh_map.specs.Calls.{IsInRange};
 ghost use Rattle.sh_client.specs.Bodies.{entry_body, inner_body, leaf_body};

@@ -1,18 +1,11 @@
 // The inner nodes that a client caches: a call begins at one's child, an image is kept, and a stale one is forgotten.
-ghost use Rattle.std.specs.Prelude.{◌≡◌, ◌≢◌, ◌==◌, IfSome, Some, None};
-ghost use Rattle.std.specs.List.{AllByRecursion};
-ghost use Rattle.sh_base.specs.Parts.{parts_of};
-ghost use Rattle.sh_base.specs.Setting.{IsNode};
-ghost use Rattle.sh_image.specs.declared.inner.Image.{Image};
-ghost use Rattle.sh_image.specs.Node.{IsImage};
-ghost use Rattle.sh_image.specs.Inner.{IsInner};
+ghost use Rattle.std.specs.{Prelude.{◌≡◌, ◌≢◌, ◌==◌, IfSome, Some, None}, List.{AllByRecursion}};
+ghost use Rattle.sh_base.specs.{Parts.{parts_of}, Setting.{IsNode}};
+ghost use Rattle.sh_image.specs.{declared.inner.Image.{Image}, Node.{IsImage}, Inner.{IsInner}};
 ghost use Rattle.sh_map.specs.Calls.{IsInRange};
 ghost use Rattle.sh_read.specs.Reads.{accepted};
-ghost use Rattle.sh_client.specs.declared.state.Phase.TheVariants.{Idle};
+ghost use Rattle.sh_client.specs.{declared.state.Phase.TheVariants.{Idle}, Cached.{keeping, learning, origin_of, settling}, Feeds.{at_child, began_at, calling}, Machine.{to}};
 ghost use Rattle.sh_decide.specs.Aims.{target};
-ghost use Rattle.sh_client.specs.Cached.{keeping, learning, origin_of, settling};
-ghost use Rattle.sh_client.specs.Feeds.{at_child, began_at, calling};
-ghost use Rattle.sh_client.specs.Machine.{to};
 
 use crate::steps::image;
 use crate::tally::up;

@@ -1,18 +1,11 @@
 // The client: what it wants, and what it does with what it's fed.
-ghost use Rattle.std.specs.Prelude.{◌≡◌, ◌≤◌, ◌<◌, [], ◌++◌, IfOk, IfSome, length, vec_len};
-ghost use Rattle.sh_base.specs.Parts.{parts_of};
-ghost use Rattle.sh_base.specs.Setting.{all_seats};
+ghost use Rattle.std.specs.{Prelude.{◌≡◌, ◌≤◌, ◌<◌, [], ◌++◌, IfOk, IfSome, length, vec_len}, Vec.{vec_capacity}, List.{AllByRecursion}, Option.{option_map}};
+ghost use Rattle.sh_base.specs.{Parts.{parts_of}, Setting.{all_seats}};
 ghost use Rattle.sh_map.specs.Calls.{IsInRange};
-ghost use Rattle.sh_client.specs.declared.state.Phase.TheVariants.{Idle, Ended};
-ghost use Rattle.sh_client.specs.Machine.{fresh_machine};
-ghost use Rattle.sh_client.specs.Feeds.{begun, fed_by, finished, turned_by};
-ghost use Rattle.std.specs.Vec.{vec_capacity};
-ghost use Rattle.sh_client.specs.Giving.{makes, stored_entries};
-ghost use Rattle.std.specs.List.{AllByRecursion};
-ghost use Rattle.std.specs.Option.{option_map};
+ghost use Rattle.sh_client.specs.{declared.state.Phase.TheVariants.{Idle, Ended}, Machine.{fresh_machine}, Feeds.{begun, fed_by, finished, turned_by}, Giving.{makes, stored_entries}};
+ghost use Rattle.sh_client.specs.Rests.{reply_of, rows_told};
 ghost use Rattle.sh_image.specs.Inner.{Inner};
 ghost use Rattle.sh_cache.specs.Cached.{found, HaveOwnLows};
-ghost use Rattle.sh_client.specs.Rests.{reply_of, rows_told};
 
 use crate::{Client, Phase, Tally, Words, Write};
 use sh_alloc::{Chunks, Spare};

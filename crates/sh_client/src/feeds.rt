@@ -4,15 +4,11 @@ ghost use Rattle.sh_base.specs.Setting.{IsNode};
 ghost use Rattle.sh_image.specs.declared.inner.Image.{Image};
 ghost use Rattle.sh_read.specs.Reads.{accepted};
 ghost use Rattle.sh_client.specs.declared.state.Phase.TheVariants as phase;
-ghost use Rattle.sh_decide.specs.declared.state.Aim.TheVariants.{Own};
+ghost use Rattle.sh_decide.specs.{declared.state.Aim.TheVariants.{Own}, Allowed.{Leads}};
 ghost use Rattle.sh_decide.specs.declared.state.Decision.TheVariants as decision;
-ghost use Rattle.sh_client.specs.declared.state.Then.TheVariants.{Ends};
-ghost use Rattle.sh_client.specs.declared.state.Write.TheVariants.{Nothing, Entry, Leaf, Inner};
-ghost use Rattle.sh_client.specs.Bodies.{entry_body, inner_body, leaf_body};
-ghost use Rattle.sh_client.specs.Machine.{answering, storing, to};
-ghost use Rattle.sh_client.specs.Feeds.{arrived, back, did, fed_in, held_by, turned, went};
+ghost use Rattle.sh_client.specs.{declared.state.{Then.TheVariants.{Ends}, Write.TheVariants.{Nothing, Entry, Leaf, Inner}}, Bodies.{entry_body, inner_body, leaf_body}};
+ghost use Rattle.sh_client.specs.{Machine.{answering, storing, to}, Feeds.{arrived, back, did, fed_in, held_by, turned, went}};
 ghost use Rattle.sh_client.specs.Sound.{AllowsIn, CanAddIn, CanChangeIn, CanRewriteIn, IsAim, IsFilled, Stands};
-ghost use Rattle.sh_decide.specs.Allowed.{Leads};
 
 use crate::bodies::{put_entry, put_inner, put_leaf};
 use crate::steps::image;

@@ -2,9 +2,7 @@
 ghost use Rattle.std.specs.Prelude.{◌≡◌, ◌≤◌};
 ghost use Rattle.sh_base.specs.Parts.{parts_of};
 ghost use Rattle.sh_client.specs.declared.state.Phase.TheVariants as phase;
-ghost use Rattle.sh_client.specs.Feeds.{fed_in};
-ghost use Rattle.sh_client.specs.Giving.{carried, counted, followed, released, writes_nothing, write_begun};
-ghost use Rattle.sh_client.specs.Sound.{IsCarry, IsGiving, IsLocked, IsThen, Stands};
+ghost use Rattle.sh_client.specs.{Feeds.{fed_in}, Giving.{carried, counted, followed, released, writes_nothing, write_begun}, Sound.{IsCarry, IsGiving, IsLocked, IsThen, Stands}};
 ghost use Rattle.sh_lock.specs.Locks.{release_of};
 
 use crate::{Client, Giving, Phase, Then, Write};

@@ -1,29 +1,15 @@
 // What updates store, what senseless words lead to, and what no turn changes.
 ghost use Rattle.std.specs.Prelude.{◌≡◌, ◌⊎◌, ◌<◌, ◌≤◌, ◌+◌, ℕ, length, Option, Some, Contains};
-ghost use Rattle.sh_image.specs.Inner.{Inner};
-ghost use Rattle.sh_base.specs.declared.config.ConfigParts.{ConfigParts};
-ghost use Rattle.sh_base.specs.Layout.{entry_at, node_word};
-ghost use Rattle.sh_base.specs.Setting.{entry_size, node_size};
+ghost use Rattle.sh_image.specs.{Inner.{Inner}, Entries.{entry_words}, Leaf.{Leaf, IsLeaf, leaf_words}, declared.inner.Image.{Image}};
+ghost use Rattle.sh_base.specs.{declared.config.ConfigParts.{ConfigParts}, Layout.{entry_at, node_word}, Setting.{entry_size, node_size}};
 ghost use Rattle.sh_edit.specs.Rewriting.{rewritten};
-ghost use Rattle.sh_image.specs.Entries.{entry_words};
-ghost use Rattle.sh_image.specs.Leaf.{Leaf, IsLeaf, leaf_words};
-ghost use Rattle.sh_map.specs.declared.call.Call.{Call};
-ghost use Rattle.sh_map.specs.Calls.{IsInRange};
-ghost use Rattle.sh_image.specs.declared.inner.Image.{Image};
-ghost use Rattle.sh_read.specs.declared.state.Progress.TheVariants.{Accepted, Odd};
-ghost use Rattle.sh_read.specs.Reads.{accepted, progress_of, read_fed};
-ghost use Rattle.sh_decide.specs.declared.state.Aim.{Aim};
-ghost use Rattle.sh_decide.specs.declared.state.Decision.TheVariants.{Entry, Restart, Rewrite};
-ghost use Rattle.sh_client.specs.declared.state.Phase.TheVariants.{ReadLocked, Waiting};
-ghost use Rattle.sh_client.specs.declared.state.Giving.{Giving};
-ghost use Rattle.sh_decide.specs.Deciding.{decision_of};
-ghost use Rattle.sh_client.specs.Bodies.{entry_left};
+ghost use Rattle.sh_map.specs.{declared.call.Call.{Call}, Calls.{IsInRange}};
+ghost use Rattle.sh_read.specs.{declared.state.Progress.TheVariants.{Accepted, Odd}, Reads.{accepted, progress_of, read_fed}};
+ghost use Rattle.sh_decide.specs.{declared.state.{Aim.{Aim}, Decision.TheVariants.{Entry, Restart, Rewrite}}, Deciding.{decision_of}, Aims.{call_key, written_key, written_value}};
+ghost use Rattle.sh_client.specs.{declared.state.{Phase.TheVariants.{ReadLocked, Waiting}, Giving.{Giving}}, Bodies.{entry_left}};
 ghost use Rattle.sh_client.specs.Courses.{carry_at, node_read, Finds, HandsOnce, GivesBack, KeepsCall, StoresThenFrees};
+ghost use Rattle.sh_client.specs.{CachedTurns.{learnt_by, BeginsBy, IsReplaced, IsStale, KeepsCached, ShowsParent}, Feeds.{fed_by, turned_by}, Machine.{Machine}};
 ghost use Rattle.sh_cache.specs.Cached.{found, HaveOwnLows};
-ghost use Rattle.sh_decide.specs.Aims.{call_key, written_key, written_value};
-ghost use Rattle.sh_client.specs.CachedTurns.{learnt_by, BeginsBy, IsReplaced, IsStale, KeepsCached, ShowsParent};
-ghost use Rattle.sh_client.specs.Feeds.{fed_by, turned_by};
-ghost use Rattle.sh_client.specs.Machine.{Machine};
 
 /// An update that finds its entry's version below the last one stores the words of this entry, each once, rising, and
 /// nothing else; they are as many as an entry has. One that rewrites its leaf stores so the words of the leaf, as many as

@@ -1,14 +1,11 @@
 // What a range does with a leaf.
-ghost use Rattle.std.specs.Prelude.{◌≡◌, ◌≢◌, ◌≤◌, length, Some, None};
-ghost use Rattle.std.specs.Vec.{vec_capacity};
+ghost use Rattle.std.specs.{Prelude.{◌≡◌, ◌≢◌, ◌≤◌, length, Some, None}, Vec.{vec_capacity}};
 ghost use Rattle.sh_base.specs.Parts.{parts_of};
 ghost use Rattle.sh_image.specs.declared.inner.Image.{Image};
 ghost use Rattle.sh_read.specs.Reads.{accepted};
 ghost use Rattle.sh_edit.specs.Ranging.{end_in};
-ghost use Rattle.sh_client.specs.Ranges.{edge_of, gathered, gathering, is_whole, passing, range_ended, rows_taken, rows_with};
-ghost use Rattle.sh_client.specs.Sound.{IsAim};
-ghost use Rattle.sh_decide.specs.Aims.{end_of};
-ghost use Rattle.sh_decide.specs.declared.state.Aim.TheVariants.{Gathers};
+ghost use Rattle.sh_client.specs.{Ranges.{edge_of, gathered, gathering, is_whole, passing, range_ended, rows_taken, rows_with}, Sound.{IsAim}};
+ghost use Rattle.sh_decide.specs.{Aims.{end_of}, declared.state.Aim.TheVariants.{Gathers}};
 
 use crate::steps::image;
 use crate::{Client, Edge, Phase};

@@ -1,26 +1,15 @@
 // How a client splits a node, and how it puts a new root over the old one.
 ghost use Rattle.std.specs.Prelude.{◌≡◌, ◌≢◌, ◌≤◌, ◌+◌, ◌-◌, ◌*◌, ◌^◌, ◌<◌, length, Some, None};
-ghost use Rattle.sh_base.specs.Parts.{parts_of};
-ghost use Rattle.sh_base.specs.Setting.{node_size, nodes, IsNode};
-ghost use Rattle.sh_edit.specs.Splitting.{IsSplit, left_half, right_half, separator_of};
-ghost use Rattle.sh_image.specs.Leaf.{IsLeaf, leaf_words};
-ghost use Rattle.sh_image.specs.Inner.{inner_words, IsInner};
-ghost use Rattle.sh_edit.specs.Pairing.{left_inner, middle_of, right_inner};
+ghost use Rattle.sh_base.specs.{Parts.{parts_of}, Setting.{node_size, nodes, IsNode}};
+ghost use Rattle.sh_edit.specs.{Splitting.{IsSplit, left_half, right_half, separator_of}, Pairing.{left_inner, middle_of, right_inner}};
+ghost use Rattle.sh_image.specs.{Leaf.{IsLeaf, leaf_words}, Inner.{inner_words, IsInner}, declared.inner.Image.{Image}};
 ghost use Rattle.sh_alloc.specs.Spares.{lowest};
-ghost use Rattle.sh_decide.specs.declared.state.Aim.TheVariants.{Own, Posts};
-ghost use Rattle.sh_image.specs.declared.inner.Image.{Image};
+ghost use Rattle.sh_decide.specs.{declared.state.Aim.TheVariants.{Own, Posts}, Aims.{written_key, written_value, post_of}};
 ghost use Rattle.sh_map.specs.Calls.{IsInRange};
 ghost use Rattle.sh_read.specs.Reads.{accepted};
 ghost use Rattle.sh_client.specs.declared.state.Phase.TheVariants as phase;
-ghost use Rattle.sh_decide.specs.Aims.{written_key, written_value, post_of};
-ghost use Rattle.sh_client.specs.Bodies.{pair_of};
-ghost use Rattle.sh_client.specs.Feeds.{fed_in};
-ghost use Rattle.sh_client.specs.declared.state.Need.TheVariants.{ToSplit};
-ghost use Rattle.sh_client.specs.declared.state.Filling.TheVariants.{RightHalf};
-ghost use Rattle.sh_client.specs.declared.state.Then.TheVariants.{Starts};
-ghost use Rattle.sh_client.specs.Machine.{to};
-ghost use Rattle.sh_client.specs.Sound.{HasSplit, IsAim, IsBody, IsFresh, IsNeed, IsPost, Stands};
-ghost use Rattle.sh_client.specs.Splitting.{all_spent, giving_of, root_grown, halved_by, needs, raised, with_fresh};
+ghost use Rattle.sh_client.specs.{Bodies.{pair_of}, Feeds.{fed_in}, declared.state.{Need.TheVariants.{ToSplit}, Filling.TheVariants.{RightHalf}, Then.TheVariants.{Starts}}, Machine.{to}};
+ghost use Rattle.sh_client.specs.{Sound.{HasSplit, IsAim, IsBody, IsFresh, IsNeed, IsPost, Stands}, Splitting.{all_spent, giving_of, root_grown, halved_by, needs, raised, with_fresh}};
 
 use crate::steps::image;
 use crate::{Client, Filling, Giving, Need, Phase, Then, Words, Write};

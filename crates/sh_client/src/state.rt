@@ -211,8 +211,7 @@ pub struct Client {
 
 impl Model for Client {
     ghost use Rattle.std.specs.Vec.{vec_capacity};
-    ghost use Rattle.sh_client.specs.Machine.{Machine, Registers};
-    ghost use Rattle.sh_client.specs.Sound.{IsClient};
+    ghost use Rattle.sh_client.specs.{Machine.{Machine, Registers}, Sound.{IsClient}};
 
     ghost Value = { Machine };
 

@@ -1,19 +1,13 @@
 // The parts of a client's steps.
 ghost use Rattle.std.specs.Prelude.{◌≡◌, ◌≢◌, ◌≤◌, ◌+◌, ◌<◌, MatchOption, None, Some};
-ghost use Rattle.sh_alloc.specs.Chunks.{IsWantOf, WantsEvent};
-ghost use Rattle.sh_alloc.specs.Spares.{lowest, with_lowest, without_lowest};
-ghost use Rattle.sh_alloc.specs.Walks.{walk_fed, walk_wants};
-ghost use Rattle.sh_base.specs.Layout.{first_node};
-ghost use Rattle.sh_base.specs.Setting.{IsNode};
-ghost use Rattle.sh_image.specs.Node.{IsImage};
-ghost use Rattle.sh_image.specs.declared.inner.Image.{Image};
+ghost use Rattle.sh_alloc.specs.{Chunks.{IsWantOf, WantsEvent}, Spares.{lowest, with_lowest, without_lowest}, Walks.{walk_fed, walk_wants}};
+ghost use Rattle.sh_base.specs.{Layout.{first_node}, Setting.{IsNode}};
+ghost use Rattle.sh_image.specs.{Node.{IsImage}, declared.inner.Image.{Image}};
 ghost use Rattle.sh_read.specs.Reads.{accepted, progress_of};
 ghost use Rattle.sh_client.specs.declared.state.Phase.TheVariants as phase;
-ghost use Rattle.sh_client.specs.Bodies.{answer_in};
-ghost use Rattle.sh_client.specs.Feeds.{back, loaded};
+ghost use Rattle.sh_client.specs.{Bodies.{answer_in}, Feeds.{back, loaded}};
 ghost use Rattle.sh_client.specs.Machine.{again, answering, handed_over, reading, rewrite_done, right_hop, skipped_spent, skipped_worn, sparing, split_done, to};
-ghost use Rattle.sh_client.specs.Sound.{IsBody, IsLoading, IsThen, Leaves, NeedsNoLock, Stands};
-ghost use Rattle.sh_client.specs.Splitting.{chunk_taken, walked, walking};
+ghost use Rattle.sh_client.specs.{Sound.{IsBody, IsLoading, IsThen, Leaves, NeedsNoLock, Stands}, Splitting.{chunk_taken, walked, walking}};
 
 use crate::tally::up;
 use crate::{Client, Giving, Phase, Then, Write};

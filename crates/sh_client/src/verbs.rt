@@ -2,8 +2,7 @@
 ghost use Rattle.std.specs.Prelude.{◌≡◌, ◌<◌, IfSome, length, true};
 ghost use Rattle.sh_base.specs.Setting.{all_locks, pool_words};
 ghost use Rattle.sh_client.specs.declared.state.Phase.TheVariants as phase;
-ghost use Rattle.sh_client.specs.Sound.{Stands};
-ghost use Rattle.sh_client.specs.Steps.{is_loading, is_storing, looks_of, StepGoesOn, HasLoaded, HasNextLoad, HasNextStore, HasStepped, HasStored};
+ghost use Rattle.sh_client.specs.{Sound.{Stands}, Steps.{is_loading, is_storing, looks_of, StepGoesOn, HasLoaded, HasNextLoad, HasNextStore, HasStepped, HasStored}};
 
 use crate::{Client, Filling, Giving, Phase, Step};
 use sh_base::Event;

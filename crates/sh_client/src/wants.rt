@@ -1,17 +1,11 @@
 // What a client wants.
 ghost use Rattle.std.specs.Prelude.{◌≡◌, ◌≢◌, true, ◌+◌, ◌<◌, ◌≤◌, length, slice_index};
-ghost use Rattle.sh_alloc.specs.Chunks.{WantsEvent};
-ghost use Rattle.sh_alloc.specs.Walks.{walk_wants};
-ghost use Rattle.sh_base.specs.Parts.{parts_of};
-ghost use Rattle.sh_base.specs.Layout.{lock_of, node_word};
-ghost use Rattle.sh_base.specs.Setting.{node_size, pool_words, IsNode};
+ghost use Rattle.sh_alloc.specs.{Chunks.{WantsEvent}, Walks.{walk_wants}};
+ghost use Rattle.sh_base.specs.{Parts.{parts_of}, Layout.{lock_of, node_word}, Setting.{node_size, pool_words, IsNode}, declared.event.Event.TheVariants.{Store}};
 ghost use Rattle.sh_lock.specs.Locks.{grab_of};
 ghost use Rattle.sh_read.specs.Reads.{wanted};
 ghost use Rattle.sh_client.specs.declared.state.Want.TheVariants as want;
-ghost use Rattle.sh_base.specs.declared.event.Event.TheVariants.{Store};
-ghost use Rattle.sh_client.specs.Rests.{is_resting};
-ghost use Rattle.sh_client.specs.Sound.{IsFilled, IsLoading};
-ghost use Rattle.sh_client.specs.Wants.{count_of, load_of, lock_word_of, offset_of, want_of, HandsOver, IsWithin};
+ghost use Rattle.sh_client.specs.{Rests.{is_resting}, Sound.{IsFilled, IsLoading}, Wants.{count_of, load_of, lock_word_of, offset_of, want_of, HandsOver, IsWithin}};
 
 use crate::{Client, Phase, Want, Write};
 use sh_alloc::ChunkWant;

@@ -1,10 +1,7 @@
 // The words of a node or of an entry, that are to be stored.
 ghost use Rattle.std.specs.Prelude.{◌≡◌, ◌+◌, ◌*◌, ◌<◌, ◌≤◌, [], length, slice_index};
-ghost use Rattle.sh_base.specs.Parts.{parts_of};
-ghost use Rattle.sh_base.specs.Setting.{node_size};
-ghost use Rattle.sh_image.specs.Entries.{entry_words};
-ghost use Rattle.sh_image.specs.Inner.{inner_words};
-ghost use Rattle.sh_image.specs.Leaf.{leaf_words, HaveWords};
+ghost use Rattle.sh_base.specs.{Parts.{parts_of}, Setting.{node_size}};
+ghost use Rattle.sh_image.specs.{Entries.{entry_words}, Inner.{inner_words}, Leaf.{leaf_words, HaveWords}};
 
 use sh_base::{Config, Value};
 use sh_image::{InnerImage, LeafImage, write_entry, write_inner, write_leaf};

@@ -1,23 +1,12 @@
 -- The causes of refusals stay, as the log and the counters grow.
-use Rattle.std.proofs.Common.{◌≡◌, ℕ, ◌+◌, ◌≤◌, ◌<◌, List, [], ◌∷◌, ◌++◌, length, sym, ap, ◌∙◌, subst, arith}
-use Rattle.std.proofs.lemmas.Bool.Decides.{nat_tests}
-use Rattle.std.proofs.lemmas.List.{take-append-le}
+use Rattle.std.proofs.{Common.{◌≡◌, ℕ, ◌+◌, ◌≤◌, ◌<◌, List, [], ◌∷◌, ◌++◌, length, sym, ap, ◌∙◌, subst, arith}, lemmas.{Bool.Decides.{nat_tests}, List.{take-append-le}}}
 use Rattle.sh_base.specs.declared.config.ConfigParts.{ConfigParts}
-use Rattle.sh_map.specs.declared.call.Call.{Call}
-use Rattle.sh_map.specs.declared.call.Call.TheVariants.{Put, Del, Range}
-use Rattle.sh_map.specs.declared.call.Reply.{Reply}
-use Rattle.sh_map.specs.declared.call.Reply.TheVariants as reply
-use Rattle.sh_map.specs.declared.log.Entry.{Entry as LogEntry}
-use Rattle.sh_map.specs.declared.book.Done.{Done}
-use Rattle.sh_map.specs.declared.book.Row.{Row}
-use Rattle.sh_map.specs.Map.{get}
-use Rattle.sh_map.specs.Log.{map_of}
-use Rattle.sh_state.specs.TreeState.{TreeState}
+use Rattle.sh_map.specs.{declared.{call.{Call.{Call, TheVariants.{Put, Del, Range}}, Reply.{Reply}}, log.Entry.{Entry as LogEntry}, book.{Done.{Done}, Row.{Row}}}, Map.{get}, Log.{map_of}}
 use Rattle.sh_map.specs.Points.{point_of}
-use Rattle.sh_core.specs.Actors.{Actor, AreAnswered}
-use Rattle.sh_core.specs.Fits.{IsDecided}
+use Rattle.sh_map.specs.declared.call.Reply.TheVariants as reply
+use Rattle.sh_state.specs.TreeState.{TreeState}
+use Rattle.sh_core.specs.{Actors.{Actor, AreAnswered}, Fits.{IsDecided}, Causes.{EndsByRows, HasCause, HaveCauses}}
 use Rattle.sh_edit.specs.Ranging.{last_key, upto_of}
-use Rattle.sh_core.specs.Causes.{EndsByRows, HasCause, HaveCauses}
 
 module _ (p : ConfigParts) (c now : ℕ → ℕ) (rise : (server : ℕ) → server < p.servers → c server ≤ now server) (log more : List LogEntry) where
   cause_longer : (first point : ℕ) (rows : List Row) (call : Call) (r : Reply) → point ≤ length log → HasCause p c log first point rows call r → HasCause p now (log ++ more) first point rows call r

@@ -1,52 +1,23 @@
 -- How a turn's new invariant is put together: the actor goes on with its call, or its call has ended.
 use Rattle.std.proofs.Common.{◌≡◌, ◌≢◌, ℕ, ◌+◌, ◌<◌, ◌≤◌, false, true, List, [], ◌∷◌, ◌++◌, length, Option, Some, None, refl, sym, ap, ◌∙◌, subst, arith, append-nil, length-append}
-use Rattle.sh_base.specs.declared.config.ConfigParts.{ConfigParts}
-use Rattle.sh_base.specs.declared.event.Event.{Event}
-use Rattle.sh_base.specs.declared.event.Event.TheVariants as event
-use Rattle.sh_base.specs.Memory.{apply, found_by}
-use Rattle.sh_base.specs.Setting.{all_seats, IsSetting}
-use Rattle.sh_base.specs.Layout.{counter_word}
 use Rattle.std.proofs.lemmas.List.{take-append-le}
-use Rattle.sh_map.specs.declared.call.Call.{Call}
+use Rattle.sh_base.specs.{declared.{config.ConfigParts.{ConfigParts}, event.Event.{Event}}, Memory.{apply, found_by}, Setting.{all_seats, IsSetting}, Layout.{counter_word}}
+use Rattle.sh_base.specs.declared.event.Event.TheVariants as event
+use Rattle.sh_map.specs.{declared.{call.{Call.{Call}, Reply.{Reply}}, log.Entry.{Entry as LogEntry}, book.{Done.{Done}, Row.{Row}}}, Map.{get}, Log.{map_of, map_at}, Made.{entries_by}}
+use Rattle.sh_map.{specs.{Points.{IsLeastPoint, least_point, point_of}, Book.{made}}, proofs.{BookLemmas.{IsLeastPoint-push}, LeastLemmas.{least_is}}}
 use Rattle.sh_map.specs.declared.call.Call.TheVariants as call
-use Rattle.sh_map.specs.declared.call.Reply.{Reply}
 use Rattle.sh_map.specs.declared.call.Reply.TheVariants as reply
-use Rattle.sh_map.specs.declared.log.Entry.{Entry as LogEntry}
-use Rattle.sh_map.specs.declared.book.Done.{Done}
-use Rattle.sh_map.specs.declared.book.Row.{Row}
-use Rattle.sh_map.specs.Map.{get}
-use Rattle.sh_map.specs.Log.{map_of, map_at}
-use Rattle.sh_map.specs.Made.{entries_by}
-use Rattle.sh_map.specs.Points.{IsLeastPoint, least_point, point_of}
-use Rattle.sh_map.specs.Book.{made}
-use Rattle.sh_map.proofs.BookLemmas.{IsLeastPoint-push}
 use Rattle.sh_read.specs.Reads.{wanted}
-use Rattle.sh_state.specs.TreeState.{Pending, Skipped, Grant, Seat, LockState, Held, Owns, TreeState}
-use Rattle.sh_state.specs.Ground.{Ground}
-use Rattle.sh_state.specs.Change.{Change}
-use Rattle.sh_state.proofs.Joins.{nothing_done}
-use Rattle.sh_state.proofs.Puts.{put_else, put_case}
-use Rattle.sh_acts.specs.Acts.{with_hold}
-use Rattle.sh_readers.specs.Hand.{AreRowsOf}
-use Rattle.sh_readers.proofs.RowLemmas.{rows_linked}
-use Rattle.sh_acts.specs.Counters.{Bounded}
+use Rattle.sh_state.{specs.{TreeState.{Pending, Skipped, Grant, Seat, LockState, Held, Owns, TreeState}, Ground.{Ground}, Change.{Change}}, proofs.{Joins.{nothing_done}, Puts.{put_else, put_case}}}
+use Rattle.sh_acts.specs.{Acts.{with_hold}, Counters.{Bounded}}
+use Rattle.sh_readers.{specs.Hand.{AreRowsOf}, proofs.RowLemmas.{rows_linked}}
 use Rattle.sh_decide.specs.declared.state.Posting.{Posting}
 use Rattle.sh_client.specs.declared.state.Want.TheVariants as want
-use Rattle.sh_client.specs.declared.state.Phase.{Phase}
-use Rattle.sh_client.specs.declared.state.Phase.TheVariants.{Idle, Read, ReadLocked, Seek, Ended}
-use Rattle.sh_client.specs.Giving.{makes}
-use Rattle.sh_client.specs.Machine.{Machine, Registers}
-use Rattle.sh_client.specs.Rests.{rests, rows_for}
+use Rattle.sh_client.specs.{declared.state.Phase.{Phase, TheVariants.{Idle, Read, ReadLocked, Seek, Ended}}, Giving.{makes}, Machine.{Machine, Registers}, Rests.{rests, rows_for}}
 use Rattle.sh_client.specs.Wants.{want_in, load_of}
-use Rattle.sh_core.specs.Actors.{Actor, ending, actor_stepped, done_of, IsAnswered, AreAnswered, made_by, updates}
-use Rattle.sh_core.specs.Fits.{AreSpares, HadNone, IsDecided, Owes, Fits}
-use Rattle.sh_core.specs.Causes.{HasCause}
-use Rattle.sh_core.specs.Keeps.{holding, Hands, Waits, pending, IsSeated, skips_counted, Skips, IsAtWork, KeepsActor}
-use Rattle.sh_core.specs.Core.{WantsAdd, SomeAdds, Inv, Moves}
-use Rattle.sh_map.proofs.LeastLemmas.{least_is}
-use Rattle.sh_core.proofs.Logs.{grows as log_grows, updates-snoc, in_order_snoc, answered_snoc}
-use Rattle.sh_core.proofs.Causes.{causes_on, causes_snoc}
-use Rattle.sh_core.proofs.Others.{Grows, owes_on, adds_before, bounded_less, turn_to}
+use Rattle.sh_core.specs.{Actors.{Actor, ending, actor_stepped, done_of, IsAnswered, AreAnswered, made_by, updates}, Fits.{AreSpares, HadNone, IsDecided, Owes, Fits}, Causes.{HasCause}}
+use Rattle.sh_core.specs.{Keeps.{holding, Hands, Waits, pending, IsSeated, skips_counted, Skips, IsAtWork, KeepsActor}, Core.{WantsAdd, SomeAdds, Inv, Moves}}
+use Rattle.sh_core.proofs.{Logs.{grows as log_grows, updates-snoc, in_order_snoc, answered_snoc}, Causes.{causes_on, causes_snoc}, Others.{Grows, owes_on, adds_before, bounded_less, turn_to}}
 
 -- the actor's call goes on, and its seat has seen so much of the log
 abbrev pub next : Actor → ℕ → Machine → Actor

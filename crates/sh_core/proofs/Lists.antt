@@ -1,13 +1,8 @@
 -- The laws over a list of actors, and a list of rights.
 use Rattle.std.proofs.Common.{◌≡◌, ◌≢◌, ℕ, zero, suc, ◌<◌, Bool, true, false, List, [], ◌∷◌, ◌++◌, length, set, Some, refl, sym, ap, ◌∙◌, inl, inr, arith, eq-eqb, eqb-true}
-use Rattle.std.specs.Prelude.{◌==◌, if◌then◌else◌, slice_get}
-use Rattle.std.proofs.lemmas.Option.{slice_get_within}
+use Rattle.std.{specs.Prelude.{◌==◌, if◌then◌else◌, slice_get}, proofs.lemmas.Option.{slice_get_within}}
 use Rattle.sh_logic.proofs.Lists.{slice_get-append_left, slice_get-push_back, slice_get-push_end}
-use Rattle.sh_core.specs.Actors.{Actor}
-use Rattle.sh_core.specs.Core.{Moves}
-use Rattle.sh_core.specs.Opening.{IsFreeSeat}
-use Rattle.sh_core.specs.Listed.{HasAt, RightOut, OutAt, without}
-use Rattle.sh_core.proofs.Moves.{moves_from}
+use Rattle.sh_core.{specs.{Actors.{Actor}, Core.{Moves}, Opening.{IsFreeSeat}, Listed.{HasAt, RightOut, OutAt, without}}, proofs.Moves.{moves_from}}
 
 pub set_here : {X : Type 0} (xs : List X) (i : ℕ) (x : X) → i < length xs → slice_get (set xs i x) i ≡ Some x
 set_here [] i x lt = absurd (omega (arith, lt))

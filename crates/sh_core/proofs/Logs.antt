@@ -1,16 +1,9 @@
 -- The log and the ended calls, some entries or one call longer; and the least point.
-use Rattle.std.proofs.Common.{◌≡◌, ℕ, ◌+◌, ◌≤◌, List, [], ◌∷◌, ◌++◌, Some, None, refl, sym, ap, ◌∙◌, subst, arith, append-nil, append_assoc, ne_eqb, eq-eqb}
-use Rattle.std.specs.Prelude.{◌==◌}
+use Rattle.std.{proofs.Common.{◌≡◌, ℕ, ◌+◌, ◌≤◌, List, [], ◌∷◌, ◌++◌, Some, None, refl, sym, ap, ◌∙◌, subst, arith, append-nil, append_assoc, ne_eqb, eq-eqb}, specs.Prelude.{◌==◌}}
 use Rattle.std.proofs.lemmas.List.Elements.{filter-append}
-use Rattle.sh_map.specs.declared.call.Call.{Call}
+use Rattle.sh_map.{specs.{declared.{call.{Call.{Call}, Reply.{Reply}}, log.Entry.{Entry}, book.Done.{Done}}, Made.{entries_by}, Book.{made}}, proofs.BookLemmas.{Answers-push, IsLeastPoint-push}}
 use Rattle.sh_map.specs.declared.call.Call.TheVariants as call
-use Rattle.sh_map.specs.declared.call.Reply.{Reply}
 use Rattle.sh_map.specs.declared.call.Reply.TheVariants as reply
-use Rattle.sh_map.specs.declared.log.Entry.{Entry}
-use Rattle.sh_map.specs.declared.book.Done.{Done}
-use Rattle.sh_map.specs.Made.{entries_by}
-use Rattle.sh_map.specs.Book.{made}
-use Rattle.sh_map.proofs.BookLemmas.{Answers-push, IsLeastPoint-push}
 use Rattle.sh_state.specs.Change.{HasNoneOf}
 use Rattle.sh_core.specs.Actors.{IsLeast, IsAnswered, AreAnswered, AreInOrder, updates, made_by}
 

@@ -1,10 +1,7 @@
 -- Which seat has which actor: one seat's actor changes and the others stay, and what is said otherwise.
-use Rattle.std.proofs.Common.{◌≡◌, ◌≢◌, ℕ, refl, subst, inl, inr}
-use Rattle.std.proofs.lemmas.Bool.{cases_eq}
+use Rattle.std.proofs.{Common.{◌≡◌, ◌≢◌, ℕ, refl, subst, inl, inr}, lemmas.Bool.{cases_eq}}
 use Rattle.sh_base.specs.declared.config.ConfigParts.{ConfigParts}
-use Rattle.sh_core.specs.Actors.{Actor}
-use Rattle.sh_core.specs.Core.{Instead, Moves, SameKeeps, SomeAdds}
-use Rattle.sh_core.proofs.Others.{bounded_less}
+use Rattle.sh_core.{specs.{Actors.{Actor}, Core.{Instead, Moves, SameKeeps, SomeAdds}}, proofs.Others.{bounded_less}}
 
 pub put_moves : (Has : ℕ → Actor → Type 0) (i : ℕ) (a : Actor) → Moves Has i a (Instead Has i a)
 put_moves Has i a = record { back = λ j b h. h; here = inl (refl, refl); on = λ j b ne h. inr (ne, h) }

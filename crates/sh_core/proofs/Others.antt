@@ -5,54 +5,24 @@ use mathlib.Core.Logic.{dite}
 use native.Mathlib.Decide.{ℕ_discrete}
 use Rattle.std.proofs.lemmas.List.{take-append-le}
 use Rattle.sh_logic.proofs.Lists.{slice_get-append_left}
-use Rattle.sh_base.specs.declared.config.ConfigParts.{ConfigParts}
-use Rattle.sh_base.specs.Setting.{all_seats, node_size, IsSetting}
-use Rattle.sh_base.specs.Layout.{lock_of}
-use Rattle.sh_map.specs.declared.call.Call.{Call}
+use Rattle.sh_base.specs.{declared.config.ConfigParts.{ConfigParts}, Setting.{all_seats, node_size, IsSetting}, Layout.{lock_of}}
+use Rattle.sh_map.specs.{declared.{call.{Call.{Call}, Reply.{Reply}}, log.Entry.{Entry as LogEntry}}, Map.{get}, Log.{change_key, map_of, map_at}, Made.{entries_by}}
 use Rattle.sh_map.specs.declared.call.Call.TheVariants as call
-use Rattle.sh_map.specs.declared.call.Reply.{Reply}
 use Rattle.sh_map.specs.declared.call.Reply.TheVariants as reply
-use Rattle.sh_map.specs.declared.log.Entry.{Entry as LogEntry}
-use Rattle.sh_map.specs.Map.{get}
-use Rattle.sh_map.specs.Log.{change_key, map_of, map_at}
-use Rattle.sh_map.specs.Made.{entries_by}
-use Rattle.sh_alloc.specs.declared.state.NodeRange.{NodeRange}
-use Rattle.sh_alloc.specs.declared.state.Walk.{Walk}
+use Rattle.sh_alloc.specs.declared.state.{NodeRange.{NodeRange}, Walk.{Walk}}
 use Rattle.sh_image.specs.declared.inner.Pair.{Pair}
 use Rattle.sh_read.specs.Reads.{Reads}
-use Rattle.sh_state.specs.Nodes.{low_in, high_in, IsStandingLeaf}
-use Rattle.sh_state.specs.TreeState.{Linked, Pending, Skipped, Owner, Seat, Grant, LockState, Held, Owns, TreeState}
-use Rattle.sh_state.specs.Ground.{Ground}
+use Rattle.sh_state.specs.{Nodes.{low_in, high_in, IsStandingLeaf}, TreeState.{Linked, Pending, Skipped, Owner, Seat, Grant, LockState, Held, Owns, TreeState}, Ground.{Ground}}
 use Rattle.sh_state.specs.Change.{ChangeFor, Change}
-use Rattle.sh_acts.specs.Counters.{Bounded}
-use Rattle.sh_acts.specs.Images.{IsEntryOf, IsPairOf}
-use Rattle.sh_readers.specs.Knows.{fed_from, fed_words}
-use Rattle.sh_readers.specs.Hand.{IsNamed}
-use Rattle.sh_readers.specs.Ranges.{IsGathered}
-use Rattle.sh_readers.proofs.RowLemmas.{rows_linked}
-use Rattle.sh_readers.proofs.Gathering.{gathered_more}
-use Rattle.sh_readers.proofs.Known.{known_on}
-use Rattle.sh_decide.specs.declared.state.Posting.{Posting}
-use Rattle.sh_decide.specs.declared.state.Aim.{Aim}
-use Rattle.sh_decide.specs.declared.state.Aim.TheVariants.{Own, Gathers, Posts}
-use Rattle.sh_client.specs.declared.state.Then.{Then}
-use Rattle.sh_client.specs.declared.state.Then.TheVariants.{Ends, Starts, Takes}
-use Rattle.sh_client.specs.declared.state.Write.{Write}
-use Rattle.sh_client.specs.declared.state.Write.TheVariants.{Nothing, Entry, Leaf as WholeLeaf, LeftLeaf, Inner as WholeInner, LeftInner}
-use Rattle.sh_client.specs.declared.state.Phase.{Phase}
-use Rattle.sh_client.specs.declared.state.Phase.TheVariants.{Root, Read, Draw, Look, Grab, ReadLocked, Seek, Fill, Waiting, Body, Unlock, Leave, Swap}
-use Rattle.sh_client.specs.declared.state.Giving.{Giving}
-use Rattle.sh_client.specs.declared.state.Need.{Need}
-use Rattle.sh_client.specs.declared.state.Need.TheVariants.{ToSplit, ToGrow}
-use Rattle.sh_client.specs.declared.state.Filling.{Filling}
-use Rattle.sh_client.specs.declared.state.Filling.TheVariants.{RightHalf, NewRoot}
-use Rattle.sh_client.specs.Machine.{Registers}
-use Rattle.sh_decide.specs.Aims.{aimed_key, target}
+use Rattle.sh_acts.specs.{Counters.{Bounded}, Images.{IsEntryOf, IsPairOf}}
+use Rattle.sh_readers.{specs.{Knows.{fed_from, fed_words}, Hand.{IsNamed}, Ranges.{IsGathered}}, proofs.{RowLemmas.{rows_linked}, Gathering.{gathered_more}, Known.{known_on}}}
+use Rattle.sh_decide.specs.{declared.state.{Posting.{Posting}, Aim.{Aim, TheVariants.{Own, Gathers, Posts}}}, Aims.{aimed_key, target}}
+use Rattle.sh_client.specs.declared.state.{Then.{Then, TheVariants.{Ends, Starts, Takes}}, Write.{Write, TheVariants.{Nothing, Entry, Leaf as WholeLeaf, LeftLeaf, Inner as WholeInner, LeftInner}}}
+use Rattle.sh_client.specs.declared.state.{Phase.{Phase, TheVariants.{Root, Read, Draw, Look, Grab, ReadLocked, Seek, Fill, Waiting, Body, Unlock, Leave, Swap}}, Giving.{Giving}, Need.{Need}}
+use Rattle.sh_client.specs.{declared.state.{Need.TheVariants.{ToSplit, ToGrow}, Filling.{Filling, TheVariants.{RightHalf, NewRoot}}}, Machine.{Registers}}
 use Rattle.sh_core.specs.Actors.{Actor, AreAnswered, made_by}
 use Rattle.sh_core.specs.Fits.{Gathered, HasEntry, IsPosting, Owes, HasRead, IsOnWay, AreLast, IsSeeking, FillsFresh, ChangesEntry, ChangesLeaf, CutsLeaf, AddsPair, CutsInner, IsUpdate, PlansPair, PlansHalf, HadNone, IsDecided, IsAtNode, Follows, Plans, storing_hold, IsHolding, IsLeaving, IsBelow, PlansRoot, HoldsNode, Needs, FillsWith, Fits}
-use Rattle.sh_core.specs.Keeps.{holding, Hands, Waits, skips_counted, Skips, KeepsActor}
-use Rattle.sh_core.specs.Core.{WantsAdd, SomeAdds, Inv, Moves}
-use Rattle.sh_core.proofs.Causes.{causes_on}
+use Rattle.sh_core.{specs.{Keeps.{holding, Hands, Waits, skips_counted, Skips, KeepsActor}, Core.{WantsAdd, SomeAdds, Inv, Moves}}, proofs.Causes.{causes_on}}
 use Rattle.sh_core.proofs.Logs.{made_by-append, made_by_none, answered_longer}
 
 -- ---- what the log's growth and the links' leave

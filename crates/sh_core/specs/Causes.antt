@@ -1,15 +1,7 @@
 -- What the refusal of a call came by.
-use Rattle.std.specs.Prelude.{◌≡◌, ◌+◌, ◌<◌, ◌≤◌, ℕ, List, length}
-use Rattle.std.specs.List.{AllByRecursion}
-use Rattle.sh_base.specs.declared.config.ConfigParts.{ConfigParts}
-use Rattle.sh_base.specs.Setting.{last_version}
-use Rattle.sh_map.specs.declared.call.Call.{Call}
-use Rattle.sh_map.specs.declared.call.Call.TheVariants.{Put, Del, Range}
-use Rattle.sh_map.specs.declared.call.Reply.{Reply}
-use Rattle.sh_map.specs.declared.call.Reply.TheVariants.{Rows, Full, Worn}
-use Rattle.sh_map.specs.declared.log.Entry.{Entry as LogEntry}
-use Rattle.sh_map.specs.declared.book.Done.{Done}
-use Rattle.sh_map.specs.declared.book.Row.{Row}
+use Rattle.std.specs.{Prelude.{◌≡◌, ◌+◌, ◌<◌, ◌≤◌, ℕ, List, length}, List.{AllByRecursion}}
+use Rattle.sh_base.specs.{declared.config.ConfigParts.{ConfigParts}, Setting.{last_version}}
+use Rattle.sh_map.specs.declared.{call.{Call.{Call, TheVariants.{Put, Del, Range}}, Reply.{Reply, TheVariants.{Rows, Full, Worn}}}, log.Entry.{Entry as LogEntry}, book.{Done.{Done}, Row.{Row}}}
 use Rattle.sh_edit.specs.Ranging.{last_key}
 use Rattle.sh_core.specs.Fits.{WasFull}
 

@@ -1,28 +1,14 @@
 -- The invariant of clients over one pool, and the laws that keep it, whatever the order of their turns.
 use Rattle.std.specs.Prelude.{◌≡◌, ◌≢◌, ◌⊎◌, ℕ, ◌<◌, ◌≤◌, true, List, [], ◌++◌, length, Some, None}
-use Rattle.sh_base.specs.declared.config.ConfigParts.{ConfigParts}
-use Rattle.sh_base.specs.declared.event.Event.{Event}
+use Rattle.sh_base.specs.{declared.{config.ConfigParts.{ConfigParts}, event.Event.{Event}}, Setting.{all_seats}, Layout.{counter_word, compute_of, lock_of}, Memory.{apply, found_by}}
 use Rattle.sh_base.specs.declared.event.Event.TheVariants as event
-use Rattle.sh_base.specs.Setting.{all_seats}
-use Rattle.sh_base.specs.Layout.{counter_word, compute_of, lock_of}
-use Rattle.sh_base.specs.Memory.{apply, found_by}
-use Rattle.sh_map.specs.declared.call.Call.{Call}
-use Rattle.sh_map.specs.declared.log.Entry.{Entry as LogEntry}
-use Rattle.sh_map.specs.Calls.{IsInRange}
-use Rattle.sh_state.specs.TreeState.{Pending, Skipped, Seat, Grant, Held, Owns, TreeState}
-use Rattle.sh_state.specs.Ground.{Ground}
+use Rattle.sh_map.specs.{declared.{call.Call.{Call}, log.Entry.{Entry as LogEntry}}, Calls.{IsInRange}}
+use Rattle.sh_state.specs.{TreeState.{Pending, Skipped, Seat, Grant, Held, Owns, TreeState}, Ground.{Ground}}
 use Rattle.sh_acts.specs.Counters.{Bounded}
 use Rattle.sh_decide.specs.declared.state.Aim.{Aim}
-use Rattle.sh_client.specs.declared.state.Then.{Then}
-use Rattle.sh_client.specs.declared.state.Want.{Want}
+use Rattle.sh_client.specs.{declared.state.{Then.{Then}, Want.{Want}, Phase.TheVariants.{Look, Leave, Ended}}, Machine.{Machine}, Giving.{makes}, Rests.{is_resting}, Wants.{want_of}}
 use Rattle.sh_client.specs.declared.state.Want.TheVariants as want
-use Rattle.sh_client.specs.declared.state.Phase.TheVariants.{Look, Leave, Ended}
-use Rattle.sh_client.specs.Machine.{Machine}
-use Rattle.sh_client.specs.Giving.{makes}
-use Rattle.sh_client.specs.Rests.{is_resting}
-use Rattle.sh_client.specs.Wants.{want_of}
-use Rattle.sh_core.specs.Actors.{Actor, actor_begun, made_by, rested, actor_stepped, actor_turned}
-use Rattle.sh_core.specs.Keeps.{KeepsActor}
+use Rattle.sh_core.specs.{Actors.{Actor, actor_begun, made_by, rested, actor_stepped, actor_turned}, Keeps.{KeepsActor}}
 
 -- a client is to count a server's counter on
 abbrev pub WantsAdd : ConfigParts → (server : ℕ) → Machine → Type 0

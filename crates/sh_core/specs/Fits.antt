@@ -1,59 +1,23 @@
 -- What a client knows of the scene, by what it is at.
 use Rattle.std.specs.Prelude.{◌≡◌, ◌≢◌, ℕ, zero, suc, ◌+◌, ◌-◌, ◌*◌, ◌^◌, ◌%◌, ◌<◌, ◌≤◌, Bool, true, false, List, [], ◌∷◌, length, drop, slice_index, slice_set, slice_get, Option, Some, None}
-use Rattle.sh_base.specs.declared.config.ConfigParts.{ConfigParts}
-use Rattle.sh_base.specs.Setting.{node_size, last_version, IsNode}
-use Rattle.sh_base.specs.Layout.{lock_of, entry_at}
-use Rattle.sh_map.specs.declared.call.Call.{Call}
+use Rattle.sh_base.specs.{declared.config.ConfigParts.{ConfigParts}, Setting.{node_size, last_version, IsNode}, Layout.{lock_of, entry_at}}
+use Rattle.sh_map.specs.{declared.{call.{Call.{Call}, Reply.{Reply}}, book.Row.{Row}, log.Entry.{Entry as LogEntry}}, Calls.{IsKey}, Map.{get}, Log.{changed, map_at}, Made.{entries_by}}
 use Rattle.sh_map.specs.declared.call.Call.TheVariants as call
-use Rattle.sh_map.specs.declared.book.Row.{Row}
-use Rattle.sh_map.specs.Calls.{IsKey}
-use Rattle.sh_map.specs.declared.call.Reply.{Reply}
 use Rattle.sh_map.specs.declared.call.Reply.TheVariants as reply
 use Rattle.sh_map.specs.declared.log.Change.TheVariants as change
-use Rattle.sh_map.specs.declared.log.Entry.{Entry as LogEntry}
-use Rattle.sh_map.specs.Map.{get}
-use Rattle.sh_map.specs.Log.{changed, map_at}
-use Rattle.sh_map.specs.Made.{entries_by}
-use Rattle.sh_image.specs.declared.leaf.LeafEntry.{LeafEntry}
-use Rattle.sh_image.specs.declared.inner.Pair.{Pair}
-use Rattle.sh_image.specs.declared.inner.Image.{Image}
-use Rattle.sh_image.specs.Entries.{entry_words}
-use Rattle.sh_image.specs.Leaf.{Leaf, IsEntry, IsLeaf, leaf_in, leaf_words}
+use Rattle.sh_image.specs.{declared.{leaf.LeafEntry.{LeafEntry}, inner.{Pair.{Pair}, Image.{Image}}}, Entries.{entry_words}, Leaf.{Leaf, IsEntry, IsLeaf, leaf_in, leaf_words}}
 use Rattle.sh_image.specs.Inner.{inner_in, inner_words}
-use Rattle.sh_edit.specs.Held.{map_of_entries, HasKeysOnce}
-use Rattle.sh_edit.specs.Splitting.{left_half, right_half, separator_of, IsSplit}
-use Rattle.sh_edit.specs.Pairing.{left_inner, right_inner, middle_of, root_over, with_pair}
-use Rattle.sh_alloc.specs.declared.state.NodeRange.{NodeRange}
-use Rattle.sh_alloc.specs.declared.state.Walk.{Walk}
-use Rattle.sh_alloc.specs.Spares.{IsSpare}
-use Rattle.sh_alloc.specs.Walks.{IsWalk, walk_wants}
-use Rattle.sh_alloc.specs.Chunks.{WantsEvent}
-use Rattle.sh_read.specs.Moments.{Writing, Idle as NoWrite, Whole, One}
-use Rattle.sh_read.specs.Reads.{Reads, accepted}
-use Rattle.sh_state.specs.TreeState.{Fresh, Linked, Pending, Seat, LockState, Held, Writes, TreeState, writing}
-use Rattle.sh_state.specs.Nodes.{standing_entries}
+use Rattle.sh_edit.specs.{Held.{map_of_entries, HasKeysOnce}, Splitting.{left_half, right_half, separator_of, IsSplit}, Pairing.{left_inner, right_inner, middle_of, root_over, with_pair}}
+use Rattle.sh_alloc.specs.{declared.state.{NodeRange.{NodeRange}, Walk.{Walk}}, Spares.{IsSpare}, Walks.{IsWalk, walk_wants}, Chunks.{WantsEvent}}
+use Rattle.sh_read.specs.{Moments.{Writing, Idle as NoWrite, Whole, One}, Reads.{Reads, accepted}}
+use Rattle.sh_state.specs.{TreeState.{Fresh, Linked, Pending, Seat, LockState, Held, Writes, TreeState, writing}, Nodes.{standing_entries}}
 use Rattle.sh_acts.specs.Images.{IsEntryOf, IsPairOf}
-use Rattle.sh_readers.specs.Knows.{IsFed}
-use Rattle.sh_readers.specs.Hand.{IsNamed}
-use Rattle.sh_readers.specs.Ranges.{IsGathered}
-use Rattle.sh_decide.specs.declared.state.Posting.{Posting}
-use Rattle.sh_decide.specs.declared.state.Aim.{Aim}
-use Rattle.sh_decide.specs.declared.state.Aim.TheVariants.{Own, Gathers, Posts}
-use Rattle.sh_client.specs.declared.state.Then.{Then}
-use Rattle.sh_client.specs.declared.state.Then.TheVariants.{Ends, Starts, Takes}
-use Rattle.sh_client.specs.declared.state.Write.{Write}
-use Rattle.sh_client.specs.declared.state.Write.TheVariants.{Nothing, Entry, Leaf as WholeLeaf, LeftLeaf, Inner as WholeInner, LeftInner}
+use Rattle.sh_readers.specs.{Knows.{IsFed}, Hand.{IsNamed}, Ranges.{IsGathered}}
+use Rattle.sh_decide.specs.{declared.state.{Posting.{Posting}, Aim.{Aim, TheVariants.{Own, Gathers, Posts}}}, Aims.{aim_of, aimed_key, post_of, takes_lock, target}, Deciding.{decision_of}}
+use Rattle.sh_client.specs.declared.state.{Then.{Then, TheVariants.{Ends, Starts, Takes}}, Write.{Write, TheVariants.{Nothing, Entry, Leaf as WholeLeaf, LeftLeaf, Inner as WholeInner, LeftInner}}}
+use Rattle.sh_client.specs.declared.state.{Phase.{Phase, TheVariants.{Root, Read, Draw, Look, Grab, ReadLocked, Seek, Fill, Waiting, Body, Unlock, Leave, Swap}}, Giving.{Giving}, Need.{Need}}
+use Rattle.sh_client.specs.{declared.state.{Need.TheVariants.{ToSplit, ToGrow}, Filling.{Filling, TheVariants.{RightHalf, NewRoot}}}, Machine.{Registers}}
 use Rattle.sh_decide.specs.declared.state.Decision.TheVariants as decision
-use Rattle.sh_client.specs.declared.state.Phase.{Phase}
-use Rattle.sh_client.specs.declared.state.Phase.TheVariants.{Root, Read, Draw, Look, Grab, ReadLocked, Seek, Fill, Waiting, Body, Unlock, Leave, Swap}
-use Rattle.sh_client.specs.declared.state.Giving.{Giving}
-use Rattle.sh_client.specs.declared.state.Need.{Need}
-use Rattle.sh_client.specs.declared.state.Need.TheVariants.{ToSplit, ToGrow}
-use Rattle.sh_client.specs.declared.state.Filling.{Filling}
-use Rattle.sh_client.specs.declared.state.Filling.TheVariants.{RightHalf, NewRoot}
-use Rattle.sh_client.specs.Machine.{Registers}
-use Rattle.sh_decide.specs.Aims.{aim_of, aimed_key, post_of, takes_lock, target}
-use Rattle.sh_decide.specs.Deciding.{decision_of}
 
 -- ---- a post under way
 

@@ -1,34 +1,15 @@
 -- What holds of each actor: what its client knows, and what its ended calls are answered by.
 use Rattle.std.specs.Prelude.{◌≡◌, ◌≢◌, ◌↔◌, ℕ, ◌+◌, ◌<◌, ◌≤◌, true, List, [], ◌++◌, length, Option, Some, None}
-use Rattle.sh_base.specs.declared.config.ConfigParts.{ConfigParts}
-use Rattle.sh_base.specs.Setting.{all_seats}
-use Rattle.sh_base.specs.Layout.{lock_of}
-use Rattle.sh_map.specs.declared.call.Call.{Call}
-use Rattle.sh_map.specs.declared.call.Reply.{Reply}
-use Rattle.sh_map.specs.declared.log.Entry.{Entry as LogEntry}
-use Rattle.sh_map.specs.Calls.{IsInRange}
-use Rattle.sh_map.specs.Made.{entries_by}
+use Rattle.sh_base.specs.{declared.config.ConfigParts.{ConfigParts}, Setting.{all_seats}, Layout.{lock_of}}
+use Rattle.sh_map.specs.{declared.{call.{Call.{Call}, Reply.{Reply}}, log.Entry.{Entry as LogEntry}}, Calls.{IsInRange}, Made.{entries_by}}
 use Rattle.sh_tree.specs.Lists.{is_in, AreDifferent}
 use Rattle.sh_state.specs.TreeState.{Pending, Skipped, Seat, Owns, TreeState}
 use Rattle.sh_readers.specs.Hand.{AreRowsOf}
-use Rattle.sh_decide.specs.declared.state.Posting.{Posting}
-use Rattle.sh_decide.specs.declared.state.Aim.{Aim}
-use Rattle.sh_decide.specs.declared.state.Aim.TheVariants.{Own, Gathers, Posts}
-use Rattle.sh_client.specs.declared.state.Then.{Then}
-use Rattle.sh_client.specs.declared.state.Then.TheVariants.{Ends, Starts, Takes}
-use Rattle.sh_client.specs.declared.state.Write.{Write}
-use Rattle.sh_client.specs.declared.state.Write.TheVariants.{Nothing, Inner as WholeInner, LeftInner}
-use Rattle.sh_client.specs.declared.state.Phase.{Phase}
-use Rattle.sh_client.specs.declared.state.Phase.TheVariants.{Root, Read, Draw, Look, Grab, ReadLocked, Seek, Fill, Waiting, Body, Unlock, Leave, Swap}
-use Rattle.sh_client.specs.declared.state.Tally.{Tally}
-use Rattle.sh_client.specs.declared.state.Need.{Need}
-use Rattle.sh_client.specs.declared.state.Need.TheVariants.{ToSplit, ToGrow}
-use Rattle.sh_client.specs.declared.state.Filling.{Filling}
-use Rattle.sh_client.specs.declared.state.Filling.TheVariants.{RightHalf, NewRoot}
-use Rattle.sh_client.specs.Machine.{Machine, Registers}
-use Rattle.sh_core.specs.Actors.{Actor, AreAnswered, AreInOrder, made_by, updates}
-use Rattle.sh_core.specs.Fits.{AreSpares, Fits, Owes}
-use Rattle.sh_core.specs.Causes.{HaveCauses}
+use Rattle.sh_decide.specs.declared.state.{Posting.{Posting}, Aim.{Aim, TheVariants.{Own, Gathers, Posts}}}
+use Rattle.sh_client.specs.declared.state.{Then.{Then, TheVariants.{Ends, Starts, Takes}}, Write.{Write, TheVariants.{Nothing, Inner as WholeInner, LeftInner}}, Phase.{Phase}}
+use Rattle.sh_client.specs.declared.state.{Phase.TheVariants.{Root, Read, Draw, Look, Grab, ReadLocked, Seek, Fill, Waiting, Body, Unlock, Leave, Swap}, Tally.{Tally}, Need.{Need}}
+use Rattle.sh_client.specs.{declared.state.{Need.TheVariants.{ToSplit, ToGrow}, Filling.{Filling, TheVariants.{RightHalf, NewRoot}}}, Machine.{Machine, Registers}}
+use Rattle.sh_core.specs.{Actors.{Actor, AreAnswered, AreInOrder, made_by, updates}, Fits.{AreSpares, Fits, Owes}, Causes.{HaveCauses}}
 
 -- the lock that a client holds
 abbrev pub lock_left : ConfigParts → (n : ℕ) → Option ℕ → Option ℕ

@@ -2,8 +2,7 @@
 use Rattle.std.specs.Prelude.{◌≡◌, ◌⊎◌, ℕ, ◌==◌, if◌then◌else◌, List, [], ◌∷◌, slice_get, Some}
 use Rattle.sh_base.specs.declared.config.ConfigParts.{ConfigParts}
 use Rattle.sh_map.specs.declared.log.Entry.{Entry as LogEntry}
-use Rattle.sh_core.specs.Actors.{Actor}
-use Rattle.sh_core.specs.Core.{Inv}
+use Rattle.sh_core.specs.{Actors.{Actor}, Core.{Inv}}
 
 -- the seats from 0 on have these actors
 abbrev pub HasAt : List Actor → (seat : ℕ) → Actor → Type 0

@@ -1,12 +1,10 @@
 -- How the invariant begins: in a laid pool, and with a new client at a seat that has none.
 use Rattle.std.specs.Prelude.{◌≡◌, ℕ, ◌<◌, List, []}
-use Rattle.sh_base.specs.declared.config.ConfigParts.{ConfigParts}
-use Rattle.sh_base.specs.Setting.{all_seats}
+use Rattle.sh_base.specs.{declared.config.ConfigParts.{ConfigParts}, Setting.{all_seats}}
 use Rattle.sh_map.specs.declared.log.Entry.{Entry as LogEntry}
 use Rattle.sh_image.specs.Laid.{AreLaid}
 use Rattle.sh_client.specs.Machine.{fresh_machine}
-use Rattle.sh_core.specs.Actors.{Actor}
-use Rattle.sh_core.specs.Core.{Inv, Moves}
+use Rattle.sh_core.specs.{Actors.{Actor}, Core.{Inv, Moves}}
 
 -- a seat has no actor
 abbrev pub IsFreeSeat : (Has : ℕ → Actor → Type 0) → (seat : ℕ) → Type 0

@@ -1,25 +1,14 @@
 -- Where all clients rest.
-use Rattle.std.proofs.Common.{◌≡◌, ◌≢◌, ℕ, zero, suc, ◌<◌, true, List, [], ◌∷◌, ◌++◌, length, None, refl, sym, ap, ◌∙◌, subst, inl, inr, arith, length-append}
-use Rattle.std.specs.Prelude.{drop}
+use Rattle.std.{proofs.Common.{◌≡◌, ◌≢◌, ℕ, zero, suc, ◌<◌, true, List, [], ◌∷◌, ◌++◌, length, None, refl, sym, ap, ◌∙◌, subst, inl, inr, arith, length-append}, specs.Prelude.{drop}}
 use Rattle.std.proofs.lemmas.Bool.{cases_eq}
-use Rattle.sh_base.specs.declared.config.ConfigParts.{ConfigParts}
-use Rattle.sh_base.specs.Setting.{all_seats, IsSetting}
-use Rattle.sh_map.specs.declared.log.Entry.{Entry as LogEntry}
-use Rattle.sh_map.specs.Log.{map_of}
-use Rattle.sh_tree.specs.Lists.{is_in, outside, AreDifferent}
-use Rattle.sh_tree.specs.Tree.{IsChain, IsTree, AreLevels, top_of, unposted_in}
-use Rattle.sh_tree.proofs.ListLemmas.{in_front, outside_none}
+use Rattle.sh_base.specs.{declared.config.ConfigParts.{ConfigParts}, Setting.{all_seats, IsSetting}}
+use Rattle.sh_map.specs.{declared.log.Entry.{Entry as LogEntry}, Log.{map_of}}
+use Rattle.sh_tree.{specs.{Lists.{is_in, outside, AreDifferent}, Tree.{IsChain, IsTree, AreLevels, top_of, unposted_in}}, proofs.ListLemmas.{in_front, outside_none}}
 use Rattle.sh_state.specs.TreeState.{ParentLink, Posted, Pending, Skipped, Grant, LockState, Seat, Nobody, Held, Writes, Owns}
-use Rattle.sh_core_says.proofs.Levels.{different_join, in_behind, in_joined}
-use Rattle.sh_core_says.proofs.Trees.{holds_tree}
-use Rattle.sh_core_says.proofs.Counts.{skipped_are, all_free, free_words}
-use Rattle.sh_client.specs.Rests.{is_resting}
-use Rattle.sh_core.specs.Actors.{Actor}
-use Rattle.sh_core.specs.Core.{Inv}
-use Rattle.sh_core_says.specs.Rest.{sum_below, HasSkipped, AreAtRest, AtRest}
-use Rattle.sh_core.specs.Keeps.{Hands, Waits}
-use Rattle.sh_core.proofs.Frame.{nothing_left, NothingLeft}
+use Rattle.sh_core_says.{proofs.{Levels.{different_join, in_behind, in_joined}, Trees.{holds_tree}, Counts.{skipped_are, all_free, free_words}}, specs.Rest.{sum_below, HasSkipped, AreAtRest, AtRest}}
 use Rattle.sh_core_says.proofs.Books.{books_are_lawful}
+use Rattle.sh_client.specs.Rests.{is_resting}
+use Rattle.sh_core.{specs.{Actors.{Actor}, Core.{Inv}, Keeps.{Hands, Waits}}, proofs.Frame.{nothing_left, NothingLeft}}
 
 -- ---- where all nodes are posted the top level has one node
 

@@ -1,35 +1,21 @@
 -- The book of the actors' calls is lawful.
 use Rattle.std.proofs.Common.{◌≡◌, ◌≢◌, ◌⊎◌, ℕ, ◌+◌, ◌≤◌, Bool, true, false, cond, List, [], ◌∷◌, ◌++◌, length, get_or, Some, None, refl, sym, ap, ◌∙◌, subst, inl, inr, arith, length-append, eq-eqb, eqb-true}
-use Rattle.std.specs.Prelude.{◌==◌, ◌↔◌, map, slice_get, All, AllPairs, Any}
-use Rattle.std.specs.List.{AllByRecursion}
-use Rattle.std.proofs.lemmas.List.Elements.{All-cons, All-weaker}
-use Rattle.std.proofs.lemmas.List.Kept.{AllPairs-cons}
+use Rattle.std.{specs.{Prelude.{◌==◌, ◌↔◌, map, slice_get, All, AllPairs, Any}, List.{AllByRecursion}}, proofs.lemmas.List.{Elements.{All-cons, All-weaker}, Kept.{AllPairs-cons}}}
 use Rattle.std.proofs.lemmas.Option.{slice_get-get_or}
 use Rattle.sh_logic.proofs.Lists.{all_join}
 use Rattle.sh_base.specs.declared.config.ConfigParts.{ConfigParts}
-use Rattle.sh_map.specs.declared.call.Call.{Call}
+use Rattle.sh_map.specs.{declared.{call.{Call.{Call}, Reply.{Reply}}, log.Entry.{Entry}, book.Done.{Done}}, Made.{entries_by}}
+use Rattle.sh_map.specs.{Book.{Answers, AnswersAt, IsLastOfSeat, IsLater, IsOwn, made_entry, made}, Laws.{places_of}}
 use Rattle.sh_map.specs.declared.call.Call.TheVariants as call
-use Rattle.sh_map.specs.declared.call.Reply.{Reply}
 use Rattle.sh_map.specs.declared.call.Reply.TheVariants as reply
 use Rattle.sh_map.specs.declared.log.Change.TheVariants as change
-use Rattle.sh_map.specs.declared.log.Entry.{Entry}
-use Rattle.sh_map.specs.declared.book.Done.{Done}
-use Rattle.sh_map.specs.Made.{entries_by}
-use Rattle.sh_map.specs.Book.{Answers, AnswersAt, IsLastOfSeat, IsLater, IsOwn, made_entry, made}
-use Rattle.sh_map.specs.Laws.{places_of}
-use Rattle.sh_tree.specs.Lists.{is_in, AreDifferent}
-use Rattle.sh_tree.proofs.ListLemmas.{in_cases, outside_all}
-use Rattle.sh_core_says.proofs.Levels.{different_join, in_joined}
-use Rattle.sh_state.specs.TreeState.{TreeState}
-use Rattle.sh_client.specs.Rests.{is_resting}
-use Rattle.sh_core.specs.Actors.{Actor, AreAnswered, AreInOrder, updates}
-use Rattle.sh_core.specs.Fits.{HasEntry}
-use Rattle.sh_core.specs.Keeps.{pending, KeepsActor}
-use Rattle.sh_core.specs.Core.{Inv}
-use Rattle.sh_core_says.specs.Books.{calls_by, numbered, IsBookOf, IsOfCall, IsLawfulBook, BooksAreLawful, HasAnswers, CallsAreAnswered}
-use Rattle.sh_core.proofs.Frame.{nothing_left}
+use Rattle.sh_tree.{specs.Lists.{is_in, AreDifferent}, proofs.ListLemmas.{in_cases, outside_all}}
+use Rattle.sh_core_says.{proofs.Levels.{different_join, in_joined}, specs.Books.{calls_by, numbered, IsBookOf, IsOfCall, IsLawfulBook, BooksAreLawful, HasAnswers, CallsAreAnswered}}
 use Rattle.sh_core_says.proofs.Pending.{pending_stands}
 use Rattle.sh_core_says.proofs.Points.{points, points_numbered, points_long, points_in, points_differ, places_differ, places_long, place_in, points_stand, all_named, any_own}
+use Rattle.sh_state.specs.TreeState.{TreeState}
+use Rattle.sh_client.specs.Rests.{is_resting}
+use Rattle.sh_core.{specs.{Actors.{Actor, AreAnswered, AreInOrder, updates}, Fits.{HasEntry}, Keeps.{pending, KeepsActor}, Core.{Inv}}, proofs.Frame.{nothing_left}}
 
 -- ---- ended calls, whatever their numbers
 

@@ -1,20 +1,10 @@
 -- The unposted nodes are those that were skipped, and none where no lock is held is under way.
-use Rattle.std.proofs.Common.{◌≡◌, ◌≢◌, ℕ, suc, ◌+◌, ◌<◌, Bool, true, false, List, [], ◌∷◌, length, get_or, refl, ap, sym, ◌∙◌, ⊎_elim, arith}
-use Rattle.std.specs.Prelude.{◌↔◌, if◌then◌else◌}
+use Rattle.std.{proofs.Common.{◌≡◌, ◌≢◌, ℕ, suc, ◌+◌, ◌<◌, Bool, true, false, List, [], ◌∷◌, length, get_or, refl, ap, sym, ◌∙◌, ⊎_elim, arith}, specs.Prelude.{◌↔◌, if◌then◌else◌}}
 use Rattle.std.specs.List.{concat, AllByRecursion}
-use Rattle.sh_base.specs.declared.config.ConfigParts.{ConfigParts}
-use Rattle.sh_base.specs.Setting.{all_locks}
-use Rattle.sh_base.specs.Layout.{lock_of, lock_word}
-use Rattle.sh_base.specs.Places.{Lock}
-use Rattle.sh_tree.specs.Lists.{is_in, outside, AreDifferent}
-use Rattle.sh_tree.specs.Tree.{IsTree, unposted_in}
-use Rattle.sh_tree.proofs.ListLemmas.{outside_all}
-use Rattle.sh_tree.proofs.ChainLemmas.{trees_are_one}
-use Rattle.sh_state.specs.TreeState.{Linked, ParentLink, Posted, Pending, Skipped, Nobody, hold_word, TreeState, writing_of}
-use Rattle.sh_state.specs.Ground.{Ground, HasParent}
-use Rattle.sh_core_says.specs.Quiescent.{IsAtRest, is_posted, unposted}
-use Rattle.sh_core_says.proofs.Levels.{all_from}
-use Rattle.sh_core_says.proofs.Trees.{holds_tree, only}
+use Rattle.sh_base.specs.{declared.config.ConfigParts.{ConfigParts}, Setting.{all_locks}, Layout.{lock_of, lock_word}, Places.{Lock}}
+use Rattle.sh_tree.{specs.{Lists.{is_in, outside, AreDifferent}, Tree.{IsTree, unposted_in}}, proofs.{ListLemmas.{outside_all}, ChainLemmas.{trees_are_one}}}
+use Rattle.sh_state.specs.{TreeState.{Linked, ParentLink, Posted, Pending, Skipped, Nobody, hold_word, TreeState, writing_of}, Ground.{Ground, HasParent}}
+use Rattle.sh_core_says.{specs.Quiescent.{IsAtRest, is_posted, unposted}, proofs.{Levels.{all_from}, Trees.{holds_tree, only}}}
 
 -- each number is outside a list, or in it
 counts_join : (s : TreeState) (ks ns : List ℕ) → ((n : ℕ) → is_in ks n ≡ true → s.post n ≢ Posted) → ((n : ℕ) → is_in ks n ≡ false → s.post n ≡ Posted) → unposted s ns + outside ks ns ≡ length ns

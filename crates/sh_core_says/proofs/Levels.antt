@@ -1,28 +1,16 @@
 -- A level of the tree as a list, and the levels from one down.
 use Rattle.std.proofs.Common.{◌≡◌, ◌≢◌, ◌⊎◌, ℕ, zero, suc, ◌+◌, ◌<◌, ◌≤◌, Bool, true, false, List, [], ◌∷◌, ◌++◌, length, map, refl, ap, sym, ◌∙◌, subst, ⊎_elim, inl, inr, arith}
-use Rattle.std.specs.Prelude.{◌-◌, ◌^◌, ◌↔◌, if◌then◌else◌}
-use Rattle.std.specs.List.{AllByRecursion}
-use Rattle.std.proofs.lemmas.Grind.{same_number_lists}
+use Rattle.std.{specs.{Prelude.{◌-◌, ◌^◌, ◌↔◌, if◌then◌else◌}, List.{AllByRecursion}}, proofs.lemmas.Grind.{same_number_lists}}
 use mathlib.Core.Logic.{dite}
 use native.Mathlib.Decide.{ℕ_discrete}
-use Rattle.sh_base.specs.declared.config.ConfigParts.{ConfigParts}
-use Rattle.sh_base.specs.Setting.{node_size}
-use Rattle.sh_base.specs.Layout.{node_part}
-use Rattle.sh_base.specs.Places.{Node}
-use Rattle.sh_base.proofs.LayoutLemmas.{part_word, length_part}
-use Rattle.sh_image.specs.declared.inner.Pair.{Pair}
-use Rattle.sh_image.specs.Leaf.{leaf_in, Spells}
-use Rattle.sh_image.specs.Inner.{inner_in, SpellsInner}
+use Rattle.sh_base.{specs.{declared.config.ConfigParts.{ConfigParts}, Setting.{node_size}, Layout.{node_part}, Places.{Node}}, proofs.LayoutLemmas.{part_word, length_part}}
+use Rattle.sh_image.specs.{declared.inner.Pair.{Pair}, Leaf.{leaf_in, Spells}, Inner.{inner_in, SpellsInner}}
 use Rattle.sh_edit.specs.Held.{HasKeysOnce}
-use Rattle.sh_tree.specs.Lists.{first_of, is_in, outside, AreDifferent}
-use Rattle.sh_tree.specs.Nodes.{inner_at}
-use Rattle.sh_tree.specs.Tree.{IsChain, IsLeafOf, IsInnerOf, IsChildIn, children_of}
+use Rattle.sh_tree.specs.{Lists.{first_of, is_in, outside, AreDifferent}, Nodes.{inner_at}, Tree.{IsChain, IsLeafOf, IsInnerOf, IsChildIn, children_of}}
 use Rattle.sh_tree.proofs.ListLemmas.{in_head, in_more, in_cases, in_front}
 use Rattle.sh_read.specs.Moments.{Writing, word}
-use Rattle.sh_state.specs.TreeState.{Linked, ParentLink, Posted, Pending, Skipped, TreeState}
-use Rattle.sh_state.specs.Nodes.{low_in, high_in, next_in, level_in, LeadsTo, LeadDown, standing_pairs}
-use Rattle.sh_state.specs.Ground.{Ground, HasParent}
-use Rattle.sh_state.proofs.Scenes.{linked_is}
+use Rattle.sh_state.specs.{TreeState.{Linked, ParentLink, Posted, Pending, Skipped, TreeState}, Nodes.{low_in, high_in, next_in, level_in, LeadsTo, LeadDown, standing_pairs}}
+use Rattle.sh_state.{specs.Ground.{Ground, HasParent}, proofs.Scenes.{linked_is}}
 use Rattle.sh_acts.proofs.Roots.{first_at}
 use Rattle.sh_core_says.specs.Quiescent.{IsAtRest, is_posted, unposted}
 

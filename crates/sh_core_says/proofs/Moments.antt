@@ -1,26 +1,15 @@
 -- The standing words at each moment, and the lock words.
-use Rattle.std.proofs.Common.{◌≡◌, ◌≢◌, ◌⊎◌, ℕ, zero, suc, ◌+◌, ◌<◌, ◌≤◌, List, length, get_or, set, Some, refl, sym, ap, ◌∙◌, subst, inl, inr, arith, get_or-set_same}
-use Rattle.std.proofs.lemmas.Bool.{cases_eq}
+use Rattle.std.proofs.{Common.{◌≡◌, ◌≢◌, ◌⊎◌, ℕ, zero, suc, ◌+◌, ◌<◌, ◌≤◌, List, length, get_or, set, Some, refl, sym, ap, ◌∙◌, subst, inl, inr, arith, get_or-set_same}, lemmas.Bool.{cases_eq}}
 use Rattle.std.proofs.lemmas.List.{length-set}
-use Rattle.sh_base.specs.declared.config.ConfigParts.{ConfigParts}
-use Rattle.sh_base.specs.Setting.{node_size, nodes, pool_words, IsNode}
-use Rattle.sh_base.specs.Layout.{lock_of, node_word}
-use Rattle.sh_base.specs.Places.{Site, Lock, Node, address, IsSite}
-use Rattle.sh_base.proofs.LayoutLemmas.{node_word_high}
-use Rattle.sh_base.proofs.PlacesLemmas.{stores_keep_apart}
-use Rattle.sh_map.specs.declared.log.Entry.{Entry as LogEntry}
-use Rattle.sh_map.specs.Log.{map_of}
+use Rattle.sh_base.specs.{declared.config.ConfigParts.{ConfigParts}, Setting.{node_size, nodes, pool_words, IsNode}, Layout.{lock_of, node_word}, Places.{Site, Lock, Node, address, IsSite}}
+use Rattle.sh_base.proofs.{LayoutLemmas.{node_word_high}, PlacesLemmas.{stores_keep_apart}}
+use Rattle.sh_map.specs.{declared.log.Entry.{Entry as LogEntry}, Log.{map_of}}
 use Rattle.sh_read.specs.Moments.{Writing, Idle, word}
-use Rattle.sh_state.specs.TreeState.{Owner, Seat, Grant, LockState, Nobody, Held, Writes, Owns, owner_word, hold_word, TreeState, writing, writing_of, shown}
-use Rattle.sh_state.specs.Nodes.{Orderly, IsLinked}
-use Rattle.sh_state.specs.Ground.{Ground}
-use Rattle.sh_state.proofs.Scenes.{is_linked, body_on, sits_on, writes_else}
-use Rattle.sh_core_says.specs.Quiescent.{IsAtRest}
-use Rattle.sh_core_says.proofs.Trees.{holds_tree}
-use Rattle.sh_core.specs.Actors.{Actor}
-use Rattle.sh_core.specs.Core.{Inv}
-use Rattle.sh_core_says.specs.Moments.{IsWritten, IsStill, HoldsLock, IsStanding, AreLocks, EachMoment}
+use Rattle.sh_state.specs.{TreeState.{Owner, Seat, Grant, LockState, Nobody, Held, Writes, Owns, owner_word, hold_word, TreeState, writing, writing_of, shown}, Nodes.{Orderly, IsLinked}}
+use Rattle.sh_state.{specs.Ground.{Ground}, proofs.Scenes.{is_linked, body_on, sits_on, writes_else}}
+use Rattle.sh_core_says.{specs.{Quiescent.{IsAtRest}, Moments.{IsWritten, IsStill, HoldsLock, IsStanding, AreLocks, EachMoment}}, proofs.Trees.{holds_tree}}
 use Rattle.sh_core_says.proofs.Owners.{owns, holds, written_is, is_written, within_bound, written_held, IsBounded}
+use Rattle.sh_core.specs.{Actors.{Actor}, Core.{Inv}}
 
 -- ---- words whose nodes show another scene
 module _ (p : ConfigParts) (t : TreeState) where

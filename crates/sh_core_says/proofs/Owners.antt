@@ -2,21 +2,13 @@
 use Rattle.std.proofs.Common.{◌≡◌, ◌≤◌, ◌≢◌, ℕ, zero, suc, Option, Some, None, refl, sym, ap, ◌∙◌, subst}
 use mathlib.Core.Logic.{dite}
 use native.Mathlib.Decide.{ℕ_discrete}
-use Rattle.sh_base.specs.declared.config.ConfigParts.{ConfigParts}
-use Rattle.sh_base.specs.Layout.{lock_of}
+use Rattle.sh_base.specs.{declared.config.ConfigParts.{ConfigParts}, Layout.{lock_of}}
 use Rattle.sh_read.specs.Moments.{Writing}
-use Rattle.sh_state.specs.Nodes.{Orderly}
-use Rattle.sh_state.specs.TreeState.{Seat, LockState, Held, Writes, Owns, TreeState}
+use Rattle.sh_state.specs.{Nodes.{Orderly}, TreeState.{Seat, LockState, Held, Writes, Owns, TreeState}}
 use Rattle.sh_decide.specs.declared.state.Posting.{Posting}
-use Rattle.sh_client.specs.declared.state.Write.{Write}
-use Rattle.sh_client.specs.declared.state.Phase.{Phase}
-use Rattle.sh_client.specs.declared.state.Phase.TheVariants.{ReadLocked, Seek, Fill, Waiting, Body, Unlock, Leave}
-use Rattle.sh_client.specs.declared.state.Need.TheVariants.{ToSplit}
-use Rattle.sh_client.specs.declared.state.Filling.TheVariants.{RightHalf}
-use Rattle.sh_client.specs.Machine.{Registers}
-use Rattle.sh_core.specs.Actors.{Actor}
-use Rattle.sh_core.specs.Fits.{Carries, Fits, storing_hold, write_of}
-use Rattle.sh_core.specs.Keeps.{holding, Hands, KeepsActor}
+use Rattle.sh_client.specs.declared.state.{Write.{Write}, Phase.{Phase, TheVariants.{ReadLocked, Seek, Fill, Waiting, Body, Unlock, Leave}}, Need.TheVariants.{ToSplit}}
+use Rattle.sh_client.specs.{declared.state.Filling.TheVariants.{RightHalf}, Machine.{Registers}}
+use Rattle.sh_core.specs.{Actors.{Actor}, Fits.{Carries, Fits, storing_hold, write_of}, Keeps.{holding, Hands, KeepsActor}}
 use Rattle.sh_core_says.specs.Moments.{handed_to, writes_from, written_node}
 
 -- the hold of a lock by a seat that writes this node, or none

@@ -1,27 +1,15 @@
 -- The entry of a call under way: it stands in the log at the call's point, once the call has made it.
 use Rattle.std.proofs.Common.{◌≡◌, ◌⊎◌, ℕ, List, [], Option, Some, refl, subst, inl, inr}
 use Rattle.sh_base.specs.declared.config.ConfigParts.{ConfigParts}
-use Rattle.sh_map.specs.declared.call.Call.{Call}
+use Rattle.sh_map.specs.{declared.{call.{Call.{Call}, Reply.{Reply}}, log.Entry.{Entry as LogEntry}}, Made.{entries_by}}
 use Rattle.sh_map.specs.declared.call.Call.TheVariants as call
-use Rattle.sh_map.specs.declared.call.Reply.{Reply}
 use Rattle.sh_map.specs.declared.call.Reply.TheVariants as reply
-use Rattle.sh_map.specs.declared.log.Entry.{Entry as LogEntry}
-use Rattle.sh_map.specs.Made.{entries_by}
 use Rattle.sh_state.specs.TreeState.{TreeState}
-use Rattle.sh_decide.specs.declared.state.Posting.{Posting}
-use Rattle.sh_decide.specs.declared.state.Aim.{Aim}
-use Rattle.sh_decide.specs.declared.state.Aim.TheVariants.{Own, Gathers, Posts}
-use Rattle.sh_client.specs.declared.state.Then.{Then}
-use Rattle.sh_client.specs.declared.state.Then.TheVariants.{Ends, Starts, Takes}
-use Rattle.sh_client.specs.declared.state.Write.{Write}
-use Rattle.sh_client.specs.declared.state.Write.TheVariants.{Nothing, LeftLeaf, Inner as WholeInner, LeftInner}
-use Rattle.sh_client.specs.declared.state.Phase.{Phase}
-use Rattle.sh_client.specs.declared.state.Phase.TheVariants.{Root, Read, Draw, Look, Grab, ReadLocked, Seek, Fill, Waiting, Body, Unlock, Leave, Swap}
-use Rattle.sh_client.specs.declared.state.Need.TheVariants.{ToSplit, ToGrow}
-use Rattle.sh_client.specs.declared.state.Filling.TheVariants.{RightHalf, NewRoot}
-use Rattle.sh_client.specs.Machine.{Registers}
-use Rattle.sh_core.specs.Fits.{HasEntry, IsDecided, Owes, duty_of, PlansHalf, Plans, Follows, Fits}
-use Rattle.sh_core.specs.Keeps.{pending_aim, pending_then, pending_write, pending}
+use Rattle.sh_decide.specs.declared.state.{Posting.{Posting}, Aim.{Aim, TheVariants.{Own, Gathers, Posts}}}
+use Rattle.sh_client.specs.declared.state.{Then.{Then, TheVariants.{Ends, Starts, Takes}}, Write.{Write, TheVariants.{Nothing, LeftLeaf, Inner as WholeInner, LeftInner}}, Phase.{Phase}}
+use Rattle.sh_client.specs.declared.state.{Phase.TheVariants.{Root, Read, Draw, Look, Grab, ReadLocked, Seek, Fill, Waiting, Body, Unlock, Leave, Swap}, Need.TheVariants.{ToSplit, ToGrow}}
+use Rattle.sh_client.specs.{declared.state.Filling.TheVariants.{RightHalf, NewRoot}, Machine.{Registers}}
+use Rattle.sh_core.specs.{Fits.{HasEntry, IsDecided, Owes, duty_of, PlansHalf, Plans, Follows, Fits}, Keeps.{pending_aim, pending_then, pending_write, pending}}
 
 module _ (p : ConfigParts) (s : TreeState) (i f q e : ℕ) (c : Call) (r : Reply) where
   -- no entry is made yet, or it stands

@@ -1,21 +1,12 @@
 -- The points of a seat's updates, and the places of its entries.
 use Rattle.std.proofs.Common.{◌≡◌, ℕ, zero, suc, ◌+◌, ◌<◌, ◌≤◌, Bool, true, false, cond, List, [], ◌∷◌, ◌++◌, length, Some, refl, sym, ap, ◌∙◌, subst, inl, inr, arith, length-append, eq-eqb}
-use Rattle.std.specs.Prelude.{◌==◌, if◌then◌else◌, map, slice_get, Any}
-use Rattle.std.specs.List.{AllByRecursion}
-use Rattle.sh_map.specs.declared.call.Call.{Call}
+use Rattle.std.specs.{Prelude.{◌==◌, if◌then◌else◌, map, slice_get, Any}, List.{AllByRecursion}}
+use Rattle.sh_map.specs.{declared.{call.{Call.{Call}, Reply.{Reply}}, log.Entry.{Entry}, book.Done.{Done}}, Made.{entries_by}, Book.{AnswersAt, IsOwn, made}, Laws.{places_of}}
 use Rattle.sh_map.specs.declared.call.Call.TheVariants as call
-use Rattle.sh_map.specs.declared.call.Reply.{Reply}
 use Rattle.sh_map.specs.declared.call.Reply.TheVariants as reply
-use Rattle.sh_map.specs.declared.log.Entry.{Entry}
-use Rattle.sh_map.specs.declared.book.Done.{Done}
-use Rattle.sh_map.specs.Made.{entries_by}
-use Rattle.sh_map.specs.Book.{AnswersAt, IsOwn, made}
-use Rattle.sh_map.specs.Laws.{places_of}
-use Rattle.sh_tree.specs.Lists.{is_in, outside, AreDifferent}
-use Rattle.sh_tree.proofs.ListLemmas.{in_head, in_more, in_cases}
-use Rattle.sh_core_says.proofs.Levels.{not_in}
+use Rattle.sh_tree.{specs.Lists.{is_in, outside, AreDifferent}, proofs.ListLemmas.{in_head, in_more, in_cases}}
+use Rattle.sh_core_says.{proofs.Levels.{not_in}, specs.Books.{calls_by, numbered}}
 use Rattle.sh_core.specs.Actors.{AreAnswered, AreInOrder, made_by, updates}
-use Rattle.sh_core_says.specs.Books.{calls_by, numbered}
 
 -- where so many entries were made, their point
 abbrev point_where : (entries point : ℕ) → List ℕ → List ℕ

@@ -1,14 +1,9 @@
 -- Each refusal in the book of the actors' calls has its cause.
-use Rattle.std.proofs.Common.{ℕ, Bool, true, false, cond, List, [], ◌∷◌, refl, sym, ◌∙◌, subst, inl, inr, arith, append-nil, eq-eqb}
-use Rattle.std.specs.Prelude.{◌==◌}
-use Rattle.std.specs.List.{AllByRecursion}
-use Rattle.sh_base.specs.declared.config.ConfigParts.{ConfigParts}
-use Rattle.sh_base.specs.Places.{Counter}
+use Rattle.std.{proofs.Common.{ℕ, Bool, true, false, cond, List, [], ◌∷◌, refl, sym, ◌∙◌, subst, inl, inr, arith, append-nil, eq-eqb}, specs.{Prelude.{◌==◌}, List.{AllByRecursion}}}
+use Rattle.sh_base.specs.{declared.config.ConfigParts.{ConfigParts}, Places.{Counter}}
 use Rattle.sh_map.specs.declared.book.Done.{Done}
-use Rattle.sh_core.specs.Causes.{HasCause, HaveCauses}
-use Rattle.sh_core_says.specs.Books.{calls_by, counter_in, RefusalsHaveCauses}
-use Rattle.sh_core.proofs.Causes.{causes_on}
-use Rattle.sh_core_says.proofs.Books.{all_numbered, seat_of}
+use Rattle.sh_core.{specs.Causes.{HasCause, HaveCauses}, proofs.Causes.{causes_on}}
+use Rattle.sh_core_says.{specs.Books.{calls_by, counter_in, RefusalsHaveCauses}, proofs.Books.{all_numbered, seat_of}}
 
 -- what holds of each seat's calls holds of all
 all_calls : (P : Done → Type 0) (ds : List Done) → ((seat : ℕ) → AllByRecursion P (calls_by seat ds)) → AllByRecursion P ds

@@ -1,30 +1,17 @@
 -- At rest the words hold a tree: its levels from the root down, its map, and its unposted nodes.
 use Rattle.std.proofs.Common.{◌≡◌, ◌≢◌, ◌⊎◌, ℕ, zero, suc, ◌+◌, ◌<◌, ◌≤◌, Bool, true, false, None, List, [], ◌∷◌, ◌++◌, length, refl, ap, sym, ◌∙◌, subst, ⊎_elim, inl, inr, arith}
-use Rattle.std.specs.Prelude.{◌-◌, ◌^◌, if◌then◌else◌}
-use Rattle.std.specs.List.{concat, AllByRecursion}
-use Rattle.std.specs.Ordering.{nat_cmp}
-use Rattle.std.specs.Cmp.{nat_cmp_total}
-use Rattle.std.specs.FinMap.{find, from_entries, get-from_entries}
+use Rattle.std.specs.{Prelude.{◌-◌, ◌^◌, if◌then◌else◌}, List.{concat, AllByRecursion}, Ordering.{nat_cmp}, Cmp.{nat_cmp_total}, FinMap.{find, from_entries, get-from_entries}}
 use Rattle.std.proofs.lemmas.Bool.{cases_eq, cases_lt}
 use mathlib.Core.Logic.{dite}
 use native.Mathlib.Decide.{ℕ_discrete}
 use Rattle.sh_logic.proofs.Lookups.{find_past, find_before}
-use Rattle.sh_base.specs.declared.config.ConfigParts.{ConfigParts}
-use Rattle.sh_base.specs.Places.{Root}
-use Rattle.sh_map.specs.Map.{get}
-use Rattle.sh_map.specs.Log.{map_of}
-use Rattle.sh_map.proofs.MapLemmas.{same_by_keys}
-use Rattle.sh_image.specs.declared.leaf.LeafEntry.{LeafEntry}
-use Rattle.sh_image.specs.Leaf.{IsEntry}
-use Rattle.sh_edit.specs.Held.{pairs_of}
-use Rattle.sh_edit.proofs.HeldLemmas.{find-pairs_of, get-zero, held_outside}
-use Rattle.sh_tree.specs.Lists.{first_of, is_in, outside, AreDifferent}
-use Rattle.sh_tree.specs.Nodes.{leaf_at, high_at}
-use Rattle.sh_tree.specs.Tree.{IsChain, IsInnerOf, AreLevels, leaves_of, pairs_along, children_of, unnamed_from}
+use Rattle.sh_base.specs.{declared.config.ConfigParts.{ConfigParts}, Places.{Root}}
+use Rattle.sh_map.{specs.{Map.{get}, Log.{map_of}}, proofs.MapLemmas.{same_by_keys}}
+use Rattle.sh_image.specs.{declared.leaf.LeafEntry.{LeafEntry}, Leaf.{IsEntry}}
+use Rattle.sh_edit.{specs.Held.{pairs_of}, proofs.HeldLemmas.{find-pairs_of, get-zero, held_outside}}
+use Rattle.sh_tree.specs.{Lists.{first_of, is_in, outside, AreDifferent}, Nodes.{leaf_at, high_at}, Tree.{IsChain, IsInnerOf, AreLevels, leaves_of, pairs_along, children_of, unnamed_from}}
 use Rattle.sh_tree.proofs.ListLemmas.{in_head, in_more, in_front}
-use Rattle.sh_state.specs.TreeState.{Class, Undrawn, Reserved, Fresh, Linked, ParentLink, Posted, TreeState}
-use Rattle.sh_state.specs.Nodes.{low_in, high_in, IsLinked, standing_entries}
-use Rattle.sh_state.specs.Ground.{Ground}
+use Rattle.sh_state.specs.{TreeState.{Class, Undrawn, Reserved, Fresh, Linked, ParentLink, Posted, TreeState}, Nodes.{low_in, high_in, IsLinked, standing_entries}, Ground.{Ground}}
 use Rattle.sh_state.proofs.Scenes.{linked_is, is_linked}
 use Rattle.sh_core_says.specs.Quiescent.{IsAtRest, is_posted, unposted, HoldsTree}
 use Rattle.sh_core_says.proofs.Levels.{in_behind, in_joined, different_join, part_is, IsLevel, level, leaf_of, inner_of, NamesLevel, none_named, children_named, counted}

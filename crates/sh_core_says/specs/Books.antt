@@ -1,16 +1,9 @@
 -- The book of all calls that have ended.
-use Rattle.std.specs.Prelude.{◌≡◌, ◌⊎◌, ℕ, ◌<◌, ◌≤◌, ◌==◌, false, true, List, [], ◌∷◌, filter, length, map, slice_get, slice_index, AllPairs, Any, Some}
-use Rattle.std.specs.List.{AllByRecursion}
-use Rattle.sh_base.specs.declared.config.ConfigParts.{ConfigParts}
-use Rattle.sh_base.specs.Layout.{counter_word}
-use Rattle.sh_map.specs.declared.log.Entry.{Entry as LogEntry}
-use Rattle.sh_map.specs.declared.book.Done.{Done}
-use Rattle.sh_map.specs.Made.{entries_by}
-use Rattle.sh_map.specs.Book.{IsClosed, IsLawful, IsOwn}
+use Rattle.std.specs.{Prelude.{◌≡◌, ◌⊎◌, ℕ, ◌<◌, ◌≤◌, ◌==◌, false, true, List, [], ◌∷◌, filter, length, map, slice_get, slice_index, AllPairs, Any, Some}, List.{AllByRecursion}}
+use Rattle.sh_base.specs.{declared.config.ConfigParts.{ConfigParts}, Layout.{counter_word}}
+use Rattle.sh_map.specs.{declared.{log.Entry.{Entry as LogEntry}, book.Done.{Done}}, Made.{entries_by}, Book.{IsClosed, IsLawful, IsOwn}}
 use Rattle.sh_client.specs.Rests.{is_resting}
-use Rattle.sh_core.specs.Actors.{Actor, AreAnswered, AreInOrder}
-use Rattle.sh_core.specs.Causes.{HaveCauses}
-use Rattle.sh_core.specs.Core.{Inv}
+use Rattle.sh_core.specs.{Actors.{Actor, AreAnswered, AreInOrder}, Causes.{HaveCauses}, Core.{Inv}}
 
 -- an ended call with another number
 abbrev pub numbered : (n : ℕ) → Done → Done

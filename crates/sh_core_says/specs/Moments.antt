@@ -1,22 +1,11 @@
 -- What holds of the words in memory at each moment, told of the clients alone.
-use Rattle.std.specs.Prelude.{◌≡◌, ◌⊎◌, ℕ, zero, suc, ◌<◌, ◌≤◌, true, List, length, slice_index, Option, Some, None}
-use Rattle.std.specs.List.{concat}
-use Rattle.sh_base.specs.declared.config.ConfigParts.{ConfigParts}
-use Rattle.sh_base.specs.Setting.{all_locks, pool_words}
-use Rattle.sh_base.specs.Layout.{lock_of, lock_word}
-use Rattle.sh_base.specs.Places.{Site, Own, Root, Counter, Lock, Node, address, IsSite}
-use Rattle.sh_map.specs.declared.log.Entry.{Entry as LogEntry}
-use Rattle.sh_map.specs.Log.{map_of}
-use Rattle.sh_tree.specs.Lists.{is_in}
-use Rattle.sh_tree.specs.Tree.{IsTree, map_in}
+use Rattle.std.specs.{Prelude.{◌≡◌, ◌⊎◌, ℕ, zero, suc, ◌<◌, ◌≤◌, true, List, length, slice_index, Option, Some, None}, List.{concat}}
+use Rattle.sh_base.specs.{declared.config.ConfigParts.{ConfigParts}, Setting.{all_locks, pool_words}, Layout.{lock_of, lock_word}, Places.{Site, Own, Root, Counter, Lock, Node, address, IsSite}}
+use Rattle.sh_map.specs.{declared.log.Entry.{Entry as LogEntry}, Log.{map_of}}
+use Rattle.sh_tree.specs.{Lists.{is_in}, Tree.{IsTree, map_in}}
 use Rattle.sh_state.specs.TreeState.{Owner, Seat, Grant, owner_word}
-use Rattle.sh_client.specs.declared.state.Need.TheVariants.{ToSplit}
-use Rattle.sh_client.specs.declared.state.Filling.TheVariants.{RightHalf}
-use Rattle.sh_client.specs.declared.state.Phase.{Phase}
-use Rattle.sh_client.specs.declared.state.Phase.TheVariants.{ReadLocked, Seek, Fill, Waiting, Body, Leave}
-use Rattle.sh_core.specs.Actors.{Actor}
-use Rattle.sh_core.specs.Keeps.{holding}
-use Rattle.sh_core.specs.Core.{Inv}
+use Rattle.sh_client.specs.declared.state.{Need.TheVariants.{ToSplit}, Filling.TheVariants.{RightHalf}, Phase.{Phase, TheVariants.{ReadLocked, Seek, Fill, Waiting, Body, Leave}}}
+use Rattle.sh_core.specs.{Actors.{Actor}, Keeps.{holding}, Core.{Inv}}
 
 -- the node of a WRITE under way: some of its words are stored, and not all
 abbrev pub writes_from : (n done : ℕ) → Option ℕ

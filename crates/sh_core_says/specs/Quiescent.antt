@@ -1,13 +1,10 @@
 -- What the words in memory hold while no WRITE of a linked node is under way.
-use Rattle.std.specs.Prelude.{◌≡◌, ◌↔◌, ℕ, ◌+◌, if◌then◌else◌, Bool, true, false, List, [], ◌∷◌}
-use Rattle.std.specs.List.{concat}
+use Rattle.std.specs.{Prelude.{◌≡◌, ◌↔◌, ℕ, ◌+◌, if◌then◌else◌, Bool, true, false, List, [], ◌∷◌}, List.{concat}}
 use Rattle.sh_base.specs.declared.config.ConfigParts.{ConfigParts}
 use Rattle.sh_map.specs.Log.{map_of}
-use Rattle.sh_tree.specs.Lists.{is_in}
-use Rattle.sh_tree.specs.Tree.{IsTree, map_in, unposted_in}
+use Rattle.sh_tree.specs.{Lists.{is_in}, Tree.{IsTree, map_in, unposted_in}}
 use Rattle.sh_read.specs.Moments.{Idle}
-use Rattle.sh_state.specs.TreeState.{Linked, ParentLink, Posted, Pending, Skipped, TreeState, writing}
-use Rattle.sh_state.specs.Nodes.{IsLinked}
+use Rattle.sh_state.specs.{TreeState.{Linked, ParentLink, Posted, Pending, Skipped, TreeState, writing}, Nodes.{IsLinked}}
 
 abbrev pub IsAtRest : ConfigParts → TreeState → Type 0
 IsAtRest p s = (n level low : ℕ) → s.class n ≡ Linked level low → writing p s n ≡ Idle

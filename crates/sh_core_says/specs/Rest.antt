@@ -1,18 +1,10 @@
 -- What holds where all clients rest.
 use Rattle.std.specs.Prelude.{◌≡◌, ◌⊎◌, ℕ, zero, suc, ◌+◌, ◌<◌, true, List, length, slice_index}
-use Rattle.sh_base.specs.declared.config.ConfigParts.{ConfigParts}
-use Rattle.sh_base.specs.Setting.{all_locks, all_seats}
-use Rattle.sh_base.specs.Layout.{lock_word}
-use Rattle.sh_map.specs.declared.log.Entry.{Entry as LogEntry}
-use Rattle.sh_map.specs.declared.book.Done.{Done}
-use Rattle.sh_map.specs.Log.{map_of}
-use Rattle.sh_map.specs.Book.{IsClosed, IsLawful}
+use Rattle.sh_base.specs.{declared.config.ConfigParts.{ConfigParts}, Setting.{all_locks, all_seats}, Layout.{lock_word}}
+use Rattle.sh_map.specs.{declared.{log.Entry.{Entry as LogEntry}, book.Done.{Done}}, Log.{map_of}, Book.{IsClosed, IsLawful}}
 use Rattle.sh_tree.specs.Tree.{IsTree, map_in, top_of, unposted_in}
 use Rattle.sh_client.specs.Rests.{is_resting}
-use Rattle.sh_core.specs.Actors.{Actor}
-use Rattle.sh_core.specs.Keeps.{skips_counted}
-use Rattle.sh_core.specs.Core.{Inv}
-use Rattle.sh_core.specs.Opening.{IsFreeSeat}
+use Rattle.sh_core.specs.{Actors.{Actor}, Keeps.{skips_counted}, Core.{Inv}, Opening.{IsFreeSeat}}
 use Rattle.sh_core_says.specs.Books.{IsBookOf}
 
 -- the sum over the numbers below n

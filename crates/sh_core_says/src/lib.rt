@@ -3,15 +3,10 @@
 
 ghost use Rattle.std.specs.Prelude.{◌≡◌, [], ℕ, List, true};
 ghost use Rattle.sh_base.specs.Parts.{parts_of};
-ghost use Rattle.sh_map.specs.declared.log.Entry.{Entry};
-ghost use Rattle.sh_map.specs.declared.book.Done.{Done};
+ghost use Rattle.sh_map.specs.declared.{log.Entry.{Entry}, book.Done.{Done}};
 ghost use Rattle.sh_client.specs.Rests.{is_resting};
-ghost use Rattle.sh_core.specs.Actors.{Actor};
-ghost use Rattle.sh_core.specs.Causes.{HaveCauses};
-ghost use Rattle.sh_core_says.specs.Books.{counter_in, HasAnswers, IsBookOf, IsLawfulBook};
-ghost use Rattle.sh_core_says.specs.Moments.{IsMoment};
-ghost use Rattle.sh_core_says.specs.Rest.{AreAtRest};
-ghost use Rattle.sh_core.specs.Listed.{HasAt, RightOut, OutAt, IsKept};
+ghost use Rattle.sh_core.specs.{Actors.{Actor}, Causes.{HaveCauses}, Listed.{HasAt, RightOut, OutAt, IsKept}};
+ghost use Rattle.sh_core_says.specs.{Books.{counter_in, HasAnswers, IsBookOf, IsLawfulBook}, Moments.{IsMoment}, Rest.{AreAtRest}};
 
 mod quiescent;
 

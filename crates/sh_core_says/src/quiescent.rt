@@ -1,12 +1,8 @@
 // The tree in memory while no WRITE is under way.
 ghost use Rattle.std.specs.Prelude.{◌≡◌, ◌≢◌, ◌<◌, ◌↔◌, ℕ, List, length, true, slice_index};
-ghost use Rattle.sh_base.specs.Parts.{parts_of};
-ghost use Rattle.sh_base.specs.Setting.{all_locks};
-ghost use Rattle.sh_base.specs.Layout.{lock_word};
-ghost use Rattle.sh_tree.specs.Lists.{is_in, AreDifferent};
-ghost use Rattle.sh_tree.specs.Tree.{IsTree, unposted_in};
-ghost use Rattle.sh_state.specs.TreeState.{TreeState, Linked, Nobody, Posted};
-ghost use Rattle.sh_state.specs.Ground.{Ground};
+ghost use Rattle.sh_base.specs.{Parts.{parts_of}, Setting.{all_locks}, Layout.{lock_word}};
+ghost use Rattle.sh_tree.specs.{Lists.{is_in, AreDifferent}, Tree.{IsTree, unposted_in}};
+ghost use Rattle.sh_state.specs.{TreeState.{TreeState, Linked, Nobody, Posted}, Ground.{Ground}};
 ghost use Rattle.sh_core_says.specs.Quiescent.{IsAtRest, HoldsTree};
 
 use sh_base::Config;

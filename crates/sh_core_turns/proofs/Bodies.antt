@@ -1,48 +1,20 @@
 -- What is to be stored under a node's lock obeys the rules of nodes, and each store of it but the last.
-use Rattle.std.proofs.Common.{◌≡◌, ◌≢◌, ℕ, zero, suc, ◌+◌, ◌<◌, ◌≤◌, List, [], ◌∷◌, ◌++◌, length, get_or, set, Option, refl, sym, ap, ◌∙◌, subst, arith, length-append}
-use Rattle.std.specs.Prelude.{◌^◌, ◌-◌}
+use Rattle.std.{proofs.Common.{◌≡◌, ◌≢◌, ℕ, zero, suc, ◌+◌, ◌<◌, ◌≤◌, List, [], ◌∷◌, ◌++◌, length, get_or, set, Option, refl, sym, ap, ◌∙◌, subst, arith, length-append}, specs.Prelude.{◌^◌, ◌-◌}}
 use Rattle.std.proofs.Math.Seq.{get_or-append_seam}
-use Rattle.sh_base.specs.declared.config.ConfigParts.{ConfigParts}
-use Rattle.sh_base.specs.Setting.{node_size, IsSetting}
-use Rattle.sh_base.specs.Layout.{lock_of, node_word, entry_at}
-use Rattle.sh_base.proofs.LayoutLemmas.{node_size_is}
-use Rattle.sh_map.specs.declared.log.Entry.{Entry as LogEntry}
-use Rattle.sh_map.specs.Log.{change_key}
-use Rattle.sh_image.specs.declared.leaf.LeafEntry.{LeafEntry}
-use Rattle.sh_image.specs.declared.inner.Pair.{Pair}
-use Rattle.sh_image.specs.Entries.{entry_words}
-use Rattle.sh_image.specs.Leaf.{Leaf, IsLeaf, leaf_in, leaf_words}
-use Rattle.sh_image.specs.Inner.{Inner, IsInner, inner_in, inner_words}
+use Rattle.sh_base.{specs.{declared.config.ConfigParts.{ConfigParts}, Setting.{node_size, IsSetting}, Layout.{lock_of, node_word, entry_at}}, proofs.LayoutLemmas.{node_size_is}}
+use Rattle.sh_map.specs.{declared.log.Entry.{Entry as LogEntry}, Log.{change_key}}
+use Rattle.sh_image.specs.{declared.{leaf.LeafEntry.{LeafEntry}, inner.Pair.{Pair}}, Entries.{entry_words}, Leaf.{Leaf, IsLeaf, leaf_in, leaf_words}, Inner.{Inner, IsInner, inner_in, inner_words}}
 use Rattle.sh_image.proofs.UntornLemmas.{untorn_spelled, untorn_inner}
-use Rattle.sh_edit.specs.Pairing.{with_pair, left_inner, right_inner, middle_of}
-use Rattle.sh_edit.specs.Splitting.{left_half, right_half, separator_of}
-use Rattle.sh_edit.proofs.HalvesLemmas.{left_lawful, right_lawful, separator_within}
+use Rattle.sh_edit.{specs.{Pairing.{with_pair, left_inner, right_inner, middle_of}, Splitting.{left_half, right_half, separator_of}}, proofs.HalvesLemmas.{left_lawful, right_lawful, separator_within}}
 use Rattle.sh_edit.proofs.RiseLemmas.{with_lawful, left_inner_lawful, right_inner_lawful, middle_within}
 use Rattle.sh_read.specs.Moments.{Writing, Idle as NoWrite, Whole, One, IsVersioned, IsWriting}
-use Rattle.sh_state.specs.TreeState.{Fresh, Linked, LockState, Writes, TreeState}
-use Rattle.sh_state.specs.Nodes.{Orderly}
-use Rattle.sh_state.specs.Change.{Change}
-use Rattle.sh_state.specs.Ground.{Ground}
-use Rattle.sh_state.proofs.Puts.{put_here}
-use Rattle.sh_state.proofs.Scenes.{linked_is}
+use Rattle.sh_state.{specs.{TreeState.{Fresh, Linked, LockState, Writes, TreeState}, Nodes.{Orderly}, Change.{Change}, Ground.{Ground}}, proofs.{Puts.{put_here}, Scenes.{linked_is}}}
 use Rattle.sh_state.proofs.Spelled.{leaf_long, inner_long}
-use Rattle.sh_acts.specs.Stores.{GoesOn}
-use Rattle.sh_acts.specs.Acts.{with_hold}
-use Rattle.sh_acts.proofs.Holds.{writer_held, writer_writes, go_act}
-use Rattle.sh_acts.proofs.StoreLemmas.{whole_begins, whole_goes, one_begins, one_goes}
-use Rattle.sh_acts.proofs.InnerEnds.{is_new}
+use Rattle.sh_acts.{specs.{Stores.{GoesOn}, Acts.{with_hold}}, proofs.{Holds.{writer_held, writer_writes, go_act}, StoreLemmas.{whole_begins, whole_goes, one_begins, one_goes}, InnerEnds.{is_new}}}
 use Rattle.sh_decide.specs.declared.state.Posting.{Posting}
-use Rattle.sh_client.specs.declared.state.Giving.{Giving}
-use Rattle.sh_client.specs.declared.state.Then.{Then}
-use Rattle.sh_client.specs.declared.state.Write.{Write}
-use Rattle.sh_client.specs.declared.state.Write.TheVariants.{Nothing, Entry, Leaf as WholeLeaf, LeftLeaf, Inner as WholeInner, LeftInner}
-use Rattle.sh_client.specs.declared.state.Phase.TheVariants.{Body}
-use Rattle.sh_client.specs.Machine.{Registers}
-use Rattle.sh_client.specs.Wants.{offset_of}
-use Rattle.sh_core.specs.Actors.{Actor}
-use Rattle.sh_core.specs.Core.{Inv, Moves}
-use Rattle.sh_core.proofs.Others.{StaysUnder, plans_on}
-use Rattle.sh_core.proofs.Frame.{next, actor_in, at, advance, hands_keep, same_call, same_grows, same_hold, Before}
+use Rattle.sh_client.specs.declared.state.{Giving.{Giving}, Then.{Then}, Write.{Write, TheVariants.{Nothing, Entry, Leaf as WholeLeaf, LeftLeaf, Inner as WholeInner, LeftInner}}}
+use Rattle.sh_client.specs.{declared.state.Phase.TheVariants.{Body}, Machine.{Registers}, Wants.{offset_of}}
+use Rattle.sh_core.{specs.{Actors.{Actor}, Core.{Inv, Moves}}, proofs.{Others.{StaysUnder, plans_on}, Frame.{next, actor_in, at, advance, hands_keep, same_call, same_grows, same_hold, Before}}}
 use Rattle.sh_core.specs.Fits.{Plans, PlansInner, PlansLeftInner, PlansLeftLeaf, storing_hold, write_of}
 
 -- ---- the images that are planned obey the rules of nodes

@@ -1,58 +1,24 @@
 -- The last store of a body under its node's lock, and the turn of each store of one.
 use Rattle.std.proofs.Common.{◌≡◌, ◌≢◌, ℕ, suc, ◌+◌, ◌<◌, ◌≤◌, Bool, true, false, List, [], ◌∷◌, ◌++◌, length, get_or, set, Option, Some, None, refl, sym, ap, ◌∙◌, subst, ⊎_elim, arith, append-nil, eqb-true, length-append}
-use Rattle.std.specs.Prelude.{◌==◌, ◌^◌, ◌-◌, if◌then◌else◌, slice_get}
-use Rattle.std.proofs.lemmas.Bool.Decides.{nat_tests}
-use Rattle.std.proofs.lemmas.List.{ext_get_or}
-use Rattle.std.proofs.lemmas.Option.{slice_get-get_or}
-use Rattle.std.proofs.Math.Seq.{get_or-append_seam}
-use Rattle.sh_base.specs.declared.config.ConfigParts.{ConfigParts}
-use Rattle.sh_readers.proofs.RowLemmas.{rows_linked}
-use Rattle.sh_base.specs.declared.event.Event.TheVariants.{Store}
-use Rattle.sh_base.specs.Setting.{node_size, IsSetting}
-use Rattle.sh_base.specs.Layout.{lock_of, node_word, rear_at, entry_at}
+use Rattle.std.{specs.Prelude.{◌==◌, ◌^◌, ◌-◌, if◌then◌else◌, slice_get}, proofs.{lemmas.{Bool.Decides.{nat_tests}, List.{ext_get_or}, Option.{slice_get-get_or}}, Math.Seq.{get_or-append_seam}}}
+use Rattle.sh_base.specs.{declared.{config.ConfigParts.{ConfigParts}, event.Event.TheVariants.{Store}}, Setting.{node_size, IsSetting}, Layout.{lock_of, node_word, rear_at, entry_at}}
 use Rattle.sh_base.proofs.LayoutLemmas.{node_size_is, rear_at_low}
-use Rattle.sh_map.specs.declared.log.Entry.{Entry as LogEntry}
-use Rattle.sh_map.specs.Made.{entries_by}
-use Rattle.sh_image.specs.Entries.{entry_words}
-use Rattle.sh_image.specs.Leaf.{Leaf, leaf_in, leaf_words}
-use Rattle.sh_image.specs.Inner.{Inner, inner_in, inner_words}
-use Rattle.sh_edit.specs.Splitting.{left_half, right_half, separator_of}
-use Rattle.sh_edit.specs.Pairing.{with_pair, left_inner, right_inner, middle_of}
-use Rattle.sh_state.specs.TreeState.{Class, Fresh, Linked, ParentLink, Posted, Pending, Skipped, Seat, LockState, Held, Writes, TreeState, put}
-use Rattle.sh_state.specs.Nodes.{IsLinked, standing_entries}
-use Rattle.sh_state.specs.Ground.{Ground}
-use Rattle.sh_state.specs.Change.{Change}
-use Rattle.sh_state.proofs.Puts.{put_here, put_else, put_case}
-use Rattle.sh_state.proofs.Spelled.{leaf_long, inner_long}
-use Rattle.sh_acts.specs.Acts.{ended}
-use Rattle.sh_acts.specs.Images.{patched}
-use Rattle.sh_acts.proofs.LeafEnds.{bound_of, entry_end, rewritten_end, leaf_split_end}
-use Rattle.sh_acts.proofs.InnerEnds.{pair_end, inner_split_end}
-use Rattle.sh_decide.specs.declared.state.Posting.{Posting}
-use Rattle.sh_decide.specs.declared.state.Aim.TheVariants.{Posts}
-use Rattle.sh_decide.specs.Aims.{post_of}
-use Rattle.sh_client.specs.declared.state.Giving.{Giving}
-use Rattle.sh_client.specs.declared.state.Tally.{Tally}
-use Rattle.sh_client.specs.declared.state.Then.{Then}
-use Rattle.sh_client.specs.declared.state.Then.TheVariants.{Ends, Starts}
-use Rattle.sh_client.specs.declared.state.Write.{Write}
-use Rattle.sh_client.specs.declared.state.Write.TheVariants.{Nothing, Entry, Leaf as WholeLeaf, LeftLeaf, Inner as WholeInner, LeftInner}
-use Rattle.sh_client.specs.declared.state.Phase.{Phase}
-use Rattle.sh_client.specs.declared.state.Phase.TheVariants.{Body, Unlock, Leave}
-use Rattle.sh_client.specs.Machine.{Machine, Registers, to}
-use Rattle.sh_client.specs.Giving.{released, counted, entries_of as entries_made}
-use Rattle.sh_client.specs.Splitting.{giving_of}
-use Rattle.sh_client.specs.Wants.{offset_of}
-use Rattle.sh_core.specs.Actors.{Actor, becomes, made_by, updates}
-use Rattle.sh_core.specs.Fits.{AreSpares, Fits, Follows, HasEntry, FillsFresh, IsHolding, IsStoring, Owes, storing_hold, write_of}
-use Rattle.sh_core.specs.Keeps.{holding, pending, pending_then, skips_counted, Hands, Waits, Skips, IsAtWork, KeepsActor}
-use Rattle.sh_core.specs.Core.{Inv, Moves}
-use Rattle.sh_core.proofs.Logs.{made_by-append, made_by_here, answered_longer}
-use Rattle.sh_core.proofs.Causes.{causes_on}
-use Rattle.sh_core.proofs.Others.{entry_on}
+use Rattle.sh_readers.proofs.RowLemmas.{rows_linked}
+use Rattle.sh_map.specs.{declared.log.Entry.{Entry as LogEntry}, Made.{entries_by}}
+use Rattle.sh_image.specs.{Entries.{entry_words}, Leaf.{Leaf, leaf_in, leaf_words}, Inner.{Inner, inner_in, inner_words}}
+use Rattle.sh_edit.specs.{Splitting.{left_half, right_half, separator_of}, Pairing.{with_pair, left_inner, right_inner, middle_of}}
+use Rattle.sh_state.specs.{TreeState.{Class, Fresh, Linked, ParentLink, Posted, Pending, Skipped, Seat, LockState, Held, Writes, TreeState, put}, Nodes.{IsLinked, standing_entries}, Ground.{Ground}}
+use Rattle.sh_state.{specs.Change.{Change}, proofs.{Puts.{put_here, put_else, put_case}, Spelled.{leaf_long, inner_long}}}
+use Rattle.sh_acts.{specs.{Acts.{ended}, Images.{patched}}, proofs.{LeafEnds.{bound_of, entry_end, rewritten_end, leaf_split_end}, InnerEnds.{pair_end, inner_split_end}}}
+use Rattle.sh_decide.specs.{declared.state.{Posting.{Posting}, Aim.TheVariants.{Posts}}, Aims.{post_of}}
+use Rattle.sh_client.specs.declared.state.{Giving.{Giving}, Tally.{Tally}, Then.{Then, TheVariants.{Ends, Starts}}, Write.{Write}}
+use Rattle.sh_client.specs.declared.state.{Write.TheVariants.{Nothing, Entry, Leaf as WholeLeaf, LeftLeaf, Inner as WholeInner, LeftInner}, Phase.{Phase, TheVariants.{Body, Unlock, Leave}}}
+use Rattle.sh_client.specs.{Machine.{Machine, Registers, to}, Giving.{released, counted, entries_of as entries_made}, Splitting.{giving_of}, Wants.{offset_of}}
+use Rattle.sh_core.specs.{Actors.{Actor, becomes, made_by, updates}, Fits.{AreSpares, Fits, Follows, HasEntry, FillsFresh, IsHolding, IsStoring, Owes, storing_hold, write_of}}
+use Rattle.sh_core.specs.{Keeps.{holding, pending, pending_then, skips_counted, Hands, Waits, Skips, IsAtWork, KeepsActor}, Core.{Inv, Moves}}
+use Rattle.sh_core.proofs.{Logs.{made_by-append, made_by_here, answered_longer}, Causes.{causes_on}, Others.{entry_on}}
 use Rattle.sh_core.proofs.Frame.{next, actor_in, at, goes_on, same_here, same_grows, skips_on, IsCalm, Before, moves_to, hands_keep, Claim}
-use Rattle.sh_core_turns.proofs.Posts.{decided_by_entry, skips_kept, waits_no_more}
-use Rattle.sh_core_turns.proofs.Bodies.{inner_halves, inner_with, leaf_halves, store_more, storing_at}
+use Rattle.sh_core_turns.proofs.{Posts.{decided_by_entry, skips_kept, waits_no_more}, Bodies.{inner_halves, inner_with, leaf_halves, store_more, storing_at}}
 
 -- ---- behind the last store
 

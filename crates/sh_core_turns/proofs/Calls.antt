@@ -1,42 +1,19 @@
 -- A call begins, or is taken away when it has ended.
-use Rattle.std.proofs.Common.{◌≡◌, ◌≢◌, ℕ, ◌<◌, ◌≤◌, Bool, true, false, List, [], ◌++◌, length, Option, Some, None, refl, sym, ap, ◌∙◌, subst, arith}
-use Rattle.std.specs.Prelude.{if◌then◌else◌}
-use Rattle.std.specs.Option.{option_map}
-use Rattle.std.proofs.lemmas.Bool.Decides.{nat_tests}
-use Rattle.sh_base.specs.declared.config.ConfigParts.{ConfigParts}
-use Rattle.sh_base.specs.Setting.{IsSetting}
-use Rattle.sh_base.proofs.LayoutLemmas.{node_size_is}
-use Rattle.sh_map.specs.declared.call.Call.{Call}
+use Rattle.std.{proofs.Common.{◌≡◌, ◌≢◌, ℕ, ◌<◌, ◌≤◌, Bool, true, false, List, [], ◌++◌, length, Option, Some, None, refl, sym, ap, ◌∙◌, subst, arith}, specs.Prelude.{if◌then◌else◌}}
+use Rattle.std.{specs.Option.{option_map}, proofs.lemmas.Bool.Decides.{nat_tests}}
+use Rattle.sh_base.{specs.{declared.config.ConfigParts.{ConfigParts}, Setting.{IsSetting}}, proofs.LayoutLemmas.{node_size_is}}
+use Rattle.sh_map.specs.{declared.{call.{Call.{Call}, Reply.{Reply}}, log.Entry.{Entry as LogEntry}}, Calls.{IsInRange}}
 use Rattle.sh_map.specs.declared.call.Call.TheVariants as call
-use Rattle.sh_map.specs.declared.call.Reply.{Reply}
-use Rattle.sh_map.specs.declared.log.Entry.{Entry as LogEntry}
-use Rattle.sh_map.specs.Calls.{IsInRange}
-use Rattle.sh_image.specs.Inner.{Inner}
-use Rattle.sh_image.specs.declared.inner.Image.TheVariants.{Inner as InnerImage}
-use Rattle.sh_descend.specs.Descent.{child_of, hop_of}
-use Rattle.sh_descend.specs.declared.Hop.TheVariants.{Down}
-use Rattle.sh_cache.specs.Cached.{found, FoundBy}
-use Rattle.sh_cache.proofs.FindLemmas.{found_by}
-use Rattle.sh_state.specs.TreeState.{Seat, TreeState}
-use Rattle.sh_state.proofs.Joins.{nothing_done}
-use Rattle.sh_readers.specs.Hand.{AreRowsOf, IsNamed}
-use Rattle.sh_readers.proofs.HandLemmas.{down_named}
-use Rattle.sh_readers.proofs.RowLemmas.{row_found}
-use Rattle.sh_readers.proofs.Gathering.{gathered_begin}
-use Rattle.sh_decide.specs.declared.state.Aim.TheVariants.{Own}
-use Rattle.sh_decide.specs.Aims.{aim_of, aimed_key, call_key, takes_lock, target}
-use Rattle.sh_client.specs.declared.state.Origin.{Origin}
-use Rattle.sh_client.specs.declared.state.Phase.TheVariants.{Read, Draw}
-use Rattle.sh_client.specs.Machine.{Machine, began_cached, reading, to}
-use Rattle.sh_client.specs.Cached.{origin_in}
-use Rattle.sh_client.specs.Feeds.{began_at, begun, calling, from_cached, rows_before}
-use Rattle.sh_client.specs.Rests.{rests}
-use Rattle.sh_core.specs.Actors.{actor_begun, rested, updates}
-use Rattle.sh_core.specs.Fits.{AreSpares, Fits, Gathered, duty_of}
-use Rattle.sh_core.specs.Keeps.{Hands, Skips, Waits, holding, pending, pending_aim, skips_counted}
-use Rattle.sh_core.specs.Core.{Inv, BeginKeeps, RestKeeps}
-use Rattle.sh_core.proofs.Logs.{in_order_later}
-use Rattle.sh_core.proofs.Frame.{IsCalm, nothing_left, before, moves_to}
+use Rattle.sh_image.specs.{Inner.{Inner}, declared.inner.Image.TheVariants.{Inner as InnerImage}}
+use Rattle.sh_descend.specs.{Descent.{child_of, hop_of}, declared.Hop.TheVariants.{Down}}
+use Rattle.sh_cache.{specs.Cached.{found, FoundBy}, proofs.FindLemmas.{found_by}}
+use Rattle.sh_state.{specs.TreeState.{Seat, TreeState}, proofs.Joins.{nothing_done}}
+use Rattle.sh_readers.{specs.Hand.{AreRowsOf, IsNamed}, proofs.{HandLemmas.{down_named}, RowLemmas.{row_found}, Gathering.{gathered_begin}}}
+use Rattle.sh_decide.specs.{declared.state.Aim.TheVariants.{Own}, Aims.{aim_of, aimed_key, call_key, takes_lock, target}}
+use Rattle.sh_client.specs.{declared.state.{Origin.{Origin}, Phase.TheVariants.{Read, Draw}}, Machine.{Machine, began_cached, reading, to}, Cached.{origin_in}}
+use Rattle.sh_client.specs.{Feeds.{began_at, begun, calling, from_cached, rows_before}, Rests.{rests}}
+use Rattle.sh_core.specs.{Actors.{actor_begun, rested, updates}, Fits.{AreSpares, Fits, Gathered, duty_of}, Keeps.{Hands, Skips, Waits, holding, pending, pending_aim, skips_counted}}
+use Rattle.sh_core.{specs.Core.{Inv, BeginKeeps, RestKeeps}, proofs.{Logs.{in_order_later}, Frame.{IsCalm, nothing_left, before, moves_to}}}
 
 -- What a client is that has begun a call: at the root, or at the child of a cached node.
 record Begun (p : ConfigParts) (s : TreeState) (i n : ℕ) (old m : Machine) (call : Call) : Type 0 where

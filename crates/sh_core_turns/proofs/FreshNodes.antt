@@ -1,43 +1,22 @@
 -- A client that needs a fresh node: with one, the right half of a split or a new root stands ready for it; without one, a walk
 -- over the counters begins.
 use Rattle.std.proofs.Common.{◌≡◌, ℕ, ◌++◌, List, [], length, Option, Some, None, refl, sym, ◌∙◌, ap, subst, arith}
-use Rattle.sh_base.specs.declared.config.ConfigParts.{ConfigParts}
+use Rattle.sh_base.{specs.{declared.config.ConfigParts.{ConfigParts}, Setting.{IsSetting}, Layout.{lock_of}}, proofs.LayoutLemmas.{node_size_is}}
 use Rattle.sh_readers.specs.Hand.{AreRowsOf}
-use Rattle.sh_base.specs.Setting.{IsSetting}
-use Rattle.sh_base.specs.Layout.{lock_of}
 use Rattle.sh_map.specs.Calls.{IsInRange}
 use Rattle.sh_map.specs.declared.call.Reply.TheVariants as reply
-use Rattle.sh_image.specs.declared.inner.Image.{Image}
-use Rattle.sh_image.specs.Inner.{inner_words}
+use Rattle.sh_image.specs.{declared.inner.Image.{Image}, Inner.{inner_words}}
 use Rattle.sh_edit.specs.Pairing.{root_over}
-use Rattle.sh_alloc.specs.declared.state.NodeRange.{NodeRange}
-use Rattle.sh_alloc.specs.declared.state.Walk.{Walk}
-use Rattle.sh_alloc.specs.Spares.{IsSpare, lowest, without_lowest}
-use Rattle.sh_alloc.specs.Walks.{walk_start}
+use Rattle.sh_alloc.specs.{declared.state.{NodeRange.{NodeRange}, Walk.{Walk}}, Spares.{IsSpare, lowest, without_lowest}, Walks.{walk_start}}
 use Rattle.sh_read.specs.Reads.{Reads}
-use Rattle.sh_state.specs.TreeState.{LockState, Owns, Seat, TreeState}
-use Rattle.sh_state.specs.Ground.{Ground}
-use Rattle.sh_decide.specs.declared.state.Posting.{Posting}
-use Rattle.sh_decide.specs.declared.state.Aim.TheVariants.{Own, Gathers, Posts}
-use Rattle.sh_client.specs.declared.state.Write.TheVariants.{LeftLeaf, LeftInner}
-use Rattle.sh_client.specs.declared.state.Filling.{Filling}
-use Rattle.sh_client.specs.declared.state.Filling.TheVariants.{RightHalf, NewRoot}
-use Rattle.sh_decide.specs.Aims.{aimed_key, target}
-use Rattle.sh_client.specs.declared.state.Need.{Need}
-use Rattle.sh_client.specs.declared.state.Need.TheVariants.{ToSplit, ToGrow}
-use Rattle.sh_client.specs.declared.state.Phase.{Phase}
-use Rattle.sh_client.specs.declared.state.Phase.TheVariants.{Fill, Seek}
-use Rattle.sh_client.specs.Machine.{Machine, Registers}
-use Rattle.sh_client.specs.Splitting.{giving_of, halved_by, needing, needs, with_fresh}
-use Rattle.sh_core.specs.Actors.{Actor, becomes}
-use Rattle.sh_core.specs.Fits.{FillsWith, IsPosting, Needs, Owes, PlansHalf}
-use Rattle.sh_core.specs.Keeps.{Hands, KeepsActor, filling_lock, need_lock, pending, pending_filling, pending_need, skips_counted}
-use Rattle.sh_core.specs.Core.{Inv, Moves}
-use Rattle.sh_core.proofs.Others.{Grows, below_on, named_on, owes_on}
-use Rattle.sh_core.proofs.Frame.{Before, actor_in, at, quiet_by, quiet_with, same_grows, same_here}
-use Rattle.sh_base.proofs.LayoutLemmas.{node_size_is}
-use Rattle.sh_core_turns.proofs.Spares.{IsTaken, begins_walk, none_filled, none_spare, takes_lowest}
-use Rattle.sh_core_turns.proofs.LeafHalves.{half_made, half_posts, leaf_to_split, left_words, right_words}
+use Rattle.sh_state.specs.{TreeState.{LockState, Owns, Seat, TreeState}, Ground.{Ground}}
+use Rattle.sh_decide.specs.{declared.state.{Posting.{Posting}, Aim.TheVariants.{Own, Gathers, Posts}}, Aims.{aimed_key, target}}
+use Rattle.sh_client.specs.declared.state.{Write.TheVariants.{LeftLeaf, LeftInner}, Filling.{Filling, TheVariants.{RightHalf, NewRoot}}, Need.{Need, TheVariants.{ToSplit, ToGrow}}, Phase.{Phase}}
+use Rattle.sh_client.specs.{declared.state.Phase.TheVariants.{Fill, Seek}, Machine.{Machine, Registers}, Splitting.{giving_of, halved_by, needing, needs, with_fresh}}
+use Rattle.sh_core.specs.{Actors.{Actor, becomes}, Fits.{FillsWith, IsPosting, Needs, Owes, PlansHalf}}
+use Rattle.sh_core.specs.{Keeps.{Hands, KeepsActor, filling_lock, need_lock, pending, pending_filling, pending_need, skips_counted}, Core.{Inv, Moves}}
+use Rattle.sh_core.proofs.{Others.{Grows, below_on, named_on, owes_on}, Frame.{Before, actor_in, at, quiet_by, quiet_with, same_grows, same_here}}
+use Rattle.sh_core_turns.proofs.{Spares.{IsTaken, begins_walk, none_filled, none_spare, takes_lowest}, LeafHalves.{half_made, half_posts, leaf_to_split, left_words, right_words}}
 use Rattle.sh_core_turns.proofs.InnerHalves.{inner_half_made, inner_posts, inner_to_split, left_pairs, right_pairs}
 
 -- What it has in hand then, and the words that stand ready for the fresh node, of which none is stored.

@@ -1,25 +1,12 @@
 -- The images of accepted READs, and where hops from them lead.
 use Rattle.std.proofs.Common.{◌≡◌, ◌≢◌, ℕ, zero, suc, ◌+◌, ◌-◌, ◌<◌, ◌≤◌, List, [], ◌∷◌, length, get_or, refl, sym, ap, ◌∙◌, subst, arith}
-use Rattle.sh_base.specs.declared.config.ConfigParts.{ConfigParts}
-use Rattle.sh_base.specs.Setting.{node_size, IsSetting}
-use Rattle.sh_base.specs.Layout.{node_word, rear_at}
-use Rattle.sh_base.proofs.LayoutLemmas.{node_size_is}
-use Rattle.sh_image.specs.declared.inner.Image.TheVariants.{Leaf as LeafImage, Inner as InnerImage}
-use Rattle.sh_image.specs.declared.read.Seen.TheVariants.{Leaf as LeafSeen, Inner as InnerSeen}
-use Rattle.sh_image.specs.Leaf.{Leaf, leaf_in, Spells}
-use Rattle.sh_image.specs.Inner.{Inner, inner_in, SpellsInner}
-use Rattle.sh_image.proofs.UntornLemmas.{untorn_spelled, untorn_inner}
+use Rattle.sh_base.{specs.{declared.config.ConfigParts.{ConfigParts}, Setting.{node_size, IsSetting}, Layout.{node_word, rear_at}}, proofs.LayoutLemmas.{node_size_is}}
+use Rattle.sh_image.specs.{declared.{inner.Image.TheVariants.{Leaf as LeafImage, Inner as InnerImage}, read.Seen.TheVariants.{Leaf as LeafSeen, Inner as InnerSeen}}, Leaf.{Leaf, leaf_in, Spells}}
+use Rattle.sh_image.{specs.Inner.{Inner, inner_in, SpellsInner}, proofs.UntornLemmas.{untorn_spelled, untorn_inner}}
 use Rattle.sh_edit.specs.Held.{held}
 use Rattle.sh_read.proofs.JudgingLemmas.{seen_once}
-use Rattle.sh_state.specs.TreeState.{Linked, TreeState, writing}
-use Rattle.sh_state.specs.Ground.{Ground}
-use Rattle.sh_state.specs.Nodes.{level_in}
-use Rattle.sh_state.proofs.Spelled.{leaf_is, inner_is}
-use Rattle.sh_readers.specs.Points.{HadSince}
-use Rattle.sh_readers.specs.Knows.{IsFed}
-use Rattle.sh_readers.specs.Hand.{IsImageOf}
-use Rattle.sh_readers.proofs.Fed.{fed_first, fed_more, fed_leaf, fed_inner}
-use Rattle.sh_readers.proofs.HandLemmas.{inner_image, leaf_image}
+use Rattle.sh_state.{specs.{TreeState.{Linked, TreeState, writing}, Ground.{Ground}, Nodes.{level_in}}, proofs.Spelled.{leaf_is, inner_is}}
+use Rattle.sh_readers.{specs.{Points.{HadSince}, Knows.{IsFed}, Hand.{IsImageOf}}, proofs.{Fed.{fed_first, fed_more, fed_leaf, fed_inner}, HandLemmas.{inner_image, leaf_image}}}
 use Rattle.sh_core.specs.Fits.{HasRead}
 
 -- what a leaf that was accepted holds

@@ -1,47 +1,20 @@
 -- The decisions under the lock of the node that a post goes to.
-use Rattle.std.proofs.Common.{◌≡◌, ◌≢◌, ℕ, suc, ◌+◌, ◌-◌, ◌<◌, List, length, Option, Some, refl, sym, ap, ◌∙◌, subst}
-use Rattle.sh_base.specs.declared.config.ConfigParts.{ConfigParts}
-use Rattle.sh_base.specs.declared.event.Event.TheVariants.{Load}
-use Rattle.sh_base.specs.Setting.{node_size, IsSetting}
-use Rattle.sh_base.specs.Layout.{node_word}
-use Rattle.std.specs.Prelude.{nat_lt}
-use Rattle.sh_image.specs.declared.inner.Image.TheVariants.{Inner as InnerImage}
-use Rattle.sh_image.specs.Inner.{Inner, inner_in, inner_words}
+use Rattle.std.{proofs.Common.{◌≡◌, ◌≢◌, ℕ, suc, ◌+◌, ◌-◌, ◌<◌, List, length, Option, Some, refl, sym, ap, ◌∙◌, subst}, specs.Prelude.{nat_lt}}
+use Rattle.sh_base.specs.{declared.{config.ConfigParts.{ConfigParts}, event.Event.TheVariants.{Load}}, Setting.{node_size, IsSetting}, Layout.{node_word}}
+use Rattle.sh_image.specs.{declared.inner.Image.TheVariants.{Inner as InnerImage}, Inner.{Inner, inner_in, inner_words}}
 use Rattle.sh_edit.specs.Pairing.{with_pair}
 use Rattle.sh_read.specs.Reads.{Reads, accepted}
-use Rattle.sh_descend.specs.declared.Hop.TheVariants.{Here}
-use Rattle.sh_descend.specs.Descent.{hop_of}
-use Rattle.sh_state.specs.TreeState.{Seat, TreeState}
-use Rattle.sh_state.specs.Ground.{Ground}
-use Rattle.sh_state.specs.Change.{Change}
+use Rattle.sh_descend.specs.{declared.Hop.TheVariants.{Here}, Descent.{hop_of}}
+use Rattle.sh_state.{specs.{TreeState.{Seat, TreeState}, Ground.{Ground}, Change.{Change}}, proofs.Joins.{nothing_done}}
 use Rattle.sh_acts.specs.Acts.{skipped}
-use Rattle.sh_state.proofs.Joins.{nothing_done}
-use Rattle.sh_decide.specs.declared.state.Posting.{Posting}
-use Rattle.sh_decide.specs.declared.state.Aim.{Aim}
-use Rattle.sh_decide.specs.declared.state.Aim.TheVariants.{Own, Gathers, Posts}
-use Rattle.sh_decide.specs.declared.state.Decision.{Decision}
+use Rattle.sh_decide.specs.{declared.state.{Posting.{Posting}, Aim.{Aim, TheVariants.{Own, Gathers, Posts}}, Decision.{Decision}}, Deciding.{decided_by, decided_here}}
 use Rattle.sh_decide.specs.declared.state.Decision.TheVariants as decision
-use Rattle.sh_decide.specs.Deciding.{decided_by, decided_here}
-use Rattle.sh_client.specs.declared.state.Need.TheVariants.{ToSplit}
-use Rattle.sh_client.specs.declared.state.Tally.{Tally}
-use Rattle.sh_client.specs.declared.state.Then.TheVariants.{Ends}
-use Rattle.sh_client.specs.declared.state.Write.TheVariants.{Nothing, Inner as WholeInner}
-use Rattle.sh_client.specs.declared.state.Phase.{Phase}
-use Rattle.sh_client.specs.declared.state.Phase.TheVariants.{ReadLocked, Waiting}
-use Rattle.sh_client.specs.Machine.{Machine, Registers, up}
-use Rattle.sh_client.specs.Bodies.{pair_of}
-use Rattle.sh_client.specs.Feeds.{did}
-use Rattle.sh_client.specs.Splitting.{giving_of}
-use Rattle.sh_core.specs.Actors.{Actor}
-use Rattle.sh_core.specs.Fits.{IsPosting, IsToSplit, Owes, PlansInner}
-use Rattle.sh_core.specs.Keeps.{KeepsActor}
-use Rattle.sh_core.proofs.Others.{owes_on}
+use Rattle.sh_client.specs.declared.state.{Need.TheVariants.{ToSplit}, Tally.{Tally}, Then.TheVariants.{Ends}, Write.TheVariants.{Nothing, Inner as WholeInner}, Phase.{Phase}}
+use Rattle.sh_client.specs.{declared.state.Phase.TheVariants.{ReadLocked, Waiting}, Machine.{Machine, Registers, up}, Bodies.{pair_of}, Feeds.{did}, Splitting.{giving_of}}
+use Rattle.sh_core.{specs.{Actors.{Actor}, Fits.{IsPosting, IsToSplit, Owes, PlansInner}, Keeps.{KeepsActor}}, proofs.Others.{owes_on}}
 use Rattle.sh_core.proofs.Frame.{Before, Claim, actor_in, at, moves_to, next, one_log, quiet_with, same_grows, same_here}
-use Rattle.sh_core_turns.proofs.Skipping.{keeps_skipped, skips_act, worn_more}
-use Rattle.sh_core_turns.proofs.UnderLock.{calm, kept, Feeds, Lands, M, locked_read, rd, real}
-use Rattle.sh_core_turns.proofs.LeafDecisions.{own_here}
-use Rattle.sh_core_turns.proofs.InnerHalves.{IsFor, adds, decides, post_below}
-use Rattle.sh_core_turns.proofs.FreshNodes.{needs_land}
+use Rattle.sh_core_turns.proofs.{Skipping.{keeps_skipped, skips_act, worn_more}, UnderLock.{calm, kept, Feeds, Lands, M, locked_read, rd, real}, LeafDecisions.{own_here}}
+use Rattle.sh_core_turns.proofs.{InnerHalves.{IsFor, adds, decides, post_below}, FreshNodes.{needs_land}}
 
 module _ (p : ConfigParts) (ok : IsSetting p) (words : List ℕ) (Has Now : ℕ → Actor → Type 0) (Out : ℕ → ℕ → ℕ → Type 0) (i : ℕ) (s : TreeState) (b : Before p words Has Out s) (a : Actor) (r : Registers) (post : Posting) (depth : ℕ)
     (k : KeepsActor p s i (actor_in p i a r (ReadLocked (Posts post) depth))) where

@@ -1,31 +1,17 @@
 -- An inner node that stands and covers a post's separator: what the decision on it says, and its plans with the post's pair.
 use Rattle.std.proofs.Common.{◌≡◌, ℕ, suc, ◌+◌, ◌*◌, ◌<◌, ◌≤◌, Bool, true, false, List, length, Some, refl, sym, ap, ◌∙◌, subst, arith}
 use Rattle.std.specs.Prelude.{if◌then◌else◌, nat_lt}
-use Rattle.sh_base.specs.declared.config.ConfigParts.{ConfigParts}
-use Rattle.sh_base.specs.Setting.{last_version, IsSetting}
-use Rattle.sh_map.specs.declared.call.Call.{Call}
-use Rattle.sh_map.specs.declared.call.Reply.{Reply}
-use Rattle.sh_image.specs.declared.inner.Image.{Image}
-use Rattle.sh_image.specs.declared.inner.Image.TheVariants.{Inner as InnerImage}
-use Rattle.sh_image.specs.Inner.{Inner, inner_in, inner_words}
+use Rattle.sh_base.specs.{declared.config.ConfigParts.{ConfigParts}, Setting.{last_version, IsSetting}}
+use Rattle.sh_map.specs.declared.call.{Call.{Call}, Reply.{Reply}}
+use Rattle.sh_image.specs.{declared.inner.Image.{Image, TheVariants.{Inner as InnerImage}}, Inner.{Inner, inner_in, inner_words}}
 use Rattle.sh_edit.specs.Pairing.{with_pair, left_inner, right_inner, middle_of}
 use Rattle.sh_read.specs.Reads.{Reads, accepted}
-use Rattle.sh_descend.specs.declared.Hop.TheVariants.{Here}
-use Rattle.sh_descend.specs.Descent.{hop_of}
-use Rattle.sh_state.specs.TreeState.{Linked, TreeState}
-use Rattle.sh_state.specs.Nodes.{Sits}
-use Rattle.sh_state.specs.Ground.{Ground}
-use Rattle.sh_readers.specs.Hand.{IsNamed}
-use Rattle.sh_readers.proofs.HandLemmas.{here_is}
-use Rattle.sh_decide.specs.declared.state.Posting.{Posting}
-use Rattle.sh_decide.specs.declared.state.Aim.TheVariants.{Posts}
-use Rattle.sh_client.specs.declared.state.Then.{Then}
-use Rattle.sh_client.specs.declared.state.Then.TheVariants.{Ends, Starts}
-use Rattle.sh_decide.specs.declared.state.Decision.{Decision}
+use Rattle.sh_descend.specs.{declared.Hop.TheVariants.{Here}, Descent.{hop_of}}
+use Rattle.sh_state.specs.{TreeState.{Linked, TreeState}, Nodes.{Sits}, Ground.{Ground}}
+use Rattle.sh_readers.{specs.Hand.{IsNamed}, proofs.HandLemmas.{here_is}}
+use Rattle.sh_decide.specs.{declared.state.{Posting.{Posting}, Aim.TheVariants.{Posts}, Decision.{Decision}}, Aims.{post_of}, Deciding.{decided_by, decided_here, decision_of, has_separator}}
+use Rattle.sh_client.specs.{declared.state.Then.{Then, TheVariants.{Ends, Starts}}, Bodies.{pair_of}}
 use Rattle.sh_decide.specs.declared.state.Decision.TheVariants as decision
-use Rattle.sh_decide.specs.Aims.{post_of}
-use Rattle.sh_client.specs.Bodies.{pair_of}
-use Rattle.sh_decide.specs.Deciding.{decided_by, decided_here, decision_of, has_separator}
 use Rattle.sh_core.specs.Fits.{IsPosting, IsToSplit, PlansPair, PlansInner, PlansLeftInner}
 use Rattle.sh_core_turns.proofs.Standing.{StandsWell, is_lt, not_lt, some_image, split_here, standing_accepted, stands_well}
 

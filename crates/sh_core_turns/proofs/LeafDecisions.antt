@@ -1,38 +1,19 @@
 -- The decisions under the lock of a call's own leaf.
 use Rattle.std.proofs.Common.{◌≡◌, ℕ, List, [], length, Some, None, refl, sym, ap, ◌∙◌, subst, arith}
-use Rattle.sh_base.specs.declared.config.ConfigParts.{ConfigParts}
-use Rattle.sh_base.specs.Setting.{IsSetting}
+use Rattle.sh_base.specs.{declared.config.ConfigParts.{ConfigParts}, Setting.{IsSetting}}
 use Rattle.sh_map.specs.declared.call.Reply.{Reply}
 use Rattle.sh_map.specs.declared.call.Reply.TheVariants as reply
-use Rattle.sh_image.specs.declared.inner.Image.TheVariants.{Leaf as LeafImage}
-use Rattle.sh_image.specs.Entries.{entry_words}
-use Rattle.sh_image.specs.Leaf.{Leaf, leaf_in, leaf_words}
+use Rattle.sh_image.specs.{declared.inner.Image.TheVariants.{Leaf as LeafImage}, Entries.{entry_words}, Leaf.{Leaf, leaf_in, leaf_words}}
 use Rattle.sh_edit.specs.Rewriting.{rewritten}
 use Rattle.sh_read.specs.Reads.{Reads, accepted}
-use Rattle.sh_descend.specs.declared.Hop.TheVariants.{Here}
-use Rattle.sh_descend.specs.Descent.{hop_of}
+use Rattle.sh_descend.specs.{declared.Hop.TheVariants.{Here}, Descent.{hop_of}}
 use Rattle.sh_state.specs.TreeState.{TreeState}
-use Rattle.sh_decide.specs.declared.state.Aim.TheVariants.{Own}
-use Rattle.sh_decide.specs.declared.state.Decision.{Decision}
+use Rattle.sh_decide.specs.{declared.state.{Aim.TheVariants.{Own}, Decision.{Decision}}, Aims.{call_key, written_key, written_value}, Deciding.{decided_by, decided_here}}
 use Rattle.sh_decide.specs.declared.state.Decision.TheVariants as decision
-use Rattle.sh_decide.specs.Aims.{call_key, written_key, written_value}
-use Rattle.sh_decide.specs.Deciding.{decided_by, decided_here}
-use Rattle.sh_client.specs.declared.state.Need.TheVariants.{ToSplit}
-use Rattle.sh_client.specs.declared.state.Then.TheVariants.{Ends}
-use Rattle.sh_client.specs.declared.state.Write.{Write}
-use Rattle.sh_client.specs.declared.state.Write.TheVariants.{Nothing, Entry, Leaf as WholeLeaf}
-use Rattle.sh_client.specs.declared.state.Phase.TheVariants.{ReadLocked, Waiting}
-use Rattle.sh_client.specs.Machine.{Machine, Registers}
-use Rattle.sh_client.specs.Bodies.{entry_left}
-use Rattle.sh_client.specs.Feeds.{did}
-use Rattle.sh_client.specs.Splitting.{giving_of}
-use Rattle.sh_core.specs.Actors.{Actor}
-use Rattle.sh_core.specs.Fits.{IsToSplit, Owes, Plans}
-use Rattle.sh_core.specs.Keeps.{KeepsActor, pending_write}
-use Rattle.sh_core.proofs.Frame.{Before, actor_in, at, quiet_with}
-use Rattle.sh_core_turns.proofs.UnderLock.{Lands, M, rd, real, restarts}
-use Rattle.sh_core_turns.proofs.LeafHalves.{Decided, answers, covers, own_below}
-use Rattle.sh_core_turns.proofs.FreshNodes.{needs_land}
+use Rattle.sh_client.specs.declared.state.{Need.TheVariants.{ToSplit}, Then.TheVariants.{Ends}, Write.{Write, TheVariants.{Nothing, Entry, Leaf as WholeLeaf}}, Phase.TheVariants.{ReadLocked, Waiting}}
+use Rattle.sh_client.specs.{Machine.{Machine, Registers}, Bodies.{entry_left}, Feeds.{did}, Splitting.{giving_of}}
+use Rattle.sh_core.{specs.{Actors.{Actor}, Fits.{IsToSplit, Owes, Plans}, Keeps.{KeepsActor, pending_write}}, proofs.Frame.{Before, actor_in, at, quiet_with}}
+use Rattle.sh_core_turns.proofs.{UnderLock.{Lands, M, rd, real, restarts}, LeafHalves.{Decided, answers, covers, own_below}, FreshNodes.{needs_land}}
 
 module _ (p : ConfigParts) (ok : IsSetting p) (words : List ℕ) (Has Now : ℕ → Actor → Type 0) (Out : ℕ → ℕ → ℕ → Type 0) (i : ℕ) (s : TreeState) (b : Before p words Has Out s) (a : Actor) (r : Registers) (depth : ℕ)
     (k : KeepsActor p s i (actor_in p i a r (ReadLocked Own depth))) where

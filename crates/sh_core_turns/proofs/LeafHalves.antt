@@ -1,57 +1,28 @@
 -- What the decision on a standing leaf says, where the leaf covers the key of its update, and the leaf's halves.
 use Rattle.std.proofs.Common.{◌≡◌, ◌≢◌, ℕ, zero, suc, ◌<◌, ◌≤◌, Bool, true, false, List, [], ◌∷◌, length, get_or, set, Option, Some, None, refl, sym, ap, ◌∙◌, subst, inl, inr, arith}
-use Rattle.std.specs.Prelude.{◌⊎◌, if◌then◌else◌, nat_lt, replicate}
-use Rattle.std.proofs.lemmas.Bool.{cases_eq}
-use Rattle.std.proofs.lemmas.List.{length-replicate}
-use Rattle.std.proofs.Math.Seq.{take-length}
-use Rattle.sh_base.specs.declared.config.ConfigParts.{ConfigParts}
-use Rattle.sh_base.specs.Setting.{last_version, last_entry_version, IsSetting}
-use Rattle.sh_base.specs.Layout.{entry_at}
-use Rattle.sh_map.specs.declared.call.Call.{Call}
-use Rattle.sh_map.specs.declared.call.Call.TheVariants.{Get, Put, Del, Range}
-use Rattle.sh_map.specs.declared.call.Reply.{Reply}
+use Rattle.std.{specs.Prelude.{◌⊎◌, if◌then◌else◌, nat_lt, replicate}, proofs.{lemmas.{Bool.{cases_eq}, List.{length-replicate}}, Math.Seq.{take-length}}}
+use Rattle.sh_base.specs.{declared.config.ConfigParts.{ConfigParts}, Setting.{last_version, last_entry_version, IsSetting}, Layout.{entry_at}}
+use Rattle.sh_map.specs.{declared.{call.{Call.{Call, TheVariants.{Get, Put, Del, Range}}, Reply.{Reply}}, log.{Change.{Change}, Entry.{Entry as LogEntry}}}, Map.{get, put}}
+use Rattle.sh_map.specs.{Log.{changed, change_key, map_of, HasOld}, Calls.{IsInRange}, Book.{made_entry}, Made.{entries_by}}
 use Rattle.sh_map.specs.declared.call.Reply.TheVariants as reply
-use Rattle.sh_map.specs.declared.log.Change.{Change}
 use Rattle.sh_map.specs.declared.log.Change.TheVariants as change
-use Rattle.sh_map.specs.declared.log.Entry.{Entry as LogEntry}
-use Rattle.sh_map.specs.Map.{get, put}
-use Rattle.sh_map.specs.Log.{changed, change_key, map_of, HasOld}
-use Rattle.sh_map.specs.Calls.{IsInRange}
-use Rattle.sh_map.specs.Book.{made_entry}
-use Rattle.sh_map.specs.Made.{entries_by}
-use Rattle.sh_image.specs.declared.leaf.LeafEntry.{LeafEntry}
-use Rattle.sh_image.specs.Entries.{entry_words}
-use Rattle.sh_image.specs.Leaf.{Leaf, leaf_in, leaf_words}
-use Rattle.sh_image.proofs.ReadLemmas.{entry_read}
-use Rattle.sh_image.specs.declared.inner.Image.TheVariants.{Leaf as LeafImage}
-use Rattle.sh_edit.specs.Held.{held, key_at, map_of_entries, no_entry, HasKeysOnce}
-use Rattle.sh_edit.specs.Placing.{LacksKey, IsFirstWith, IsPlaceFor}
-use Rattle.sh_edit.specs.Rewriting.{rewritten}
-use Rattle.sh_edit.specs.Splitting.{IsSplit, left_half, right_half, separator_of}
-use Rattle.sh_edit.proofs.HeldLemmas.{held_at, held_none}
+use Rattle.sh_image.{specs.{declared.leaf.LeafEntry.{LeafEntry}, Entries.{entry_words}, Leaf.{Leaf, leaf_in, leaf_words}}, proofs.ReadLemmas.{entry_read}}
+use Rattle.sh_image.specs.declared.inner.Image.{Image, TheVariants.{Leaf as LeafImage}}
+use Rattle.sh_edit.specs.{Held.{held, key_at, map_of_entries, no_entry, HasKeysOnce}, Placing.{LacksKey, IsFirstWith, IsPlaceFor}, Rewriting.{rewritten}}
+use Rattle.sh_edit.{specs.Splitting.{IsSplit, left_half, right_half, separator_of}, proofs.HeldLemmas.{held_at, held_none}}
 use Rattle.sh_edit.proofs.RewriteLemmas.{rewritten_lawful, rewritten_new, rewritten_over, rewritten_removed}
 use Rattle.sh_edit.proofs.EntryLemmas.{entry_placed, entry_placed_once, entry_removed, entry_removed_once, rewritten_placed_once, rewritten_removed_once}
-use Rattle.sh_state.specs.TreeState.{Linked, TreeState}
-use Rattle.sh_state.specs.Nodes.{low_in, high_in, standing_entries, IsStandingLeaf}
-use Rattle.sh_state.specs.Ground.{Ground}
+use Rattle.sh_state.specs.{TreeState.{Linked, TreeState}, Nodes.{low_in, high_in, standing_entries, IsStandingLeaf}, Ground.{Ground}}
 use Rattle.sh_acts.specs.Images.{IsEntryOf}
-use Rattle.sh_decide.specs.declared.state.Aim.TheVariants.{Own, Posts}
-use Rattle.sh_decide.specs.declared.state.Decision.{Decision}
+use Rattle.sh_decide.specs.{declared.state.{Aim.TheVariants.{Own, Posts}, Decision.{Decision}}, Aims.{call_key, written_key, written_value, post_of}}
+use Rattle.sh_decide.{specs.Deciding.{change_at, decided_here, del_in, put_in, put_into, unless_worn, update_in, decided_by, decision_of}, proofs.IndexLemmas.{first_index, no_index}}
+use Rattle.sh_decide.specs.{Leaves.{leaf_answer, are_keys_once, index_of, reply_with, version_at}, declared.state.Posting.{Posting}}
 use Rattle.sh_decide.specs.declared.state.Decision.TheVariants as decision
-use Rattle.sh_decide.specs.Aims.{call_key, written_key, written_value, post_of}
-use Rattle.sh_client.specs.Bodies.{entry_left}
-use Rattle.sh_decide.specs.Deciding.{change_at, decided_here, del_in, put_in, put_into, unless_worn, update_in, decided_by, decision_of}
-use Rattle.sh_decide.proofs.IndexLemmas.{first_index, no_index}
-use Rattle.sh_decide.specs.Leaves.{leaf_answer, are_keys_once, index_of, reply_with, version_at}
+use Rattle.sh_client.specs.{Bodies.{entry_left}, declared.state.Then.{Then, TheVariants.{Ends, Starts}}}
 use Rattle.sh_core.specs.Fits.{EndsDecided, HadNone, IsThere, IsUpdate, PlansEntry, PlansLeaf, IsToSplit, PlansLeftLeaf}
-use Rattle.sh_image.specs.declared.inner.Image.{Image}
 use Rattle.sh_read.specs.Reads.{Reads, accepted}
-use Rattle.sh_descend.specs.declared.Hop.TheVariants.{Here}
-use Rattle.sh_descend.specs.Descent.{hop_of}
+use Rattle.sh_descend.specs.{declared.Hop.TheVariants.{Here}, Descent.{hop_of}}
 use Rattle.sh_readers.proofs.HandLemmas.{here_is}
-use Rattle.sh_decide.specs.declared.state.Posting.{Posting}
-use Rattle.sh_client.specs.declared.state.Then.{Then}
-use Rattle.sh_client.specs.declared.state.Then.TheVariants.{Ends, Starts}
 use Rattle.sh_core_turns.proofs.Standing.{StandsWell, is_lt, not_lt, some_image, split_here, standing_accepted, stands_well}
 
 -- ---- where a key is

@@ -1,23 +1,13 @@
 -- What an accepted image does to the cached nodes that a client has in hand.
-use Rattle.std.proofs.Common.{◌≡◌, ℕ, Bool, true, false, List, Option, Some, None, refl, sym, subst, ◌∙◌, eqb-true}
-use Rattle.std.specs.Prelude.{◌==◌, ◌&&◌, if◌then◌else◌}
+use Rattle.std.{proofs.Common.{◌≡◌, ℕ, Bool, true, false, List, Option, Some, None, refl, sym, subst, ◌∙◌, eqb-true}, specs.Prelude.{◌==◌, ◌&&◌, if◌then◌else◌}}
 use Rattle.sh_base.specs.declared.config.ConfigParts.{ConfigParts}
-use Rattle.sh_image.specs.Inner.{Inner}
-use Rattle.sh_image.specs.declared.inner.Image.{Image}
-use Rattle.sh_image.specs.declared.inner.Image.TheVariants.{Leaf as LeafImage, Inner as InnerImage}
-use Rattle.sh_cache.specs.Cached.{kept}
+use Rattle.sh_image.specs.{Inner.{Inner}, declared.inner.Image.{Image, TheVariants.{Leaf as LeafImage, Inner as InnerImage}}}
+use Rattle.sh_cache.{specs.Cached.{kept}, proofs.RowLemmas.{forgotten_all, kept_all}}
 use Rattle.sh_state.specs.TreeState.{TreeState}
-use Rattle.sh_readers.specs.Hand.{AreRowsOf, IsImageOf}
-use Rattle.sh_cache.proofs.RowLemmas.{forgotten_all, kept_all}
-use Rattle.sh_readers.proofs.RowLemmas.{own_low}
-use Rattle.sh_decide.specs.declared.state.Aim.{Aim}
-use Rattle.sh_decide.specs.Ways.{leads_right}
-use Rattle.sh_client.specs.Cached.{image_kept, is_kept, keeping, settled, without_origin}
-use Rattle.sh_client.specs.Machine.{Registers}
-use Rattle.sh_client.specs.declared.state.Phase.TheVariants.{Read, ReadLocked}
-use Rattle.sh_core.specs.Actors.{Actor}
-use Rattle.sh_core.specs.Keeps.{KeepsActor}
-use Rattle.sh_core.proofs.Frame.{actor_in}
+use Rattle.sh_readers.{specs.Hand.{AreRowsOf, IsImageOf}, proofs.RowLemmas.{own_low}}
+use Rattle.sh_decide.specs.{declared.state.Aim.{Aim}, Ways.{leads_right}}
+use Rattle.sh_client.specs.{Cached.{image_kept, is_kept, keeping, settled, without_origin}, Machine.{Registers}, declared.state.Phase.TheVariants.{Read, ReadLocked}}
+use Rattle.sh_core.{specs.{Actors.{Actor}, Keeps.{KeepsActor}}, proofs.Frame.{actor_in}}
 
 module _ (s : TreeState) where
   rows_settled : (origin : Option ℕ) (right : Bool) (cached : List Inner) → AreRowsOf s cached → AreRowsOf s (without_origin origin right cached)

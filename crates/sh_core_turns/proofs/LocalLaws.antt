@@ -1,24 +1,16 @@
 -- The laws of the turns that a compute server answers, and of rights.
 use Rattle.std.proofs.Common.{◌≡◌, ◌≢◌, ◌⊎◌, ℕ, List, ◌++◌, Option, Some, None, refl, ◌∙◌, subst}
-use Rattle.sh_base.specs.declared.config.ConfigParts.{ConfigParts}
-use Rattle.sh_base.specs.Setting.{IsSetting}
-use Rattle.sh_base.specs.Layout.{lock_of, compute_of}
+use Rattle.sh_base.specs.{declared.config.ConfigParts.{ConfigParts}, Setting.{IsSetting}, Layout.{lock_of, compute_of}}
 use Rattle.sh_map.specs.declared.log.Entry.{Entry as LogEntry}
-use Rattle.sh_alloc.specs.declared.state.ChunkWant.{ChunkWant}
+use Rattle.sh_alloc.specs.{declared.state.ChunkWant.{ChunkWant}, Walks.{walk_wants}}
 use Rattle.sh_alloc.specs.declared.state.ChunkWant.TheVariants as chunk
-use Rattle.sh_alloc.specs.Walks.{walk_wants}
 use Rattle.sh_read.specs.Reads.{wanted}
 use Rattle.sh_decide.specs.declared.state.Aim.{Aim}
-use Rattle.sh_client.specs.declared.state.Then.{Then}
-use Rattle.sh_client.specs.declared.state.Phase.{Phase}
-use Rattle.sh_client.specs.declared.state.Phase.TheVariants.{Read, Draw, Look, ReadLocked, Seek, Waiting, Leave}
-use Rattle.sh_client.specs.Machine.{Registers}
+use Rattle.sh_client.specs.{declared.state.{Then.{Then}, Phase.{Phase, TheVariants.{Read, Draw, Look, ReadLocked, Seek, Waiting, Leave}}}, Machine.{Registers}}
 use Rattle.sh_client.specs.Wants.{count_of, load_of, want_in, want_of}
-use Rattle.sh_core.specs.Actors.{Actor, actor_stepped, actor_turned}
-use Rattle.sh_core.specs.Core.{Inv, Moves, IsLocal, HasSeen, LocalKeeps, LookKeeps, TakeKeeps, PartKeeps}
+use Rattle.sh_core.specs.{Actors.{Actor, actor_stepped, actor_turned}, Core.{Inv, Moves, IsLocal, HasSeen, LocalKeeps, LookKeeps, TakeKeeps, PartKeeps}}
 use Rattle.sh_core.proofs.Frame.{actor_in, actor_is, at, before, Before}
-use Rattle.sh_core_turns.proofs.LocalTurns.{draw, look, turn, waiting, leave}
-use Rattle.sh_core_turns.proofs.Rights.{takes_up, parts_with}
+use Rattle.sh_core_turns.proofs.{LocalTurns.{draw, look, turn, waiting, leave}, Rights.{takes_up, parts_with}}
 
 not_local_load : (o : Option ℕ) → IsLocal (load_of o) → ⊥
 not_local_load None h = h

@@ -1,36 +1,18 @@
 -- The turns that a client's own compute server answers.
 use Rattle.std.proofs.Common.{◌≡◌, ◌≢◌, ℕ, ◌+◌, ◌<◌, ◌≤◌, Bool, true, false, List, [], ◌++◌, length, Option, Some, None, refl, sym, ap, subst, arith, length-append}
-use Rattle.std.specs.Prelude.{◌==◌, ◌||◌, if◌then◌else◌}
-use Rattle.std.proofs.lemmas.Bool.Decides.{nat_tests}
-use Rattle.sh_base.specs.declared.config.ConfigParts.{ConfigParts}
-use Rattle.sh_base.specs.Setting.{IsSetting}
-use Rattle.sh_base.specs.Layout.{lock_of}
+use Rattle.std.{specs.Prelude.{◌==◌, ◌||◌, if◌then◌else◌}, proofs.lemmas.Bool.Decides.{nat_tests}}
+use Rattle.sh_base.specs.{declared.config.ConfigParts.{ConfigParts}, Setting.{IsSetting}, Layout.{lock_of}}
 use Rattle.sh_map.specs.declared.log.Entry.{Entry as LogEntry}
-use Rattle.sh_lock.specs.declared.state.Release.{Release}
-use Rattle.sh_lock.specs.declared.state.Release.TheVariants.{Hand, Free}
-use Rattle.sh_lock.specs.Locks.{release_of}
-use Rattle.sh_state.specs.TreeState.{Seat, LockState, Held, TreeState}
-use Rattle.sh_state.specs.Nodes.{Orderly}
-use Rattle.sh_decide.specs.declared.state.Posting.{Posting}
-use Rattle.sh_decide.specs.declared.state.Aim.{Aim}
-use Rattle.sh_client.specs.declared.state.Then.{Then}
-use Rattle.sh_client.specs.declared.state.Then.TheVariants.{Ends, Starts, Takes}
-use Rattle.sh_client.specs.declared.state.Write.{Write}
-use Rattle.sh_client.specs.declared.state.Write.TheVariants.{Nothing, Entry, Leaf as WholeLeaf, LeftLeaf, Inner as WholeInner, LeftInner}
-use Rattle.sh_client.specs.declared.state.Phase.{Phase}
-use Rattle.sh_client.specs.declared.state.Phase.TheVariants.{Root, Draw, Look, Grab, Waiting, Body, Unlock, Leave, Ended}
-use Rattle.sh_client.specs.declared.state.Giving.{Giving}
-use Rattle.sh_client.specs.Machine.{Machine, Registers}
-use Rattle.sh_client.specs.Giving.{carried, released, writes_nothing}
-use Rattle.sh_client.specs.Rests.{rows_for}
-use Rattle.sh_core.specs.Actors.{Actor, becomes, ending, actor_stepped, actor_turned}
-use Rattle.sh_core.specs.Fits.{Carries, Fits, Follows, Plans}
-use Rattle.sh_core.specs.Keeps.{holding, Hands, pending, pending_then, pending_write, KeepsActor}
-use Rattle.sh_core.specs.Core.{Inv, Moves}
-use Rattle.sh_core.proofs.Causes.{decided_cause}
-use Rattle.sh_core.proofs.Others.{follows_on}
-use Rattle.sh_core_turns.proofs.Standing.{to_root}
+use Rattle.sh_lock.specs.{declared.state.Release.{Release, TheVariants.{Hand, Free}}, Locks.{release_of}}
+use Rattle.sh_state.specs.{TreeState.{Seat, LockState, Held, TreeState}, Nodes.{Orderly}}
+use Rattle.sh_decide.specs.declared.state.{Posting.{Posting}, Aim.{Aim}}
+use Rattle.sh_client.specs.declared.state.{Then.{Then, TheVariants.{Ends, Starts, Takes}}, Write.{Write, TheVariants.{Nothing, Entry, Leaf as WholeLeaf, LeftLeaf, Inner as WholeInner, LeftInner}}}
+use Rattle.sh_client.specs.{declared.state.{Phase.{Phase, TheVariants.{Root, Draw, Look, Grab, Waiting, Body, Unlock, Leave, Ended}}, Giving.{Giving}}, Machine.{Machine, Registers}}
+use Rattle.sh_client.specs.{Giving.{carried, released, writes_nothing}, Rests.{rows_for}}
+use Rattle.sh_core.specs.{Actors.{Actor, becomes, ending, actor_stepped, actor_turned}, Fits.{Carries, Fits, Follows, Plans}, Keeps.{holding, Hands, pending, pending_then, pending_write, KeepsActor}}
+use Rattle.sh_core.{specs.Core.{Inv, Moves}, proofs.{Causes.{decided_cause}, Others.{follows_on}}}
 use Rattle.sh_core.proofs.Frame.{next, actor_in, at, goes_on, ends_now, decided_ends, same_call, work_with, work_ended, same_here, same_grows, IsCalm, Before, stays}
+use Rattle.sh_core_turns.proofs.Standing.{to_root}
 
 -- a lock that is handed over isn't at the bound
 hand_below : (count depth bound : ℕ) → release_of count depth bound ≡ Hand → depth ≤ bound → depth + 1 ≤ bound

@@ -1,31 +1,15 @@
 -- The turns on lock words and the load of the root word.
 use Rattle.std.proofs.Common.{◌≡◌, ℕ, ◌+◌, ◌-◌, ◌≤◌, Bool, true, false, List, [], ◌++◌, length, get_or, set, Option, None, refl, sym, ap, ◌∙◌, subst, arith, drop_of_length-le, eqb-true}
 use Rattle.std.specs.Prelude.{◌==◌, if◌then◌else◌}
-use Rattle.sh_base.specs.declared.config.ConfigParts.{ConfigParts}
-use Rattle.sh_base.specs.declared.event.Event.TheVariants.{Load, Store, Exchange}
-use Rattle.sh_base.specs.Setting.{node_size, IsSetting}
-use Rattle.sh_base.specs.Layout.{lock_of, lock_word, root_word, compute_of}
-use Rattle.sh_base.specs.Places.{Root as RootSite}
-use Rattle.sh_base.proofs.LayoutLemmas.{node_size_is}
-use Rattle.sh_base.proofs.PlanLemmas.{lock_below}
+use Rattle.sh_base.specs.{declared.{config.ConfigParts.{ConfigParts}, event.Event.TheVariants.{Load, Store, Exchange}}, Setting.{node_size, IsSetting}}
+use Rattle.sh_base.{specs.{Layout.{lock_of, lock_word, root_word, compute_of}, Places.{Root as RootSite}}, proofs.{LayoutLemmas.{node_size_is}, PlanLemmas.{lock_below}}}
 use Rattle.sh_read.specs.Reads.{reads_start}
-use Rattle.sh_state.specs.TreeState.{Seat, LockState, Nobody, Held, TreeState}
-use Rattle.sh_acts.specs.Acts.{with_hold}
-use Rattle.sh_state.proofs.Puts.{put_here}
-use Rattle.sh_acts.proofs.Holds.{take_act, free_act}
-use Rattle.sh_acts.proofs.Events.{free_lock}
+use Rattle.sh_state.{specs.TreeState.{Seat, LockState, Nobody, Held, TreeState}, proofs.Puts.{put_here}}
+use Rattle.sh_acts.{specs.Acts.{with_hold}, proofs.{Holds.{take_act, free_act}, Events.{free_lock}}}
 use Rattle.sh_readers.specs.Hand.{IsNamed}
-use Rattle.sh_decide.specs.declared.state.Posting.{Posting}
-use Rattle.sh_decide.specs.declared.state.Aim.{Aim}
-use Rattle.sh_decide.specs.declared.state.Aim.TheVariants.{Own, Gathers, Posts}
-use Rattle.sh_decide.specs.Aims.{is_node, aimed_key, target}
-use Rattle.sh_client.specs.declared.state.Then.{Then}
-use Rattle.sh_client.specs.declared.state.Phase.TheVariants.{Root, Read, Grab, ReadLocked, Unlock, Leave}
-use Rattle.sh_client.specs.Machine.{Registers}
-use Rattle.sh_core.specs.Actors.{Actor, becomes}
-use Rattle.sh_core.specs.Core.{Inv, Moves}
-use Rattle.sh_core.specs.Fits.{duty_of, Owes, Reaches}
-use Rattle.sh_core.proofs.Others.{named_on, follows_on}
+use Rattle.sh_decide.specs.{declared.state.{Posting.{Posting}, Aim.{Aim, TheVariants.{Own, Gathers, Posts}}}, Aims.{is_node, aimed_key, target}}
+use Rattle.sh_client.specs.{declared.state.{Then.{Then}, Phase.TheVariants.{Root, Read, Grab, ReadLocked, Unlock, Leave}}, Machine.{Registers}}
+use Rattle.sh_core.{specs.{Actors.{Actor, becomes}, Core.{Inv, Moves}, Fits.{duty_of, Owes, Reaches}}, proofs.Others.{named_on, follows_on}}
 use Rattle.sh_core.proofs.Frame.{Before, Claim, actor_in, advance, at, hands_drop, hands_take, quiet, same_call, same_grows, same_hold}
 use Rattle.sh_core_turns.proofs.Standing.{is_number}
 

@@ -1,51 +1,21 @@
 -- A walk over the counters for a fresh node, by what it comes to: it goes on, it got a chunk, or all chunks are spent.
-use Rattle.std.proofs.Common.{◌≡◌, ℕ, ◌+◌, ◌≤◌, List, [], length, Some, refl, sym, ap, ◌∙◌, subst, arith, append-nil}
-use Rattle.std.proofs.lemmas.Bool.Decides.{nat_tests}
-use Rattle.sh_base.specs.declared.config.ConfigParts.{ConfigParts}
-use Rattle.sh_readers.specs.Hand.{AreRowsOf}
-use Rattle.sh_readers.proofs.RowLemmas.{rows_linked}
-use Rattle.sh_base.specs.declared.event.Event.{Event}
-use Rattle.sh_base.specs.declared.event.Event.TheVariants.{Add}
-use Rattle.sh_base.specs.Setting.{IsSetting}
-use Rattle.sh_base.specs.Layout.{counter_word, first_node}
+use Rattle.std.proofs.{Common.{◌≡◌, ℕ, ◌+◌, ◌≤◌, List, [], length, Some, refl, sym, ap, ◌∙◌, subst, arith, append-nil}, lemmas.Bool.Decides.{nat_tests}}
+use Rattle.sh_base.specs.{declared.{config.ConfigParts.{ConfigParts}, event.Event.{Event, TheVariants.{Add}}}, Setting.{IsSetting}, Layout.{counter_word, first_node}}
 use Rattle.sh_base.proofs.LayoutLemmas.{node_size_is}
-use Rattle.sh_map.specs.declared.call.Call.{Call}
-use Rattle.sh_map.specs.declared.call.Call.TheVariants.{Put}
+use Rattle.sh_readers.{specs.Hand.{AreRowsOf}, proofs.RowLemmas.{rows_linked}}
+use Rattle.sh_map.specs.{declared.call.Call.{Call, TheVariants.{Put}}, Made.{entries_by}}
 use Rattle.sh_map.specs.declared.call.Reply.TheVariants as reply
-use Rattle.sh_map.specs.Made.{entries_by}
-use Rattle.sh_alloc.specs.declared.state.NodeRange.{NodeRange}
-use Rattle.sh_alloc.specs.declared.state.Walk.{Walk}
-use Rattle.sh_alloc.specs.declared.state.ChunkWant.{ChunkWant}
+use Rattle.sh_alloc.specs.{declared.state.{NodeRange.{NodeRange}, Walk.{Walk}, ChunkWant.{ChunkWant}}, Spares.{lowest, nodes_from, without_lowest}, Walks.{walk_wants}}
 use Rattle.sh_alloc.specs.declared.state.ChunkWant.TheVariants as chunk
-use Rattle.sh_alloc.specs.Spares.{lowest, nodes_from, without_lowest}
-use Rattle.sh_alloc.specs.Walks.{walk_wants}
-use Rattle.sh_state.specs.TreeState.{Linked, TreeState, put}
-use Rattle.sh_state.specs.Ground.{Ground}
-use Rattle.sh_state.specs.Change.{Change}
-use Rattle.sh_state.proofs.Puts.{put_case}
-use Rattle.sh_acts.specs.Acts.{drawn, skipped}
-use Rattle.sh_acts.proofs.Own.{drawn_mine}
+use Rattle.sh_state.{specs.{TreeState.{Linked, TreeState, put}, Ground.{Ground}, Change.{Change}}, proofs.Puts.{put_case}}
+use Rattle.sh_acts.{specs.Acts.{drawn, skipped}, proofs.Own.{drawn_mine}}
 use Rattle.sh_decide.specs.declared.state.Aim.TheVariants.{Own, Gathers, Posts}
-use Rattle.sh_client.specs.declared.state.Need.{Need}
-use Rattle.sh_client.specs.declared.state.Need.TheVariants.{ToSplit, ToGrow}
-use Rattle.sh_client.specs.declared.state.Then.TheVariants.{Ends}
-use Rattle.sh_client.specs.declared.state.Write.TheVariants.{Nothing}
+use Rattle.sh_client.specs.declared.state.{Need.{Need, TheVariants.{ToSplit, ToGrow}}, Then.TheVariants.{Ends}, Write.TheVariants.{Nothing}, Phase.{Phase, TheVariants.{Fill, Seek, Waiting}}}
+use Rattle.sh_client.specs.{declared.state.Tally.{Tally}, Machine.{Machine, Registers, up}, Splitting.{giving_of, sought_by}, Wants.{count_of}}
 use Rattle.sh_client.specs.declared.state.Want.TheVariants as want
-use Rattle.sh_client.specs.declared.state.Phase.{Phase}
-use Rattle.sh_client.specs.declared.state.Phase.TheVariants.{Fill, Seek, Waiting}
-use Rattle.sh_client.specs.declared.state.Tally.{Tally}
-use Rattle.sh_client.specs.Machine.{Machine, Registers, up}
-use Rattle.sh_client.specs.Splitting.{giving_of, sought_by}
-use Rattle.sh_client.specs.Wants.{count_of}
-use Rattle.sh_core.specs.Actors.{Actor, becomes}
-use Rattle.sh_core.specs.Fits.{AreSpares, AreSpent, IsDecided, IsSeeking, Owes}
-use Rattle.sh_core.specs.Keeps.{need_lock, pending, Hands, IsAtWork, KeepsActor}
-use Rattle.sh_core.specs.Core.{WantsAdd}
-use Rattle.sh_core.proofs.Others.{Grows, owes_on}
-use Rattle.sh_core.proofs.Frame.{next, actor_in, at, goes_on, same_grows, work_anew, work_with, Before, SameNodes}
-use Rattle.sh_core_turns.proofs.Spares.{IsTaken, takes_lowest}
-use Rattle.sh_core_turns.proofs.Skipping.{spent_more, skips_act, keeps_ended, keeps_skipped}
-use Rattle.sh_core_turns.proofs.LeafHalves.{SplitsFor, leaf_to_split, put_misses}
+use Rattle.sh_core.specs.{Actors.{Actor, becomes}, Fits.{AreSpares, AreSpent, IsDecided, IsSeeking, Owes}, Keeps.{need_lock, pending, Hands, IsAtWork, KeepsActor}, Core.{WantsAdd}}
+use Rattle.sh_core.proofs.{Others.{Grows, owes_on}, Frame.{next, actor_in, at, goes_on, same_grows, work_anew, work_with, Before, SameNodes}}
+use Rattle.sh_core_turns.proofs.{Spares.{IsTaken, takes_lowest}, Skipping.{spent_more, skips_act, keeps_ended, keeps_skipped}, LeafHalves.{SplitsFor, leaf_to_split, put_misses}}
 use Rattle.sh_core_turns.proofs.FreshNodes.{begins, hands_same, need_lock_is, needs_on}
 
 pub event_is : (x y : Event) → want.Event x ≡ want.Event y → x ≡ y

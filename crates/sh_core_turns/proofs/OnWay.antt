@@ -1,73 +1,29 @@
 -- READs without a lock: each leads on, and finds nothing senseless.
 use Rattle.std.proofs.Common.{◌≡◌, ◌≢◌, ◌⊎◌, ℕ, suc, ◌+◌, ◌-◌, ◌^◌, ◌<◌, ◌≤◌, Bool, true, false, List, [], ◌∷◌, ◌++◌, length, get_or, Option, Some, None, refl, sym, ap, ◌∙◌, subst, inl, inr, arith, eqb-true}
-use Rattle.std.specs.Prelude.{◌==◌, ◌&&◌, not, if◌then◌else◌, nat_lt}
-use Rattle.std.proofs.lemmas.Bool.{cases_lt}
-use Rattle.std.proofs.lemmas.Bool.Decides.{nat_tests}
-use Rattle.sh_base.specs.declared.config.ConfigParts.{ConfigParts}
-use Rattle.sh_base.specs.declared.event.Event.TheVariants.{Load}
-use Rattle.sh_base.specs.Setting.{node_size, IsSetting}
-use Rattle.sh_base.specs.Layout.{node_word}
-use Rattle.sh_base.proofs.LayoutLemmas.{node_size_is}
-use Rattle.sh_map.specs.declared.book.Done.{Done}
-use Rattle.sh_map.specs.declared.book.Row.{Row}
-use Rattle.sh_map.specs.declared.call.Reply.TheVariants as reply
-use Rattle.sh_map.specs.Book.{AnswersRange}
-use Rattle.sh_map.specs.Calls.{IsInRange}
-use Rattle.sh_map.specs.declared.call.Call.{Call}
-use Rattle.sh_map.specs.declared.call.Call.TheVariants as call
-use Rattle.sh_map.specs.Made.{entries_by}
-use Rattle.sh_map.specs.Calls.{IsKey}
-use Rattle.sh_image.specs.declared.inner.Image.{Image}
-use Rattle.sh_image.specs.declared.inner.Image.TheVariants.{Leaf as LeafImage, Inner as InnerImage}
-use Rattle.sh_image.specs.declared.read.Seen.{Seen}
-use Rattle.sh_image.specs.declared.read.Seen.TheVariants.{Leaf as LeafSeen, Inner as InnerSeen, Torn, TornEntry, Odd as OddSeen}
-use Rattle.sh_image.specs.Seen.{SeenBy}
-use Rattle.sh_image.specs.Leaf.{Leaf}
-use Rattle.sh_edit.specs.Held.{held}
-use Rattle.sh_edit.specs.Ranging.{end_in, taken, upto_of}
-use Rattle.sh_read.specs.declared.state.Progress.TheVariants.{More}
-use Rattle.sh_read.specs.Judging.{seen_of}
-use Rattle.sh_read.specs.Reads.{Reads, accepted, answer_to, image_in, reads_left, reads_with, reads_start}
-use Rattle.sh_read.proofs.JudgingLemmas.{judged_by}
-use Rattle.sh_descend.specs.declared.Hop.{Hop}
-use Rattle.sh_descend.specs.declared.Hop.TheVariants.{Here, Right, Down, Restart}
-use Rattle.sh_descend.specs.Descent.{high_of, hop_of, level_of}
-use Rattle.sh_state.specs.TreeState.{TreeState}
-use Rattle.sh_readers.specs.Points.{HadSince}
-use Rattle.sh_readers.specs.Hand.{IsNamed, IsImageOf}
-use Rattle.sh_readers.specs.Ranges.{IsBehind}
-use Rattle.sh_readers.proofs.Fed.{fed_node}
-use Rattle.sh_readers.proofs.HandLemmas.{right_named}
-use Rattle.sh_readers.proofs.Gathering.{done_answers, end_within_leaf, leaf_behind}
-use Rattle.sh_decide.specs.declared.state.Aim.{Aim}
-use Rattle.sh_decide.specs.declared.state.Aim.TheVariants.{Own, Gathers, Posts}
-use Rattle.sh_decide.specs.declared.state.Way.TheVariants as way
-use Rattle.sh_decide.specs.Aims.{aim_of, aimed_key, call_key, end_of, is_node, takes_lock, target}
-use Rattle.sh_decide.specs.Leaves.{leaf_answer, reply_with}
-use Rattle.sh_decide.specs.Ways.{is_below, way_of, way_by, way_here}
-use Rattle.sh_client.specs.declared.state.Need.TheVariants.{ToGrow}
-use Rattle.sh_client.specs.declared.state.Phase.{Phase}
-use Rattle.sh_client.specs.declared.state.Phase.TheVariants.{Root, Read, Draw, Ended}
-use Rattle.sh_client.specs.declared.state.Edge.{Edge}
-use Rattle.sh_client.specs.Machine.{Machine, Registers, answering, reading, to, up}
-use Rattle.sh_client.specs.Cached.{image_kept, settled}
-use Rattle.sh_client.specs.Ranges.{is_whole, passing, rows_taken}
-use Rattle.sh_client.specs.Rests.{rows_for}
-use Rattle.sh_client.specs.Feeds.{read_by, arrived, went}
-use Rattle.sh_client.specs.Splitting.{root_grown}
-use Rattle.sh_map.specs.Points.{point_of}
-use Rattle.sh_core.specs.Actors.{Actor, becomes, ending}
-use Rattle.sh_core.specs.Fits.{Gathered, HasGathered, IsBelow, IsOnWay, IsThere, HasRead, Reaches, duty_of}
-use Rattle.sh_core.specs.Causes.{HasCause}
-use Rattle.sh_core.specs.Keeps.{pending_aim, KeepsActor}
-use Rattle.sh_core.specs.Core.{Inv, Moves}
+use Rattle.std.{specs.Prelude.{◌==◌, ◌&&◌, not, if◌then◌else◌, nat_lt}, proofs.lemmas.Bool.{cases_lt, Decides.{nat_tests}}}
+use Rattle.sh_base.{specs.{declared.{config.ConfigParts.{ConfigParts}, event.Event.TheVariants.{Load}}, Setting.{node_size, IsSetting}, Layout.{node_word}}, proofs.LayoutLemmas.{node_size_is}}
+use Rattle.sh_map.specs.{declared.{book.{Done.{Done}, Row.{Row}}, call.Call.{Call}}, Book.{AnswersRange}, Calls.{IsInRange, IsKey}, Made.{entries_by}, Points.{point_of}}
 use Rattle.sh_map.proofs.LeastLemmas.{least_is}
-use Rattle.sh_core.proofs.Causes.{ends_by_rows}
-use Rattle.sh_core.proofs.Frame.{Before, Claim, IsEnding, SameCall, actor_in, at, ends_now, one_log, quiet, same_here, stays, work_ended}
-use Rattle.sh_core_turns.specs.Senses.{is_range, lacks_answer, of_image, of_read, strays, strays_beyond, strays_by}
-use Rattle.sh_core_turns.proofs.Learning.{learns}
-use Rattle.sh_core_turns.proofs.Standing.{aim_key, gathered_as, hop_leads, is_lt, names_node, not_lt, place_key, whole_accepted}
-use Rattle.sh_core_turns.proofs.Images.{IsSeenLeaf, more_known, seen_leaf, seen_inner}
+use Rattle.sh_map.specs.declared.call.Reply.TheVariants as reply
+use Rattle.sh_map.specs.declared.call.Call.TheVariants as call
+use Rattle.sh_image.specs.declared.{inner.Image.{Image, TheVariants.{Leaf as LeafImage, Inner as InnerImage}}, read.Seen.{Seen}}
+use Rattle.sh_image.specs.{declared.read.Seen.TheVariants.{Leaf as LeafSeen, Inner as InnerSeen, Torn, TornEntry, Odd as OddSeen}, Seen.{SeenBy}, Leaf.{Leaf}}
+use Rattle.sh_edit.specs.{Held.{held}, Ranging.{end_in, taken, upto_of}}
+use Rattle.sh_read.specs.{declared.state.Progress.TheVariants.{More}, Judging.{seen_of}, Reads.{Reads, accepted, answer_to, image_in, reads_left, reads_with, reads_start}}
+use Rattle.sh_read.proofs.JudgingLemmas.{judged_by}
+use Rattle.sh_descend.specs.{declared.Hop.{Hop, TheVariants.{Here, Right, Down, Restart}}, Descent.{high_of, hop_of, level_of}}
+use Rattle.sh_state.specs.TreeState.{TreeState}
+use Rattle.sh_readers.{specs.{Points.{HadSince}, Hand.{IsNamed, IsImageOf}, Ranges.{IsBehind}}, proofs.{Fed.{fed_node}, HandLemmas.{right_named}}}
+use Rattle.sh_readers.proofs.Gathering.{done_answers, end_within_leaf, leaf_behind}
+use Rattle.sh_decide.specs.{declared.state.Aim.{Aim, TheVariants.{Own, Gathers, Posts}}, Aims.{aim_of, aimed_key, call_key, end_of, is_node, takes_lock, target}, Leaves.{leaf_answer, reply_with}}
+use Rattle.sh_decide.specs.Ways.{is_below, way_of, way_by, way_here}
+use Rattle.sh_decide.specs.declared.state.Way.TheVariants as way
+use Rattle.sh_client.specs.{declared.state.{Need.TheVariants.{ToGrow}, Phase.{Phase, TheVariants.{Root, Read, Draw, Ended}}, Edge.{Edge}}, Machine.{Machine, Registers, answering, reading, to, up}}
+use Rattle.sh_client.specs.{Cached.{image_kept, settled}, Ranges.{is_whole, passing, rows_taken}, Rests.{rows_for}, Feeds.{read_by, arrived, went}, Splitting.{root_grown}}
+use Rattle.sh_core.specs.{Actors.{Actor, becomes, ending}, Fits.{Gathered, HasGathered, IsBelow, IsOnWay, IsThere, HasRead, Reaches, duty_of}, Causes.{HasCause}, Keeps.{pending_aim, KeepsActor}}
+use Rattle.sh_core.{specs.Core.{Inv, Moves}, proofs.{Causes.{ends_by_rows}, Frame.{Before, Claim, IsEnding, SameCall, actor_in, at, ends_now, one_log, quiet, same_here, stays, work_ended}}}
+use Rattle.sh_core_turns.{specs.Senses.{is_range, lacks_answer, of_image, of_read, strays, strays_beyond, strays_by}, proofs.Learning.{learns}}
+use Rattle.sh_core_turns.proofs.{Standing.{aim_key, gathered_as, hop_leads, is_lt, names_node, not_lt, place_key, whole_accepted}, Images.{IsSeenLeaf, more_known, seen_leaf, seen_inner}}
 use Rattle.sh_core_turns.proofs.FreshNodes.{needs_land}
 
 differ : (a b : ℕ) → (a == b) ≡ false → a ≢ b

@@ -1,19 +1,10 @@
 -- The invariant of a laid pool, and with a new client.
 use Rattle.std.proofs.Common.{◌≡◌, ◌≢◌, ℕ, ◌<◌, ◌≤◌, List, [], ◌∷◌, None, refl, sym, ◌∙◌, subst, arith}
-use Rattle.sh_base.specs.declared.config.ConfigParts.{ConfigParts}
-use Rattle.sh_base.specs.Setting.{all_seats, IsSetting}
+use Rattle.sh_base.specs.{declared.config.ConfigParts.{ConfigParts}, Setting.{all_seats, IsSetting}}
 use Rattle.sh_map.specs.declared.log.Entry.{Entry as LogEntry}
-use Rattle.sh_state.specs.TreeState.{Skipped, Seat, TreeState}
-use Rattle.sh_state.proofs.Puts.{put_case}
-use Rattle.sh_state.proofs.Joins.{nothing_done}
-use Rattle.sh_acts.specs.Laid.{none_drawn, laid_scene}
-use Rattle.sh_acts.proofs.LaidLemmas.{laid_ground}
-use Rattle.sh_acts.proofs.Late.{bounded_begin}
-use Rattle.sh_core.specs.Actors.{made_by}
-use Rattle.sh_core.specs.Keeps.{Hands, Waits, KeepsActor}
-use Rattle.sh_core.specs.Core.{SomeAdds, Inv}
-use Rattle.sh_core.specs.Opening.{entered, LaidKeeps, EnterKeeps}
-use Rattle.sh_core.proofs.Frame.{before, moves_to}
+use Rattle.sh_state.{specs.TreeState.{Skipped, Seat, TreeState}, proofs.{Puts.{put_case}, Joins.{nothing_done}}}
+use Rattle.sh_acts.{specs.Laid.{none_drawn, laid_scene}, proofs.{LaidLemmas.{laid_ground}, Late.{bounded_begin}}}
+use Rattle.sh_core.{specs.{Actors.{made_by}, Keeps.{Hands, Waits, KeepsActor}, Core.{SomeAdds, Inv}, Opening.{entered, LaidKeeps, EnterKeeps}}, proofs.Frame.{before, moves_to}}
 
 -- at a seat where nothing was done nothing is left to do
 new_keeps : (p : ConfigParts) (s : TreeState) (seat : ℕ) → seat < all_seats p → Hands s seat None → Waits s seat None → ((n : ℕ) → s.post n ≢ Skipped seat) → made_by seat s.log ≡ [] → KeepsActor p s seat (entered p seat)

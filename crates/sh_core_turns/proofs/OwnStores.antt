@@ -1,36 +1,18 @@
 -- Stores into a node of the seat's own: the right half of a split, or a new root.
 use Rattle.std.proofs.Common.{◌≡◌, ◌≢◌, ℕ, ◌+◌, ◌<◌, Bool, true, false, List, [], ◌++◌, length, get_or, set, Option, refl, sym, ap, ◌∙◌, subst, arith, eqb-true, get_or-set_same, get_or-set_other}
-use Rattle.std.specs.Prelude.{◌==◌, if◌then◌else◌}
-use Rattle.std.proofs.lemmas.Bool.Decides.{nat_tests}
+use Rattle.std.{specs.Prelude.{◌==◌, if◌then◌else◌}, proofs.lemmas.Bool.Decides.{nat_tests}}
 use mathlib.Core.Logic.{dite}
 use native.Mathlib.Decide.{ℕ_discrete}
-use Rattle.sh_base.specs.declared.config.ConfigParts.{ConfigParts}
-use Rattle.sh_base.specs.declared.event.Event.TheVariants.{Store}
-use Rattle.sh_base.specs.Setting.{node_size, IsSetting}
-use Rattle.sh_base.specs.Layout.{node_word}
+use Rattle.sh_base.specs.{declared.{config.ConfigParts.{ConfigParts}, event.Event.TheVariants.{Store}}, Setting.{node_size, IsSetting}, Layout.{node_word}}
 use Rattle.sh_alloc.specs.declared.state.NodeRange.{NodeRange}
-use Rattle.sh_state.specs.TreeState.{TreeState}
-use Rattle.sh_state.proofs.Puts.{put_here, put_else}
-use Rattle.sh_state.proofs.Scenes.{fresh_linked}
-use Rattle.sh_acts.specs.Acts.{filled}
-use Rattle.sh_acts.proofs.Own.{fresh_act}
+use Rattle.sh_state.{specs.TreeState.{TreeState}, proofs.{Puts.{put_here, put_else}, Scenes.{fresh_linked}}}
+use Rattle.sh_acts.{specs.Acts.{filled}, proofs.Own.{fresh_act}}
 use Rattle.sh_decide.specs.declared.state.Posting.{Posting}
-use Rattle.sh_client.specs.declared.state.Filling.{Filling}
-use Rattle.sh_client.specs.declared.state.Filling.TheVariants.{RightHalf, NewRoot}
-use Rattle.sh_client.specs.declared.state.Then.{Then}
-use Rattle.sh_client.specs.declared.state.Write.{Write}
-use Rattle.sh_client.specs.declared.state.Write.TheVariants.{LeftLeaf, LeftInner}
-use Rattle.sh_client.specs.declared.state.Phase.{Phase}
-use Rattle.sh_client.specs.declared.state.Phase.TheVariants.{Fill, Waiting, Swap}
-use Rattle.sh_client.specs.Machine.{Registers}
-use Rattle.sh_client.specs.Splitting.{fill_done}
-use Rattle.sh_core.specs.Actors.{Actor, becomes}
-use Rattle.sh_core.specs.Fits.{Fits, FillsWith, FillsFresh, Plans, PlansHalf}
-use Rattle.sh_core.specs.Keeps.{holding, pending, Hands, KeepsActor}
-use Rattle.sh_core.specs.Core.{Inv, Moves}
-use Rattle.sh_core.proofs.Others.{StaysUnder, half_on, below_on}
+use Rattle.sh_client.specs.declared.state.{Filling.{Filling, TheVariants.{RightHalf, NewRoot}}, Then.{Then}, Write.{Write, TheVariants.{LeftLeaf, LeftInner}}, Phase.{Phase}}
+use Rattle.sh_client.specs.{declared.state.Phase.TheVariants.{Fill, Waiting, Swap}, Machine.{Registers}, Splitting.{fill_done}}
+use Rattle.sh_core.specs.{Actors.{Actor, becomes}, Fits.{Fits, FillsWith, FillsFresh, Plans, PlansHalf}, Keeps.{holding, pending, Hands, KeepsActor}, Core.{Inv, Moves}}
+use Rattle.sh_core.proofs.{Others.{StaysUnder, half_on, below_on}, Frame.{next, actor_in, at, SameNodes, same_call, same_grows, IsCalm, Before, Claim, advance}}
 use Rattle.sh_core_turns.proofs.FreshNodes.{hands_same}
-use Rattle.sh_core.proofs.Frame.{next, actor_in, at, SameNodes, same_call, same_grows, IsCalm, Before, Claim, advance}
 
 -- the words of a fresh node that are stored already
 filling_in : (p : ConfigParts) (s : TreeState) (seat : ℕ) (r : Registers) (fresh done : ℕ) (duty : Option Posting) (filling : Filling) → FillsWith p s seat r fresh done duty filling → FillsFresh s seat r.spare r.fresh_words fresh done

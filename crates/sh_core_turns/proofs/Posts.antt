@@ -1,19 +1,14 @@
 -- What a seat is to post, and what it has skipped, where one node's post changes.
 use Rattle.std.proofs.Common.{◌≡◌, ◌≢◌, ℕ, ◌+◌, Bool, true, false, List, [], ◌∷◌, Some, refl, sym, ap, ◌∙◌, subst, inl, inr, arith}
 use Rattle.sh_base.specs.declared.config.ConfigParts.{ConfigParts}
-use Rattle.sh_map.specs.declared.call.Call.{Call}
+use Rattle.sh_map.specs.declared.{call.{Call.{Call}, Reply.{Reply}}, log.Entry.{Entry as LogEntry}}
 use Rattle.sh_map.specs.declared.call.Call.TheVariants as call
-use Rattle.sh_map.specs.declared.call.Reply.{Reply}
 use Rattle.sh_map.specs.declared.call.Reply.TheVariants as reply
-use Rattle.sh_map.specs.declared.log.Entry.{Entry as LogEntry}
-use Rattle.sh_tree.specs.Lists.{is_in}
-use Rattle.sh_tree.proofs.ListLemmas.{in_head, in_more, in_cases}
-use Rattle.sh_state.specs.TreeState.{ParentLink, Pending, Skipped, TreeState, put}
-use Rattle.sh_state.proofs.Puts.{put_else, put_case}
+use Rattle.sh_tree.{specs.Lists.{is_in}, proofs.ListLemmas.{in_head, in_more, in_cases}}
+use Rattle.sh_state.{specs.TreeState.{ParentLink, Pending, Skipped, TreeState, put}, proofs.Puts.{put_else, put_case}}
 use Rattle.sh_acts.specs.Acts.{skipped}
 use Rattle.sh_decide.specs.declared.state.Posting.{Posting}
-use Rattle.sh_core.specs.Fits.{HasEntry, IsDecided}
-use Rattle.sh_core.specs.Keeps.{Waits, Skips}
+use Rattle.sh_core.specs.{Fits.{HasEntry, IsDecided}, Keeps.{Waits, Skips}}
 
 no_entry : (e : LogEntry) → [] ≡ e ∷ [] → ⊥
 no_entry e q = cc

@@ -1,33 +1,17 @@
 -- A lock is handed over and taken up, without an event.
 use Rattle.std.proofs.Common.{◌≡◌, ◌≢◌, ◌⊎◌, ℕ, ◌-◌, ◌≤◌, List, ◌++◌, length, Some, None, refl, sym, ap, ◌∙◌, subst, inl, inr, arith, length-append, drop_of_length-le}
-use Rattle.sh_base.specs.declared.config.ConfigParts.{ConfigParts}
-use Rattle.sh_base.specs.Setting.{all_seats, node_size, IsSetting}
-use Rattle.sh_base.specs.Layout.{lock_of, compute_of}
-use Rattle.sh_base.proofs.LayoutLemmas.{node_size_is}
+use Rattle.sh_base.{specs.{declared.config.ConfigParts.{ConfigParts}, Setting.{all_seats, node_size, IsSetting}, Layout.{lock_of, compute_of}}, proofs.LayoutLemmas.{node_size_is}}
 use Rattle.sh_map.specs.declared.log.Entry.{Entry as LogEntry}
 use Rattle.sh_read.specs.Reads.{reads_start}
-use Rattle.sh_state.specs.TreeState.{Owner, Seat, Grant, LockState, Held, TreeState}
-use Rattle.sh_state.specs.Nodes.{Orderly}
-use Rattle.sh_acts.specs.Acts.{with_hold}
-use Rattle.sh_state.specs.Ground.{Ground}
-use Rattle.sh_state.specs.Change.{ChangeFor}
-use Rattle.sh_state.proofs.Puts.{put_here, put_else, put_case}
-use Rattle.sh_acts.proofs.Holds.{hand_act}
+use Rattle.sh_state.{specs.{TreeState.{Owner, Seat, Grant, LockState, Held, TreeState}, Nodes.{Orderly}, Ground.{Ground}, Change.{ChangeFor}}, proofs.Puts.{put_here, put_else, put_case}}
+use Rattle.sh_acts.{specs.Acts.{with_hold}, proofs.Holds.{hand_act}}
 use Rattle.sh_decide.specs.declared.state.Aim.{Aim}
-use Rattle.sh_client.specs.declared.state.Then.{Then}
-use Rattle.sh_client.specs.declared.state.Then.TheVariants.{Ends, Starts, Takes}
-use Rattle.sh_client.specs.declared.state.Phase.{Phase}
-use Rattle.sh_client.specs.declared.state.Phase.TheVariants.{Root, Draw, Look, ReadLocked, Leave, Ended}
-use Rattle.sh_client.specs.Machine.{Machine, Registers, handed_over}
-use Rattle.sh_client.specs.Rests.{rows_for}
-use Rattle.sh_core.specs.Actors.{Actor, ending, actor_stepped, actor_turned}
-use Rattle.sh_core.specs.Fits.{Fits}
-use Rattle.sh_core.specs.Keeps.{holding, Hands, pending, KeepsActor}
-use Rattle.sh_core.specs.Core.{Inv, Moves, SomeAdds}
-use Rattle.sh_core.proofs.Causes.{decided_cause}
+use Rattle.sh_client.specs.declared.state.{Then.{Then, TheVariants.{Ends, Starts, Takes}}, Phase.{Phase, TheVariants.{Root, Draw, Look, ReadLocked, Leave, Ended}}}
+use Rattle.sh_client.specs.{Machine.{Machine, Registers, handed_over}, Rests.{rows_for}}
+use Rattle.sh_core.{specs.{Actors.{Actor, ending, actor_stepped, actor_turned}, Fits.{Fits}, Keeps.{holding, Hands, pending, KeepsActor}, Core.{Inv, Moves, SomeAdds}}, proofs.Causes.{decided_cause}}
 use Rattle.sh_core.proofs.Others.{at_on, seat_apart, adds_before, bounded_less, step_to}
-use Rattle.sh_core_turns.proofs.Standing.{to_root}
 use Rattle.sh_core.proofs.Frame.{next, actor_in, at, goes_on, ends_now, decided_ends, work_with, work_ended, same_grows, IsCalm, no_add, Before, same_hold, hands_take, hands_drop}
+use Rattle.sh_core_turns.proofs.Standing.{to_root}
 
 module _ (p : ConfigParts) (ok : IsSetting p) (words : List ℕ) (Has Now : ℕ → Actor → Type 0) (Out After : ℕ → ℕ → ℕ → Type 0) (i : ℕ) (s : TreeState) (b : Before p words Has Out s)
     (a : Actor) (r : Registers) (sn rest : List LogEntry) (whole : s.log ≡ sn ++ rest) (more : a.seen ≤ length sn) where

@@ -4,32 +4,16 @@ use Rattle.std.specs.Prelude.{◌==◌, ◌*◌, if◌then◌else◌}
 use mathlib.Core.Logic.{dite}
 use native.Mathlib.Decide.{ℕ_discrete}
 use Rattle.std.proofs.lemmas.List.{ext_get_or}
-use Rattle.sh_base.specs.declared.config.ConfigParts.{ConfigParts}
+use Rattle.sh_base.specs.{declared.{config.ConfigParts.{ConfigParts}, event.Event.TheVariants.{Exchange}}, Setting.{node_size, IsSetting}, Layout.{root_word}, Places.{Root as RootSite}}
 use Rattle.sh_readers.proofs.RowLemmas.{rows_linked}
-use Rattle.sh_base.specs.declared.event.Event.TheVariants.{Exchange}
-use Rattle.sh_base.specs.Setting.{node_size, IsSetting}
-use Rattle.sh_base.specs.Layout.{root_word}
-use Rattle.sh_base.specs.Places.{Root as RootSite}
-use Rattle.sh_image.specs.Inner.{inner_words}
-use Rattle.sh_image.proofs.InnerLemmas.{length-inner_words}
+use Rattle.sh_image.{specs.Inner.{inner_words}, proofs.InnerLemmas.{length-inner_words}}
 use Rattle.sh_edit.specs.Pairing.{root_over}
 use Rattle.sh_alloc.specs.Spares.{with_lowest}
-use Rattle.sh_state.specs.TreeState.{Linked, Posted, Pending, Skipped, TreeState}
-use Rattle.sh_state.proofs.Puts.{put_else}
-use Rattle.sh_state.proofs.Scenes.{linked_is}
-use Rattle.sh_acts.specs.Acts.{grown}
-use Rattle.sh_acts.proofs.Roots.{root_act}
-use Rattle.sh_decide.specs.declared.state.Posting.{Posting}
-use Rattle.sh_decide.specs.declared.state.Aim.TheVariants.{Posts}
-use Rattle.sh_client.specs.declared.state.Phase.TheVariants.{Root, Swap, Ended}
-use Rattle.sh_client.specs.Machine.{Registers}
-use Rattle.sh_client.specs.Rests.{rows_for}
-use Rattle.sh_core.specs.Actors.{Actor, becomes, ending}
-use Rattle.sh_core.specs.Fits.{Owes}
-use Rattle.sh_core.specs.Keeps.{skips_counted, Waits}
-use Rattle.sh_core.specs.Core.{Inv, Moves}
-use Rattle.sh_core.proofs.Causes.{decided_cause}
-use Rattle.sh_core.proofs.Others.{owes_on}
+use Rattle.sh_state.{specs.TreeState.{Linked, Posted, Pending, Skipped, TreeState}, proofs.{Puts.{put_else}, Scenes.{linked_is}}}
+use Rattle.sh_acts.{specs.Acts.{grown}, proofs.Roots.{root_act}}
+use Rattle.sh_decide.specs.declared.state.{Posting.{Posting}, Aim.TheVariants.{Posts}}
+use Rattle.sh_client.specs.{declared.state.Phase.TheVariants.{Root, Swap, Ended}, Machine.{Registers}, Rests.{rows_for}}
+use Rattle.sh_core.{specs.{Actors.{Actor, becomes, ending}, Fits.{Owes}, Keeps.{skips_counted, Waits}, Core.{Inv, Moves}}, proofs.{Causes.{decided_cause}, Others.{owes_on}}}
 use Rattle.sh_core.proofs.Frame.{actor_in, at, decided_ends, ends_now, moves_to, one_log, quiet_with, same_grows, same_here, Before, Claim}
 use Rattle.sh_core_turns.proofs.Posts.{decided_by_entry, skips_kept, waits_no_more}
 

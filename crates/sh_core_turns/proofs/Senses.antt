@@ -1,41 +1,19 @@
 -- What a wanted event finds is never senseless.
-use Rattle.std.proofs.Common.{◌≡◌, ℕ, Bool, false, List, Option, refl, sym, ap, ◌∙◌, subst}
-use Rattle.std.specs.Prelude.{not}
-use Rattle.sh_base.specs.declared.config.ConfigParts.{ConfigParts}
-use Rattle.sh_base.specs.declared.event.Event.{Event}
-use Rattle.sh_base.specs.Setting.{IsSetting}
-use Rattle.sh_base.specs.Memory.{found_by}
+use Rattle.std.{proofs.Common.{◌≡◌, ℕ, Bool, false, List, Option, refl, sym, ap, ◌∙◌, subst}, specs.Prelude.{not}}
+use Rattle.sh_base.specs.{declared.{config.ConfigParts.{ConfigParts}, event.Event.{Event}}, Setting.{IsSetting}, Memory.{found_by}}
 use Rattle.sh_map.specs.declared.call.Call.{Call}
-use Rattle.sh_image.specs.declared.inner.Image.{Image}
-use Rattle.sh_image.specs.declared.inner.Image.TheVariants.{Leaf as LeafImage, Inner as InnerImage}
-use Rattle.sh_alloc.specs.declared.state.ChunkWant.{ChunkWant}
+use Rattle.sh_image.specs.declared.inner.Image.{Image, TheVariants.{Leaf as LeafImage, Inner as InnerImage}}
+use Rattle.sh_alloc.specs.{declared.state.ChunkWant.{ChunkWant}, Walks.{walk_fed, walk_wants}}
 use Rattle.sh_alloc.specs.declared.state.ChunkWant.TheVariants as chunk
-use Rattle.sh_alloc.specs.Walks.{walk_fed, walk_wants}
-use Rattle.sh_descend.specs.declared.Hop.{Hop}
-use Rattle.sh_descend.specs.Descent.{hop_of}
+use Rattle.sh_descend.specs.{declared.Hop.{Hop}, Descent.{hop_of}}
 use Rattle.sh_state.specs.TreeState.{TreeState}
-use Rattle.sh_decide.specs.declared.state.Posting.{Posting}
-use Rattle.sh_decide.specs.declared.state.Aim.{Aim}
-use Rattle.sh_decide.specs.declared.state.Aim.TheVariants.{Own, Gathers, Posts}
+use Rattle.sh_decide.specs.{declared.state.{Posting.{Posting}, Aim.{Aim, TheVariants.{Own, Gathers, Posts}}}, Aims.{aimed_key, target}, Deciding.{decided_by, decided_here}}
 use Rattle.sh_decide.specs.declared.state.Decision.TheVariants as decision
-use Rattle.sh_decide.specs.Aims.{aimed_key, target}
-use Rattle.sh_decide.specs.Deciding.{decided_by, decided_here}
-use Rattle.sh_client.specs.declared.state.Need.{Need}
-use Rattle.sh_client.specs.declared.state.Need.TheVariants.{ToSplit, ToGrow}
-use Rattle.sh_client.specs.declared.state.Phase.{Phase}
-use Rattle.sh_client.specs.declared.state.Phase.TheVariants.{Root, Read, ReadLocked, Seek}
+use Rattle.sh_client.specs.{declared.state.{Need.{Need, TheVariants.{ToSplit, ToGrow}}, Phase.{Phase, TheVariants.{Root, Read, ReadLocked, Seek}}}, Machine.{Registers}, Wants.{want_in, want_of}}
 use Rattle.sh_client.specs.declared.state.Want.TheVariants as want
-use Rattle.sh_client.specs.Machine.{Registers}
-use Rattle.sh_client.specs.Wants.{want_in, want_of}
-use Rattle.sh_core.specs.Actors.{Actor}
-use Rattle.sh_core.specs.Fits.{Needs}
-use Rattle.sh_core.proofs.Frame.{actor_is, Before, actor_in, at, before}
-use Rattle.sh_core_turns.specs.Senses.{NeverSenseless, is_other_kind, is_senseless, is_senseless_in, of_image, of_walk, splits_other_kind}
-use Rattle.sh_core_turns.proofs.Standing.{load_is, split_here}
-use Rattle.sh_core_turns.proofs.Needs.{event_is}
-use Rattle.sh_core_turns.proofs.Locks.{root_named}
-use Rattle.sh_core_turns.proofs.OnWay.{way_read}
-use Rattle.sh_core_turns.proofs.InnerDecisions.{locked_reads}
+use Rattle.sh_core.{specs.{Actors.{Actor}, Fits.{Needs}}, proofs.Frame.{actor_is, Before, actor_in, at, before}}
+use Rattle.sh_core_turns.{specs.Senses.{NeverSenseless, is_other_kind, is_senseless, is_senseless_in, of_image, of_walk, splits_other_kind}, proofs.{Standing.{load_is, split_here}, Needs.{event_is}}}
+use Rattle.sh_core_turns.proofs.{Locks.{root_named}, OnWay.{way_read}, InnerDecisions.{locked_reads}}
 
 -- ---- a chunk is found
 

@@ -1,49 +1,23 @@
 -- A client starts again in the senseless cases, and in no other.
 use Rattle.std.proofs.Common.{◌≡◌, ℕ, ◌+◌, Bool, true, false, List, ◌∷◌, length, Option, Some, None, refl, sym, ap, ◌∙◌}
 use Rattle.std.specs.Prelude.{◌==◌, ◌&&◌, ◌*◌, not, if◌then◌else◌, nat_lt}
-use Rattle.sh_base.specs.declared.config.ConfigParts.{ConfigParts}
-use Rattle.sh_base.specs.Setting.{node_size, last_version, last_entry_version}
-use Rattle.sh_base.specs.Layout.{first_node}
+use Rattle.sh_base.specs.{declared.config.ConfigParts.{ConfigParts}, Setting.{node_size, last_version, last_entry_version}, Layout.{first_node}}
 use Rattle.sh_map.specs.declared.call.Call.{Call}
 use Rattle.sh_map.specs.declared.call.Call.TheVariants as call
-use Rattle.sh_image.specs.Leaf.{Leaf}
-use Rattle.sh_image.specs.Inner.{Inner}
-use Rattle.sh_image.specs.declared.inner.Image.{Image}
-use Rattle.sh_image.specs.declared.inner.Image.TheVariants.{Leaf as LeafImage, Inner as InnerImage}
-use Rattle.sh_image.specs.declared.read.Seen.{Seen}
+use Rattle.sh_image.specs.{Leaf.{Leaf}, Inner.{Inner}, declared.{inner.Image.{Image, TheVariants.{Leaf as LeafImage, Inner as InnerImage}}, read.Seen.{Seen}}}
 use Rattle.sh_image.specs.declared.read.Seen.TheVariants.{Leaf as LeafSeen, Inner as InnerSeen, Torn, TornEntry, Odd as OddSeen}
-use Rattle.sh_alloc.specs.declared.state.ChunkWant.{ChunkWant}
+use Rattle.sh_alloc.specs.{declared.state.ChunkWant.{ChunkWant}, Spares.{lowest, without_lowest}, Walks.{walk_fed, walk_wants}}
 use Rattle.sh_alloc.specs.declared.state.ChunkWant.TheVariants as chunk
-use Rattle.sh_alloc.specs.Spares.{lowest, without_lowest}
-use Rattle.sh_alloc.specs.Walks.{walk_fed, walk_wants}
-use Rattle.sh_read.specs.declared.state.Progress.{Progress}
-use Rattle.sh_read.specs.declared.state.Progress.TheVariants.{More, Accepted, Again, Odd}
-use Rattle.sh_read.specs.Judging.{seen_of}
-use Rattle.sh_read.specs.Reads.{Reads, accepted, answer_to, reads_left, progress_of, reads_with}
-use Rattle.sh_descend.specs.declared.Hop.{Hop}
-use Rattle.sh_descend.specs.declared.Hop.TheVariants.{Here, Right, Down, Restart}
-use Rattle.sh_descend.specs.Descent.{hop_of, level_of}
-use Rattle.sh_decide.specs.declared.state.Posting.{Posting}
-use Rattle.sh_decide.specs.declared.state.Aim.{Aim}
-use Rattle.sh_decide.specs.declared.state.Aim.TheVariants.{Own, Gathers, Posts}
-use Rattle.sh_decide.specs.declared.state.Way.{Way}
-use Rattle.sh_decide.specs.declared.state.Way.TheVariants as way
-use Rattle.sh_decide.specs.declared.state.Decision.{Decision}
-use Rattle.sh_decide.specs.declared.state.Decision.TheVariants as decision
-use Rattle.sh_client.specs.declared.state.Need.{Need}
-use Rattle.sh_client.specs.declared.state.Need.TheVariants.{ToSplit, ToGrow}
-use Rattle.sh_client.specs.declared.state.Phase.{Phase}
-use Rattle.sh_client.specs.declared.state.Phase.TheVariants.{Root, Read, ReadLocked, Seek}
-use Rattle.sh_client.specs.Machine.{Machine, reading, sparing, to}
-use Rattle.sh_decide.specs.Aims.{aimed_key, end_of, is_node, takes_lock, target}
-use Rattle.sh_decide.specs.Leaves.{are_keys_once, index_of, version_at}
-use Rattle.sh_decide.specs.Ways.{is_below, way_by, way_here, way_of}
+use Rattle.sh_read.specs.{declared.state.Progress.{Progress, TheVariants.{More, Accepted, Again, Odd}}, Judging.{seen_of}, Reads.{Reads, accepted, answer_to, reads_left, progress_of, reads_with}}
+use Rattle.sh_descend.specs.{declared.Hop.{Hop, TheVariants.{Here, Right, Down, Restart}}, Descent.{hop_of, level_of}}
+use Rattle.sh_decide.specs.{declared.state.{Posting.{Posting}, Aim.{Aim, TheVariants.{Own, Gathers, Posts}}, Way.{Way}, Decision.{Decision}}, Aims.{aimed_key, end_of, is_node, takes_lock, target}}
+use Rattle.sh_decide.specs.{Leaves.{are_keys_once, index_of, version_at}, Ways.{is_below, way_by, way_here, way_of}}
 use Rattle.sh_decide.specs.Deciding.{change_at, decided_by, decided_here, has_separator, post_in, put_in, put_into, del_in, unless_worn, update_in}
-use Rattle.sh_client.specs.Splitting.{chunk_taken, root_grown, halved_by, needing, sought_by, walked}
-use Rattle.sh_client.specs.Feeds.{arrived, did, fed_in, from_root, held_by, hold_by, loaded, read_by, went}
-use Rattle.sh_client.specs.Cached.{learning, settling}
-use Rattle.sh_client.specs.Ranges.{gathering, is_whole, range_ended}
-use Rattle.sh_client.specs.declared.state.Edge.{Edge}
+use Rattle.sh_decide.specs.declared.state.Way.TheVariants as way
+use Rattle.sh_decide.specs.declared.state.Decision.TheVariants as decision
+use Rattle.sh_client.specs.{declared.state.{Need.{Need, TheVariants.{ToSplit, ToGrow}}, Phase.{Phase, TheVariants.{Root, Read, ReadLocked, Seek}}}, Machine.{Machine, reading, sparing, to}}
+use Rattle.sh_client.specs.{Splitting.{chunk_taken, root_grown, halved_by, needing, sought_by, walked}, Feeds.{arrived, did, fed_in, from_root, held_by, hold_by, loaded, read_by, went}}
+use Rattle.sh_client.specs.{Cached.{learning, settling}, Ranges.{gathering, is_whole, range_ended}, declared.state.Edge.{Edge}}
 use Rattle.sh_core_turns.specs.Senses.{is_other_kind, is_wrong, is_wrong_by, is_wrong_here, lacks_answer, of_image, of_read, of_walk, strays, strays_by, is_at_root, gives_back, leaves_off, starts_again, is_senseless_in, splits_other_kind, IsMade, AreAllCases}
 use Rattle.sh_core_turns.proofs.Senses.{split_kind}
 

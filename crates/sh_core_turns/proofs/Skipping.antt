@@ -1,40 +1,19 @@
 -- A post is skipped: its node is one of those that the seat skipped, and the seat has none to post.
-use Rattle.std.proofs.Common.{◌≡◌, ◌≢◌, ℕ, ◌+◌, ◌<◌, true, List, [], ◌∷◌, length, Some, None, refl, sym, ◌∙◌, subst, inl, inr, arith, append-nil}
-use Rattle.std.specs.Prelude.{◌-◌, ◌^◌}
-use Rattle.std.specs.List.{AllByRecursion}
+use Rattle.std.{proofs.Common.{◌≡◌, ◌≢◌, ℕ, ◌+◌, ◌<◌, true, List, [], ◌∷◌, length, Some, None, refl, sym, ◌∙◌, subst, inl, inr, arith, append-nil}, specs.{Prelude.{◌-◌, ◌^◌}, List.{AllByRecursion}}}
 use Rattle.std.proofs.lemmas.Bool.Decides.{nat_tests}
-use Rattle.sh_base.specs.declared.config.ConfigParts.{ConfigParts}
+use Rattle.sh_base.{specs.{declared.config.ConfigParts.{ConfigParts}, Setting.{IsNode, IsSetting}, Layout.{lock_of}}, proofs.LayoutLemmas.{nodes_small}}
 use Rattle.sh_readers.proofs.RowLemmas.{rows_linked}
-use Rattle.sh_base.specs.Setting.{IsNode, IsSetting}
-use Rattle.sh_base.specs.Layout.{lock_of}
-use Rattle.sh_base.proofs.LayoutLemmas.{nodes_small}
 use Rattle.sh_map.specs.Made.{entries_by}
 use Rattle.sh_alloc.specs.declared.state.Walk.{Walk}
 use Rattle.sh_read.specs.Reads.{Reads}
-use Rattle.sh_tree.specs.Lists.{is_in}
-use Rattle.sh_tree.proofs.ListLemmas.{in_head, in_more, few_nodes}
-use Rattle.sh_state.specs.TreeState.{Class, Linked, Posted, Pending, Skipped, Seat, Held, TreeState}
-use Rattle.sh_state.specs.Nodes.{IsLinked}
-use Rattle.sh_state.specs.Ground.{Ground}
-use Rattle.sh_state.specs.Change.{Change}
-use Rattle.sh_state.proofs.Joins.{join_after}
-use Rattle.sh_acts.specs.Acts.{skipped}
-use Rattle.sh_acts.proofs.Posts.{skip_act}
+use Rattle.sh_tree.{specs.Lists.{is_in}, proofs.ListLemmas.{in_head, in_more, few_nodes}}
+use Rattle.sh_state.{specs.{TreeState.{Class, Linked, Posted, Pending, Skipped, Seat, Held, TreeState}, Nodes.{IsLinked}, Ground.{Ground}, Change.{Change}}, proofs.Joins.{join_after}}
+use Rattle.sh_acts.{specs.Acts.{skipped}, proofs.Posts.{skip_act}}
 use Rattle.sh_decide.specs.declared.state.Posting.{Posting}
-use Rattle.sh_client.specs.declared.state.Then.TheVariants.{Ends}
-use Rattle.sh_client.specs.declared.state.Write.TheVariants.{Nothing}
-use Rattle.sh_client.specs.declared.state.Phase.{Phase}
-use Rattle.sh_client.specs.declared.state.Phase.TheVariants.{Waiting, Ended}
-use Rattle.sh_client.specs.declared.state.Tally.{Tally}
-use Rattle.sh_client.specs.Machine.{Registers, up}
-use Rattle.sh_client.specs.Splitting.{giving_of}
-use Rattle.sh_client.specs.Rests.{rows_for}
-use Rattle.sh_core.specs.Actors.{Actor, ending}
-use Rattle.sh_core.specs.Fits.{Owes, Fits}
-use Rattle.sh_core.specs.Keeps.{holding, pending, skips_counted, Hands, Waits, Skips, IsAtWork, KeepsActor}
-use Rattle.sh_core.proofs.Causes.{decided_cause}
-use Rattle.sh_core.proofs.Others.{owes_on}
-use Rattle.sh_core.proofs.Frame.{next, actor_in, at, goes_on, ends_now, decided_ends, SameNodes, same_grows, skips_on}
+use Rattle.sh_client.specs.{declared.state.{Then.TheVariants.{Ends}, Write.TheVariants.{Nothing}, Phase.{Phase, TheVariants.{Waiting, Ended}}, Tally.{Tally}}, Machine.{Registers, up}}
+use Rattle.sh_client.specs.{Splitting.{giving_of}, Rests.{rows_for}}
+use Rattle.sh_core.{specs.{Actors.{Actor, ending}, Fits.{Owes, Fits}, Keeps.{holding, pending, skips_counted, Hands, Waits, Skips, IsAtWork, KeepsActor}}, proofs.Causes.{decided_cause}}
+use Rattle.sh_core.proofs.{Others.{owes_on}, Frame.{next, actor_in, at, goes_on, ends_now, decided_ends, SameNodes, same_grows, skips_on}}
 use Rattle.sh_core_turns.proofs.Posts.{decided_by_entry, skips_more, waits_no_more}
 
 -- a counter that isn't at its last value is counted on

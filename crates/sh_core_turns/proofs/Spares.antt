@@ -1,13 +1,8 @@
 -- A spare node is taken, and where there is none a walk over the counters begins.
-use Rattle.std.proofs.Common.{◌≡◌, ◌≢◌, ℕ, ◌+◌, ◌-◌, Bool, true, false, List, Some, None, refl, sym, ap, ◌∙◌, arith}
-use Rattle.std.specs.Prelude.{◌==◌, if◌then◌else◌}
-use Rattle.std.proofs.lemmas.Bool.Decides.{nat_tests}
+use Rattle.std.{proofs.{Common.{◌≡◌, ◌≢◌, ℕ, ◌+◌, ◌-◌, Bool, true, false, List, Some, None, refl, sym, ap, ◌∙◌, arith}, lemmas.Bool.Decides.{nat_tests}}, specs.Prelude.{◌==◌, if◌then◌else◌}}
 use Rattle.std.proofs.Math.Nat.{mod-lt}
-use Rattle.sh_base.specs.declared.config.ConfigParts.{ConfigParts}
-use Rattle.sh_base.specs.Setting.{IsSetting}
-use Rattle.sh_alloc.specs.declared.state.NodeRange.{NodeRange}
-use Rattle.sh_alloc.specs.Spares.{lowest, nodes_from, without_lowest}
-use Rattle.sh_alloc.specs.Walks.{walk_start}
+use Rattle.sh_base.specs.{declared.config.ConfigParts.{ConfigParts}, Setting.{IsSetting}}
+use Rattle.sh_alloc.specs.{declared.state.NodeRange.{NodeRange}, Spares.{lowest, nodes_from, without_lowest}, Walks.{walk_start}}
 use Rattle.sh_state.specs.TreeState.{Fresh, TreeState}
 use Rattle.sh_core.specs.Fits.{AreSpares, FillsFresh, IsSeeking}
 

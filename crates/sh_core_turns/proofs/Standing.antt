@@ -1,48 +1,22 @@
 -- The image of a node that stands where a descent has come, and where hops from images lead.
 use Rattle.std.proofs.Common.{◌≡◌, ◌≢◌, ℕ, suc, ◌+◌, ◌-◌, ◌<◌, ◌≤◌, Bool, true, false, List, [], ◌∷◌, length, Option, Some, None, refl, sym, ap, ◌∙◌, subst, arith}
-use Rattle.std.specs.Prelude.{◌^◌, ◌==◌, ◌&&◌, not, if◌then◌else◌, nat_le, nat_lt}
-use Rattle.std.proofs.lemmas.Bool.Decides.{nat_tests}
-use Rattle.sh_base.specs.declared.config.ConfigParts.{ConfigParts}
-use Rattle.sh_base.specs.declared.event.Event.{Event}
-use Rattle.sh_base.specs.declared.event.Event.TheVariants.{Load}
-use Rattle.sh_base.specs.Setting.{node_size, nodes, IsNode, IsSetting}
-use Rattle.sh_base.specs.Layout.{node_word}
-use Rattle.sh_map.specs.declared.call.Call.{Call}
+use Rattle.std.{specs.Prelude.{◌^◌, ◌==◌, ◌&&◌, not, if◌then◌else◌, nat_le, nat_lt}, proofs.lemmas.Bool.Decides.{nat_tests}}
+use Rattle.sh_base.specs.{declared.{config.ConfigParts.{ConfigParts}, event.Event.{Event, TheVariants.{Load}}}, Setting.{node_size, nodes, IsNode, IsSetting}, Layout.{node_word}}
+use Rattle.sh_map.specs.{declared.{call.{Call.{Call}, Reply.{Reply}}, book.Row.{Row}, log.Entry.{Entry as LogEntry}}, Calls.{IsInRange, IsKey}}
 use Rattle.sh_map.specs.declared.call.Call.TheVariants as call
-use Rattle.sh_map.specs.declared.call.Reply.{Reply}
-use Rattle.sh_map.specs.declared.book.Row.{Row}
-use Rattle.sh_map.specs.declared.log.Entry.{Entry as LogEntry}
-use Rattle.sh_map.specs.Calls.{IsInRange, IsKey}
-use Rattle.sh_image.specs.declared.inner.Pair.{Pair}
-use Rattle.sh_image.specs.declared.inner.Image.{Image}
-use Rattle.sh_image.specs.declared.inner.Image.TheVariants.{Leaf as LeafImage, Inner as InnerImage}
-use Rattle.sh_image.specs.declared.read.Seen.{Seen}
-use Rattle.sh_image.specs.Leaf.{Leaf, leaf_in}
-use Rattle.sh_image.specs.Inner.{Inner, inner_in}
-use Rattle.sh_image.specs.Seen.{SeenBy}
+use Rattle.sh_image.specs.{declared.{inner.{Pair.{Pair}, Image.{Image, TheVariants.{Leaf as LeafImage, Inner as InnerImage}}}, read.Seen.{Seen}}, Leaf.{Leaf, leaf_in}, Inner.{Inner, inner_in}}
+use Rattle.sh_image.specs.{Seen.{SeenBy}, Node.{seen_as}}
 use Rattle.sh_edit.specs.Pairing.{IsNewSeparator}
-use Rattle.sh_image.specs.Node.{seen_as}
-use Rattle.sh_read.specs.Judging.{seen_of}
-use Rattle.sh_read.specs.Reads.{Reads, accepted, image_in, reads_with, wanted}
-use Rattle.sh_read.proofs.JudgingLemmas.{judged_by, seen_once}
-use Rattle.sh_descend.specs.declared.Hop.{Hop}
-use Rattle.sh_descend.specs.declared.Hop.TheVariants.{Here, Right, Down, Restart}
-use Rattle.sh_descend.specs.Descent.{hop_of, high_of}
-use Rattle.sh_state.specs.TreeState.{Linked, TreeState}
-use Rattle.sh_state.specs.Ground.{Ground}
+use Rattle.sh_read.{specs.{Judging.{seen_of}, Reads.{Reads, accepted, image_in, reads_with, wanted}}, proofs.JudgingLemmas.{judged_by, seen_once}}
+use Rattle.sh_descend.specs.{declared.Hop.{Hop, TheVariants.{Here, Right, Down, Restart}}, Descent.{hop_of, high_of}}
+use Rattle.sh_state.specs.{TreeState.{Linked, TreeState}, Ground.{Ground}}
 use Rattle.sh_acts.proofs.InnerEnds.{is_new}
-use Rattle.sh_readers.specs.Hand.{IsImageOf, IsNamed}
-use Rattle.sh_readers.proofs.HandLemmas.{down_inner, down_named, here_is, inner_image, never_restart, right_named}
-use Rattle.sh_decide.specs.declared.state.Posting.{Posting}
-use Rattle.sh_decide.specs.declared.state.Aim.{Aim}
-use Rattle.sh_decide.specs.declared.state.Aim.TheVariants.{Own, Gathers, Posts}
-use Rattle.sh_decide.specs.Aims.{is_node, aimed_key, takes_lock, target}
-use Rattle.sh_decide.specs.declared.state.Decision.TheVariants as decision
-use Rattle.sh_decide.specs.Deciding.{decided_by, has_separator}
+use Rattle.sh_readers.{specs.Hand.{IsImageOf, IsNamed}, proofs.HandLemmas.{down_inner, down_named, here_is, inner_image, never_restart, right_named}}
+use Rattle.sh_decide.specs.{declared.state.{Posting.{Posting}, Aim.{Aim, TheVariants.{Own, Gathers, Posts}}}, Aims.{is_node, aimed_key, takes_lock, target}, Deciding.{decided_by, has_separator}}
 use Rattle.sh_decide.proofs.IndexLemmas.{once_is}
+use Rattle.sh_decide.specs.declared.state.Decision.TheVariants as decision
 use Rattle.sh_client.specs.declared.state.Want.TheVariants as want
-use Rattle.sh_client.specs.Wants.{load_of}
-use Rattle.sh_client.specs.Machine.{Registers}
+use Rattle.sh_client.specs.{Wants.{load_of}, Machine.{Registers}}
 use Rattle.sh_core.specs.Fits.{Gathered, IsAtRoot, IsThere, IsToStart, Owes, duty_of}
 use Rattle.sh_core_turns.specs.Senses.{is_wrong_here}
 

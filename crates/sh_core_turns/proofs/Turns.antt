@@ -1,28 +1,12 @@
 -- The turn of a wanted event keeps the invariant, by what the client is at.
 use Rattle.std.proofs.Common.{◌≡◌, ℕ, List, ◌++◌, sym, subst, refl}
-use Rattle.sh_base.specs.declared.config.ConfigParts.{ConfigParts}
-use Rattle.sh_base.specs.declared.event.Event.{Event}
-use Rattle.sh_base.specs.Setting.{IsSetting}
-use Rattle.sh_base.specs.Memory.{apply, found_by}
+use Rattle.sh_base.specs.{declared.{config.ConfigParts.{ConfigParts}, event.Event.{Event}}, Setting.{IsSetting}, Memory.{apply, found_by}}
 use Rattle.sh_map.specs.declared.log.Entry.{Entry as LogEntry}
 use Rattle.sh_state.specs.TreeState.{TreeState}
 use Rattle.sh_client.specs.declared.state.Want.TheVariants as want
-use Rattle.sh_client.specs.declared.state.Phase.{Phase}
-use Rattle.sh_client.specs.declared.state.Phase.TheVariants.{Root, Read, Grab, ReadLocked, Seek, Fill, Body, Unlock, Swap}
-use Rattle.sh_client.specs.Machine.{Registers}
-use Rattle.sh_client.specs.Giving.{makes}
-use Rattle.sh_client.specs.Wants.{want_in, want_of}
-use Rattle.sh_core.specs.Actors.{Actor, actor_stepped}
-use Rattle.sh_core.specs.Core.{Inv, Moves, TurnKeeps}
-use Rattle.sh_core.proofs.Frame.{actor_is, at, before, Before, Claim}
-use Rattle.sh_core_turns.proofs.Standing.{load_is}
-use Rattle.sh_core_turns.proofs.Locks.{grab, unlock, root}
-use Rattle.sh_core_turns.proofs.OnWay.{read_claim}
-use Rattle.sh_core_turns.proofs.InnerDecisions.{locked_claim}
-use Rattle.sh_core_turns.proofs.OwnStores.{fill}
-use Rattle.sh_core_turns.proofs.Roots.{swap}
-use Rattle.sh_core_turns.proofs.BodyEnds.{body}
-use Rattle.sh_core_turns.proofs.Needs.{event_is}
+use Rattle.sh_client.specs.{declared.state.Phase.{Phase, TheVariants.{Root, Read, Grab, ReadLocked, Seek, Fill, Body, Unlock, Swap}}, Machine.{Registers}, Giving.{makes}, Wants.{want_in, want_of}}
+use Rattle.sh_core.{specs.{Actors.{Actor, actor_stepped}, Core.{Inv, Moves, TurnKeeps}}, proofs.Frame.{actor_is, at, before, Before, Claim}}
+use Rattle.sh_core_turns.proofs.{Standing.{load_is}, Locks.{grab, unlock, root}, OnWay.{read_claim}, InnerDecisions.{locked_claim}, OwnStores.{fill}, Roots.{swap}, BodyEnds.{body}, Needs.{event_is}}
 use Rattle.sh_core_turns.proofs.Walking.{seek}
 
 module _ (p : ConfigParts) (ok : IsSetting p) (words : List ℕ) (Has Now : ℕ → Actor → Type 0) (Out : ℕ → ℕ → ℕ → Type 0) (seat : ℕ) (s : TreeState) (b : Before p words Has Out s) (a : Actor) (r : Registers) where

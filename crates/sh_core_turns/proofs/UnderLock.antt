@@ -1,46 +1,19 @@
 -- READs under the node's lock: all of its words are the standing ones, so nothing that they say is senseless.
 use Rattle.std.proofs.Common.{◌≡◌, ℕ, suc, ◌+◌, ◌-◌, ◌<◌, Bool, true, false, List, [], ◌∷◌, ◌++◌, length, get_or, drop, Option, Some, refl, sym, ap, ◌∙◌, subst, arith}
-use Rattle.std.specs.Prelude.{not, if◌then◌else◌, nat_lt}
-use Rattle.std.proofs.Math.Seq.{drop-cons}
-use Rattle.sh_base.specs.declared.config.ConfigParts.{ConfigParts}
-use Rattle.sh_base.specs.Setting.{node_size, IsNode, IsSetting}
-use Rattle.sh_base.specs.Layout.{node_word}
-use Rattle.sh_base.specs.Places.{Node}
-use Rattle.sh_base.proofs.LayoutLemmas.{node_size_is}
+use Rattle.std.{specs.Prelude.{not, if◌then◌else◌, nat_lt}, proofs.Math.Seq.{drop-cons}}
+use Rattle.sh_base.{specs.{declared.config.ConfigParts.{ConfigParts}, Setting.{node_size, IsNode, IsSetting}, Layout.{node_word}, Places.{Node}}, proofs.LayoutLemmas.{node_size_is}}
 use Rattle.sh_map.specs.Calls.{IsKey}
-use Rattle.sh_image.specs.declared.inner.Image.{Image}
-use Rattle.sh_image.specs.declared.inner.Image.TheVariants.{Leaf as LeafImage, Inner as InnerImage}
-use Rattle.sh_image.specs.declared.read.Seen.{Seen}
-use Rattle.sh_read.specs.declared.state.Progress.TheVariants.{More}
-use Rattle.sh_image.specs.Node.{seen_as}
-use Rattle.sh_read.specs.Judging.{seen_of}
-use Rattle.sh_read.specs.Moments.{word}
-use Rattle.sh_read.specs.Reads.{Reads, accepted, answer_to, reads_left, reads_with}
-use Rattle.sh_descend.specs.declared.Hop.{Hop}
-use Rattle.sh_descend.specs.declared.Hop.TheVariants.{Here, Right, Down, Restart}
-use Rattle.sh_descend.specs.Descent.{hop_of}
+use Rattle.sh_image.specs.{declared.{inner.Image.{Image, TheVariants.{Leaf as LeafImage, Inner as InnerImage}}, read.Seen.{Seen}}, Node.{seen_as}}
+use Rattle.sh_read.specs.{declared.state.Progress.TheVariants.{More}, Judging.{seen_of}, Moments.{word}, Reads.{Reads, accepted, answer_to, reads_left, reads_with}}
+use Rattle.sh_descend.specs.{declared.Hop.{Hop, TheVariants.{Here, Right, Down, Restart}}, Descent.{hop_of}}
 use Rattle.sh_state.specs.TreeState.{LockState, TreeState, writing_of}
 use Rattle.sh_readers.specs.Hand.{IsNamed}
-use Rattle.sh_decide.specs.declared.state.Aim.{Aim}
+use Rattle.sh_decide.specs.{declared.state.Aim.{Aim}, Aims.{aimed_key, target}, Deciding.{decided_by, decided_here}}
 use Rattle.sh_decide.specs.declared.state.Decision.TheVariants as decision
-use Rattle.sh_decide.specs.Aims.{aimed_key, target}
-use Rattle.sh_decide.specs.Deciding.{decided_by, decided_here}
-use Rattle.sh_client.specs.declared.state.Then.{Then}
-use Rattle.sh_client.specs.declared.state.Then.TheVariants.{Starts, Takes}
-use Rattle.sh_client.specs.declared.state.Write.TheVariants.{Nothing}
-use Rattle.sh_client.specs.declared.state.Phase.{Phase}
-use Rattle.sh_client.specs.declared.state.Phase.TheVariants.{ReadLocked, Waiting}
-use Rattle.sh_client.specs.Machine.{Machine, Registers, up}
-use Rattle.sh_client.specs.Feeds.{did, held_by, hold_by}
-use Rattle.sh_client.specs.Cached.{settled}
-use Rattle.sh_client.specs.Splitting.{giving_of}
-use Rattle.sh_core.specs.Actors.{Actor, becomes}
-use Rattle.sh_core.specs.Fits.{AreLast, Follows}
-use Rattle.sh_core.specs.Keeps.{pending_aim, pending_then, KeepsActor}
-use Rattle.sh_core.specs.Core.{Inv, Moves}
-use Rattle.sh_core.proofs.Frame.{Before, SameCall, actor_in, at, quiet}
-use Rattle.sh_core_turns.specs.Senses.{is_wrong, is_wrong_by, of_image, of_read}
-use Rattle.sh_core_turns.proofs.Learning.{settles}
+use Rattle.sh_client.specs.{declared.state.{Then.{Then, TheVariants.{Starts, Takes}}, Write.TheVariants.{Nothing}, Phase.{Phase, TheVariants.{ReadLocked, Waiting}}}, Machine.{Machine, Registers, up}}
+use Rattle.sh_client.specs.{Feeds.{did, held_by, hold_by}, Cached.{settled}, Splitting.{giving_of}}
+use Rattle.sh_core.{specs.{Actors.{Actor, becomes}, Fits.{AreLast, Follows}, Keeps.{pending_aim, pending_then, KeepsActor}, Core.{Inv, Moves}}, proofs.Frame.{Before, SameCall, actor_in, at, quiet}}
+use Rattle.sh_core_turns.{specs.Senses.{is_wrong, is_wrong_by, of_image, of_read}, proofs.Learning.{settles}}
 use Rattle.sh_core_turns.proofs.Standing.{StandsWell, aim_key, hop_leads, is_lt, names_node, not_lt, standing_accepted, standing_image, stands_well, can_lock, locked_key}
 
 module _ (p : ConfigParts) (ok : IsSetting p) (words : List ℕ) (Has Now : ℕ → Actor → Type 0) (Out : ℕ → ℕ → ℕ → Type 0) (i : ℕ) (s : TreeState) (b : Before p words Has Out s) (a : Actor) (r : Registers) (aim : Aim) (depth : ℕ)

@@ -1,44 +1,20 @@
 -- The turns of a walk over the counters for a fresh node: what the counters are bounded by, and what the walk has passed.
 use Rattle.std.proofs.Common.{◌≡◌, ◌≢◌, ℕ, ◌+◌, ◌-◌, ◌<◌, ◌≤◌, Bool, true, false, List, [], ◌++◌, get_or, set, refl, sym, ap, ◌∙◌, subst, inl, inr, arith}
-use Rattle.std.specs.Prelude.{◌%◌, ◌^◌, if◌then◌else◌, nat_lt}
-use Rattle.std.proofs.Math.Nat.{mod-lt, mod-eq_of_lt, add-mod_right}
-use Rattle.std.proofs.lemmas.Bool.{cases_lt}
+use Rattle.std.{specs.Prelude.{◌%◌, ◌^◌, if◌then◌else◌, nat_lt}, proofs.{Math.Nat.{mod-lt, mod-eq_of_lt, add-mod_right}, lemmas.Bool.{cases_lt}}}
 use mathlib.Core.Logic.{dite}
 use native.Mathlib.Decide.{ℕ_discrete}
-use Rattle.sh_base.specs.declared.config.ConfigParts.{ConfigParts}
-use Rattle.sh_base.specs.declared.event.Event.{Event}
-use Rattle.sh_base.specs.declared.event.Event.TheVariants.{Load, Add}
-use Rattle.sh_base.specs.Setting.{all_seats, IsSetting}
-use Rattle.sh_base.specs.Layout.{counter_word}
-use Rattle.sh_base.specs.Places.{Counter}
+use Rattle.sh_base.specs.{declared.{config.ConfigParts.{ConfigParts}, event.Event.{Event, TheVariants.{Load, Add}}}, Setting.{all_seats, IsSetting}, Layout.{counter_word}, Places.{Counter}}
 use Rattle.sh_base.specs.Memory.{apply, found_by}
-use Rattle.sh_alloc.specs.declared.state.Phase.{Phase as Step}
-use Rattle.sh_alloc.specs.declared.state.Phase.TheVariants.{Loading, Adding, Found, Spent}
-use Rattle.sh_alloc.specs.declared.state.Walk.{Walk}
-use Rattle.sh_alloc.specs.declared.state.ChunkWant.{ChunkWant}
-use Rattle.sh_alloc.specs.declared.state.ChunkWant.TheVariants as chunk
+use Rattle.sh_alloc.specs.declared.state.{Phase.{Phase as Step, TheVariants.{Loading, Adding, Found, Spent}}, Walk.{Walk}, ChunkWant.{ChunkWant}}
 use Rattle.sh_alloc.specs.Walks.{walk_at, with_phase, server_at, walk_next, walk_fed_in, walk_wants_in as walk_want_in, walk_wants}
-use Rattle.sh_state.specs.TreeState.{Seat, TreeState}
-use Rattle.sh_state.proofs.Puts.{put_here, put_case}
-use Rattle.sh_state.proofs.Joins.{nothing_done}
-use Rattle.sh_acts.specs.Counters.{Bounded}
-use Rattle.sh_acts.proofs.Events.{added}
-use Rattle.sh_acts.proofs.Late.{bounded, finds_below, raises}
-use Rattle.sh_acts.proofs.Own.{draw_act, spent_act}
-use Rattle.sh_client.specs.declared.state.Need.{Need}
+use Rattle.sh_alloc.specs.declared.state.ChunkWant.TheVariants as chunk
+use Rattle.sh_state.{specs.TreeState.{Seat, TreeState}, proofs.{Puts.{put_here, put_case}, Joins.{nothing_done}}}
+use Rattle.sh_acts.{specs.Counters.{Bounded}, proofs.{Events.{added}, Late.{bounded, finds_below, raises}, Own.{draw_act, spent_act}}}
+use Rattle.sh_client.specs.{declared.state.{Need.{Need}, Phase.{Phase, TheVariants.{Seek}}}, Machine.{Registers}, Wants.{count_of}}
 use Rattle.sh_client.specs.declared.state.Want.TheVariants as want
-use Rattle.sh_client.specs.declared.state.Phase.{Phase}
-use Rattle.sh_client.specs.declared.state.Phase.TheVariants.{Seek}
-use Rattle.sh_client.specs.Machine.{Registers}
-use Rattle.sh_client.specs.Wants.{count_of}
-use Rattle.sh_core.specs.Actors.{Actor}
-use Rattle.sh_core.specs.Fits.{AreSpent, ArePassed, IsSeeking}
-use Rattle.sh_core.specs.Keeps.{KeepsActor}
-use Rattle.sh_core.specs.Core.{WantsAdd, SomeAdds, Inv, Moves}
-use Rattle.sh_core.proofs.Others.{others_add, adds_before, bounded_less, turn_to}
-use Rattle.sh_core.proofs.Frame.{actor_in, at, Before, Claim, one_log}
-use Rattle.sh_core_turns.proofs.Standing.{is_lt, not_lt}
-use Rattle.sh_core_turns.proofs.Needs.{Counts, Reached, counted_on, counted_rise, event_is, going, got, spent, walked_to, with_counters}
+use Rattle.sh_core.specs.{Actors.{Actor}, Fits.{AreSpent, ArePassed, IsSeeking}, Keeps.{KeepsActor}, Core.{WantsAdd, SomeAdds, Inv, Moves}}
+use Rattle.sh_core.proofs.{Others.{others_add, adds_before, bounded_less, turn_to}, Frame.{actor_in, at, Before, Claim, one_log}}
+use Rattle.sh_core_turns.proofs.{Standing.{is_lt, not_lt}, Needs.{Counts, Reached, counted_on, counted_rise, event_is, going, got, spent, walked_to, with_counters}}
 
 -- each server is one of those that a walk passes once round
 all_passed : (p : ConfigParts) (f : ℕ → ℕ) (w : Walk) → w.first < p.servers → p.servers ≤ w.passed + 1 → ArePassed p f w → p.chunks ≤ f (server_at p w) → AreSpent p f

@@ -1,46 +1,19 @@
 -- The senseless cases: turns in which a client makes nothing of the word that it is fed, and starts again. They are said by
 -- the client alone; no client of a pool comes to one.
 use Rattle.std.specs.Prelude.{◌≡◌, ℕ, ◌&&◌, not, if◌then◌else◌, Bool, true, false, List, [], ◌∷◌, Option, Some, None}
-use Rattle.sh_base.specs.declared.config.ConfigParts.{ConfigParts}
-use Rattle.sh_base.specs.declared.event.Event.{Event}
-use Rattle.sh_base.specs.Memory.{found_by}
-use Rattle.sh_map.specs.declared.call.Call.{Call}
-use Rattle.sh_map.specs.declared.call.Call.TheVariants.{Range}
-use Rattle.sh_map.specs.declared.log.Entry.{Entry as LogEntry}
-use Rattle.sh_map.specs.declared.book.Row.{Row}
-use Rattle.sh_image.specs.Leaf.{Leaf}
-use Rattle.sh_image.specs.declared.inner.Image.{Image}
-use Rattle.sh_image.specs.declared.inner.Image.TheVariants.{Leaf as LeafImage, Inner as InnerImage}
-use Rattle.sh_alloc.specs.declared.state.ChunkWant.{ChunkWant}
+use Rattle.sh_base.specs.{declared.{config.ConfigParts.{ConfigParts}, event.Event.{Event}}, Memory.{found_by}}
+use Rattle.sh_map.specs.declared.{call.Call.{Call, TheVariants.{Range}}, log.Entry.{Entry as LogEntry}, book.Row.{Row}}
+use Rattle.sh_image.specs.{Leaf.{Leaf}, declared.inner.Image.{Image, TheVariants.{Leaf as LeafImage, Inner as InnerImage}}}
+use Rattle.sh_alloc.specs.{declared.state.ChunkWant.{ChunkWant}, Walks.{walk_fed, walk_wants}}
 use Rattle.sh_alloc.specs.declared.state.ChunkWant.TheVariants as chunk
-use Rattle.sh_alloc.specs.Walks.{walk_fed, walk_wants}
-use Rattle.sh_read.specs.declared.state.Progress.{Progress}
-use Rattle.sh_read.specs.declared.state.Progress.TheVariants.{More, Accepted, Again, Odd}
-use Rattle.sh_read.specs.Reads.{accepted, progress_of, read_fed}
-use Rattle.sh_descend.specs.Descent.{hop_of}
-use Rattle.sh_descend.specs.declared.Hop.{Hop}
-use Rattle.sh_descend.specs.declared.Hop.TheVariants.{Here, Right, Down, Restart}
-use Rattle.sh_decide.specs.declared.state.Aim.{Aim}
-use Rattle.sh_decide.specs.declared.state.Aim.TheVariants.{Own, Gathers, Posts}
-use Rattle.sh_client.specs.declared.state.Need.{Need}
-use Rattle.sh_client.specs.declared.state.Need.TheVariants.{ToSplit}
-use Rattle.sh_client.specs.declared.state.Phase.{Phase}
-use Rattle.sh_client.specs.declared.state.Phase.TheVariants.{Root, Read, ReadLocked, Seek, Waiting}
-use Rattle.sh_client.specs.declared.state.Then.{Then}
-use Rattle.sh_client.specs.declared.state.Then.TheVariants.{Starts}
-use Rattle.sh_client.specs.declared.state.Write.{Write}
-use Rattle.sh_client.specs.declared.state.Write.TheVariants.{Nothing}
-use Rattle.sh_client.specs.declared.state.Want.TheVariants as want
-use Rattle.sh_client.specs.Machine.{Machine}
-use Rattle.sh_decide.specs.Aims.{aimed_key, end_of, is_node, takes_lock, target}
-use Rattle.sh_decide.specs.Leaves.{are_keys_once}
-use Rattle.sh_decide.specs.Deciding.{has_separator}
+use Rattle.sh_read.specs.{declared.state.Progress.{Progress, TheVariants.{More, Accepted, Again, Odd}}, Reads.{accepted, progress_of, read_fed}}
+use Rattle.sh_descend.specs.{Descent.{hop_of}, declared.Hop.{Hop, TheVariants.{Here, Right, Down, Restart}}}
+use Rattle.sh_decide.specs.{declared.state.Aim.{Aim, TheVariants.{Own, Gathers, Posts}}, Aims.{aimed_key, end_of, is_node, takes_lock, target}, Leaves.{are_keys_once}, Deciding.{has_separator}}
 use Rattle.sh_decide.specs.Ways.{is_below}
-use Rattle.sh_client.specs.Ranges.{is_whole, rows_with}
-use Rattle.sh_client.specs.Wants.{want_of}
-use Rattle.sh_client.specs.Feeds.{fed_by}
-use Rattle.sh_core.specs.Actors.{Actor}
-use Rattle.sh_core.specs.Core.{Inv}
+use Rattle.sh_client.specs.declared.state.{Need.{Need, TheVariants.{ToSplit}}, Phase.{Phase, TheVariants.{Root, Read, ReadLocked, Seek, Waiting}}, Then.{Then, TheVariants.{Starts}}, Write.{Write}}
+use Rattle.sh_client.specs.{declared.state.Write.TheVariants.{Nothing}, Machine.{Machine}, Ranges.{is_whole, rows_with}, Wants.{want_of}, Feeds.{fed_by}}
+use Rattle.sh_client.specs.declared.state.Want.TheVariants as want
+use Rattle.sh_core.specs.{Actors.{Actor}, Core.{Inv}}
 
 -- ---- an image that was READ without a lock
 

@@ -2,26 +2,13 @@
 #![tactic(auto)]
 
 ghost use Rattle.std.specs.Prelude.{◌≡◌, ◌<◌, ◌≤◌, ◌++◌, ◌∷◌, [], ℕ, List, length, true, None, Some, slice_set};
-ghost use Rattle.sh_base.specs.Parts.{parts_of};
-ghost use Rattle.sh_base.specs.Setting.{all_seats};
-ghost use Rattle.sh_base.specs.Layout.{lock_of, compute_of};
-ghost use Rattle.sh_base.specs.Memory.{apply, found_by};
-ghost use Rattle.sh_base.specs.declared.event.Event.{Event};
-ghost use Rattle.sh_map.specs.declared.call.Call.{Call};
-ghost use Rattle.sh_map.specs.declared.log.Entry.{Entry};
-ghost use Rattle.sh_map.specs.Calls.{IsInRange};
+ghost use Rattle.sh_base.specs.{Parts.{parts_of}, Setting.{all_seats}, Layout.{lock_of, compute_of}, Memory.{apply, found_by}, declared.event.Event.{Event}};
+ghost use Rattle.sh_map.specs.{declared.{call.Call.{Call}, log.Entry.{Entry}}, Calls.{IsInRange}};
 ghost use Rattle.sh_image.specs.Laid.{AreLaid};
 ghost use Rattle.sh_decide.specs.declared.state.Aim.{Aim};
-ghost use Rattle.sh_client.specs.declared.state.Then.{Then};
+ghost use Rattle.sh_client.specs.{declared.state.{Then.{Then}, Phase.TheVariants.{Look, Leave, Ended}}, Giving.{makes}, Rests.{is_resting}, Wants.{want_of}};
 ghost use Rattle.sh_client.specs.declared.state.Want.TheVariants as want;
-ghost use Rattle.sh_client.specs.declared.state.Phase.TheVariants.{Look, Leave, Ended};
-ghost use Rattle.sh_client.specs.Giving.{makes};
-ghost use Rattle.sh_client.specs.Rests.{is_resting};
-ghost use Rattle.sh_client.specs.Wants.{want_of};
-ghost use Rattle.sh_core.specs.Actors.{Actor, actor_begun, rested, actor_stepped, actor_turned};
-ghost use Rattle.sh_core.specs.Core.{HasSeen, IsLocal};
-ghost use Rattle.sh_core.specs.Opening.{entered};
-ghost use Rattle.sh_core.specs.Listed.{HasAt, RightOut, OutAt, without, IsKept};
+ghost use Rattle.sh_core.specs.{Actors.{Actor, actor_begun, rested, actor_stepped, actor_turned}, Core.{HasSeen, IsLocal}, Opening.{entered}, Listed.{HasAt, RightOut, OutAt, without, IsKept}};
 
 mod senseless;
 

@@ -1,13 +1,10 @@
 // The senseless cases, which no client of a pool comes to.
 ghost use Rattle.std.specs.Prelude.{◌≡◌, ℕ, List, false};
-ghost use Rattle.sh_base.specs.Parts.{parts_of};
-ghost use Rattle.sh_base.specs.Memory.{found_by};
-ghost use Rattle.sh_base.specs.declared.event.Event.{Event};
+ghost use Rattle.sh_base.specs.{Parts.{parts_of}, Memory.{found_by}, declared.event.Event.{Event}};
 ghost use Rattle.sh_map.specs.declared.log.Entry.{Entry};
 ghost use Rattle.sh_client.specs.declared.state.Want.TheVariants as want;
 ghost use Rattle.sh_client.specs.Wants.{want_of};
-ghost use Rattle.sh_core.specs.Actors.{Actor};
-ghost use Rattle.sh_core.specs.Listed.{HasAt, RightOut, IsKept};
+ghost use Rattle.sh_core.specs.{Actors.{Actor}, Listed.{HasAt, RightOut, IsKept}};
 ghost use Rattle.sh_core_turns.specs.Senses.{is_senseless, AreAllCases};
 
 use sh_base::Config;

@@ -1,15 +1,10 @@
 -- Where the first entry with a key is, and whether no key stands twice.
 use Rattle.std.proofs.Common.{◌≡◌, ◌≢◌, ℕ, zero, suc, ◌+◌, ◌<◌, Bool, true, false, List, [], ◌∷◌, length, refl, sym, ap, ◌∙◌, inl, inr, arith}
-use Rattle.std.specs.Prelude.{◌==◌, ◌||◌, not, ◌↔◌, IsTrue, Some, None, slice_get}
-use Rattle.std.proofs.lemmas.Bool.{cases_eq, false≢true}
-use Rattle.std.proofs.lemmas.Option.{get_or_from_slice_get}
+use Rattle.std.{specs.Prelude.{◌==◌, ◌||◌, not, ◌↔◌, IsTrue, Some, None, slice_get}, proofs.lemmas.{Bool.{cases_eq, false≢true}, Option.{get_or_from_slice_get}}}
 use Rattle.sh_logic.proofs.Tests.{same_test, differ_test, and_true, or_false}
 use Rattle.sh_map.specs.declared.call.Reply.TheVariants as reply
-use Rattle.sh_edit.proofs.RoomLemmas.{once_head, once_tail}
+use Rattle.sh_edit.{proofs.{RoomLemmas.{once_head, once_tail}, HeldLemmas.{held_at, held_none}}, specs.{Held.{key_at, no_entry, HasKeysOnce}, Placing.{LacksKey, IsFirstWith}}}
 use Rattle.sh_image.specs.declared.leaf.LeafEntry.{LeafEntry}
-use Rattle.sh_edit.specs.Held.{key_at, no_entry, HasKeysOnce}
-use Rattle.sh_edit.specs.Placing.{LacksKey, IsFirstWith}
-use Rattle.sh_edit.proofs.HeldLemmas.{held_at, held_none}
 use Rattle.sh_decide.specs.Leaves.{leaf_answer, are_keys_once, has_leaf_key, index_from, index_of, reply_with}
 
 first_from : (n : ℕ) (es : List LeafEntry) (key i : ℕ) → IsFirstWith es key i → index_from n es key ≡ Some (n + i)

@@ -1,7 +1,5 @@
 -- Whether a pair has a separator, pair by pair.
-use Rattle.std.proofs.Common.{◌≡◌, ◌≢◌, ℕ, zero, suc, ◌+◌, ◌≤◌, true, false, List, [], ◌∷◌, length, drop, Some, refl, add-one, arith}
-use Rattle.std.specs.Prelude.{slice_get}
-use Rattle.std.proofs.lemmas.Bool.Decides.{nat_tests}
+use Rattle.std.{proofs.{Common.{◌≡◌, ◌≢◌, ℕ, zero, suc, ◌+◌, ◌≤◌, true, false, List, [], ◌∷◌, length, drop, Some, refl, add-one, arith}, lemmas.Bool.Decides.{nat_tests}}, specs.Prelude.{slice_get}}
 use Rattle.std.proofs.lemmas.Option.{slice_get_within}
 use Rattle.sh_image.specs.declared.inner.Pair.{Pair}
 use Rattle.sh_decide.specs.Deciding.{has_separator}

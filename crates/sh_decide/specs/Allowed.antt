@@ -1,19 +1,12 @@
 -- What a decision needs of the image that it is taken by, and where a way leads.
 use Rattle.std.specs.Prelude.{◌≡◌, ℕ, ◌-◌, ◌*◌, ◌^◌, ◌<◌, length}
-use Rattle.sh_base.specs.declared.config.ConfigParts.{ConfigParts}
-use Rattle.sh_base.specs.Setting.{last_entry_version, IsNode}
+use Rattle.sh_base.specs.{declared.config.ConfigParts.{ConfigParts}, Setting.{last_entry_version, IsNode}}
 use Rattle.sh_map.specs.declared.call.Call.{Call}
-use Rattle.sh_image.specs.declared.inner.Image.{Image}
-use Rattle.sh_image.specs.declared.inner.Image.TheVariants.{Leaf as LeafImage, Inner as InnerImage}
+use Rattle.sh_image.specs.declared.inner.Image.{Image, TheVariants.{Leaf as LeafImage, Inner as InnerImage}}
 use Rattle.sh_edit.specs.Splitting.{IsSplit}
-use Rattle.sh_decide.specs.declared.state.Aim.{Aim}
-use Rattle.sh_decide.specs.declared.state.Aim.TheVariants.{Own, Posts, Gathers}
-use Rattle.sh_decide.specs.declared.state.Way.{Way}
+use Rattle.sh_decide.specs.{declared.state.{Aim.{Aim, TheVariants.{Own, Posts, Gathers}}, Way.{Way}, Decision.{Decision}}, Aims.{written_key}, Leaves.{version_at}}
 use Rattle.sh_decide.specs.declared.state.Way.TheVariants as way
-use Rattle.sh_decide.specs.declared.state.Decision.{Decision}
 use Rattle.sh_decide.specs.declared.state.Decision.TheVariants as decision
-use Rattle.sh_decide.specs.Aims.{written_key}
-use Rattle.sh_decide.specs.Leaves.{version_at}
 
 -- a leaf that a put splits, or an inner node that a post splits
 abbrev pub CanSplit : ConfigParts → Call → Aim → Image → Type 0

@@ -1,23 +1,11 @@
 -- What an image that was READ under its lock leads to.
 use Rattle.std.specs.Prelude.{ℕ, ◌*◌, ◌==◌, ◌||◌, if◌then◌else◌, nat_lt, Bool, false, List, [], ◌∷◌, length, Option, Some, None}
-use Rattle.sh_base.specs.declared.config.ConfigParts.{ConfigParts}
-use Rattle.sh_base.specs.Setting.{last_version, last_entry_version}
-use Rattle.sh_map.specs.declared.call.Call.{Call}
-use Rattle.sh_map.specs.declared.call.Call.TheVariants.{Get, Put, Del, Range}
-use Rattle.sh_image.specs.Leaf.{Leaf}
-use Rattle.sh_image.specs.Inner.{Inner}
-use Rattle.sh_image.specs.declared.inner.Pair.{Pair}
-use Rattle.sh_image.specs.declared.inner.Image.{Image}
-use Rattle.sh_image.specs.declared.inner.Image.TheVariants.{Leaf as LeafImage, Inner as InnerImage}
-use Rattle.sh_descend.specs.Descent.{hop_of}
-use Rattle.sh_descend.specs.declared.Hop.{Hop}
-use Rattle.sh_descend.specs.declared.Hop.TheVariants.{Here, Right as HopRight, Down, Restart as HopRestart}
-use Rattle.sh_decide.specs.declared.state.Aim.{Aim}
-use Rattle.sh_decide.specs.declared.state.Aim.TheVariants.{Own, Posts, Gathers}
-use Rattle.sh_decide.specs.declared.state.Decision.{Decision}
-use Rattle.sh_decide.specs.declared.state.Decision.TheVariants.{Restart, Right, Absent, Entry, Rewrite, Worn, Split, Skip, Add}
-use Rattle.sh_decide.specs.Aims.{is_node, aimed_key, target}
-use Rattle.sh_decide.specs.Leaves.{are_keys_once, index_of, version_at}
+use Rattle.sh_base.specs.{declared.config.ConfigParts.{ConfigParts}, Setting.{last_version, last_entry_version}}
+use Rattle.sh_map.specs.declared.call.Call.{Call, TheVariants.{Get, Put, Del, Range}}
+use Rattle.sh_image.specs.{Leaf.{Leaf}, Inner.{Inner}, declared.inner.{Pair.{Pair}, Image.{Image, TheVariants.{Leaf as LeafImage, Inner as InnerImage}}}}
+use Rattle.sh_descend.specs.{Descent.{hop_of}, declared.Hop.{Hop, TheVariants.{Here, Right as HopRight, Down, Restart as HopRestart}}}
+use Rattle.sh_decide.specs.declared.state.{Aim.{Aim, TheVariants.{Own, Posts, Gathers}}, Decision.{Decision, TheVariants.{Restart, Right, Absent, Entry, Rewrite, Worn, Split, Skip, Add}}}
+use Rattle.sh_decide.specs.{Aims.{is_node, aimed_key, target}, Leaves.{are_keys_once, index_of, version_at}}
 
 -- an update that needs more than one entry is refused where the node's version is the last one
 abbrev pub unless_worn : ConfigParts → (version : ℕ) → Decision → Decision

@@ -1,17 +1,10 @@
 -- Where an image that was READ without a lock leads.
 use Rattle.std.specs.Prelude.{ℕ, ◌+◌, ◌==◌, ◌&&◌, if◌then◌else◌, Bool, true, false}
 use Rattle.sh_base.specs.declared.config.ConfigParts.{ConfigParts}
-use Rattle.sh_map.specs.declared.call.Call.{Call}
-use Rattle.sh_map.specs.declared.call.Call.TheVariants.{Get, Put, Del, Range}
-use Rattle.sh_image.specs.declared.inner.Image.{Image}
-use Rattle.sh_image.specs.declared.inner.Image.TheVariants.{Leaf as LeafImage, Inner as InnerImage}
-use Rattle.sh_descend.specs.Descent.{hop_of, level_of}
-use Rattle.sh_descend.specs.declared.Hop.{Hop}
-use Rattle.sh_descend.specs.declared.Hop.TheVariants.{Here, Right as HopRight, Down, Restart}
-use Rattle.sh_decide.specs.declared.state.Aim.{Aim}
-use Rattle.sh_decide.specs.declared.state.Aim.TheVariants.{Own, Posts, Gathers}
-use Rattle.sh_decide.specs.declared.state.Way.{Way}
-use Rattle.sh_decide.specs.declared.state.Way.TheVariants.{Root, Read, Right, Lock, LockRight, Grow, Found, Rows}
+use Rattle.sh_map.specs.declared.call.Call.{Call, TheVariants.{Get, Put, Del, Range}}
+use Rattle.sh_image.specs.declared.inner.Image.{Image, TheVariants.{Leaf as LeafImage, Inner as InnerImage}}
+use Rattle.sh_descend.specs.{Descent.{hop_of, level_of}, declared.Hop.{Hop, TheVariants.{Here, Right as HopRight, Down, Restart}}}
+use Rattle.sh_decide.specs.declared.state.{Aim.{Aim, TheVariants.{Own, Posts, Gathers}}, Way.{Way, TheVariants.{Root, Read, Right, Lock, LockRight, Grow, Found, Rows}}}
 use Rattle.sh_decide.specs.Aims.{is_node, aimed_key, takes_lock, target}
 
 -- the root that was READ is a level too low for the post: a new root goes over it

@@ -1,10 +1,8 @@
 // What a client is after.
 ghost use Rattle.std.specs.Prelude.{◌≡◌, ◌+◌, ◌==◌, IsTrue, MatchOption, false, length, replicate, true};
-ghost use Rattle.sh_base.specs.Parts.{parts_of};
-ghost use Rattle.sh_base.specs.Setting.{IsNode};
+ghost use Rattle.sh_base.specs.{Parts.{parts_of}, Setting.{IsNode}};
 ghost use Rattle.sh_map.specs.Calls.{IsInRange};
-ghost use Rattle.sh_decide.specs.declared.state.Aim.TheVariants.{Own};
-ghost use Rattle.sh_decide.specs.Aims.{aim_of, aimed_key, call_key, end_of, is_node, takes_lock, target, written_key, written_value};
+ghost use Rattle.sh_decide.specs.{declared.state.Aim.TheVariants.{Own}, Aims.{aim_of, aimed_key, call_key, end_of, is_node, takes_lock, target, written_key, written_value}};
 
 use crate::Aim;
 use sh_base::{Config, Value};

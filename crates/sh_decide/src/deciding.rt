@@ -2,20 +2,11 @@
 ghost use Rattle.std.specs.Prelude.{◌≡◌, ◌≢◌, ◌*◌, ◌<◌, ◌≤◌, length};
 ghost use Rattle.sh_base.specs.Parts.{parts_of};
 ghost use Rattle.sh_edit.specs.Held.{HasKeysOnce};
-ghost use Rattle.sh_image.specs.Node.{IsImage};
-ghost use Rattle.sh_image.specs.Inner.{IsInner};
-ghost use Rattle.sh_image.specs.Leaf.{IsLeaf};
-ghost use Rattle.sh_image.specs.declared.inner.Image.TheVariants.{Leaf as OfLeaf, Inner as OfInner};
-ghost use Rattle.sh_map.specs.Calls.{IsInRange};
-ghost use Rattle.sh_map.specs.declared.call.Call.{Call};
-ghost use Rattle.sh_decide.specs.declared.state.Aim.{Aim};
-ghost use Rattle.sh_decide.specs.declared.state.Aim.TheVariants.{Own, Posts};
-ghost use Rattle.sh_decide.specs.Aims.{written_key};
-ghost use Rattle.sh_decide.specs.Leaves.{index_of};
-ghost use Rattle.sh_decide.specs.declared.state.Posting.{Posting};
+ghost use Rattle.sh_image.specs.{Node.{IsImage}, Inner.{IsInner}, Leaf.{IsLeaf}, declared.inner.Image.TheVariants.{Leaf as OfLeaf, Inner as OfInner}};
+ghost use Rattle.sh_map.specs.{Calls.{IsInRange}, declared.call.Call.{Call}};
+ghost use Rattle.sh_decide.specs.{declared.state.{Aim.{Aim, TheVariants.{Own, Posts}}, Posting.{Posting}}, Aims.{written_key}, Leaves.{index_of}};
+ghost use Rattle.sh_decide.specs.{Deciding.{change_at, decided_by, decided_here, decision_of, del_in, has_separator, post_in, put_in, update_in}, Allowed.{Allows}};
 ghost use Rattle.sh_descend.specs.declared.Hop.TheVariants.{Right as HopRight};
-ghost use Rattle.sh_decide.specs.Deciding.{change_at, decided_by, decided_here, decision_of, del_in, has_separator, post_in, put_in, update_in};
-ghost use Rattle.sh_decide.specs.Allowed.{Allows};
 
 use crate::aims::is_node;
 use crate::leaves::{are_once, index};

@@ -1,7 +1,6 @@
 // What a leaf answers to a key.
 ghost use Rattle.std.specs.Prelude.{◌≡◌, ◌<◌, IsTrue, MatchOption, length};
-ghost use Rattle.sh_edit.specs.Held.{HasKeysOnce};
-ghost use Rattle.sh_edit.specs.Placing.{LacksKey};
+ghost use Rattle.sh_edit.specs.{Held.{HasKeysOnce}, Placing.{LacksKey}};
 ghost use Rattle.sh_decide.specs.Leaves.{leaf_answer, are_keys_once, index_of};
 
 use sh_edit::{find, keys_differ};

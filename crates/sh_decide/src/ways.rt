@@ -1,14 +1,9 @@
 // Where an image that was READ without a lock leads.
 ghost use Rattle.std.specs.Prelude.{◌≡◌};
-ghost use Rattle.sh_base.specs.Parts.{parts_of};
-ghost use Rattle.sh_base.specs.Setting.{IsNode};
-ghost use Rattle.sh_descend.specs.Descent.{hop_of, level_of};
+ghost use Rattle.sh_base.specs.{Parts.{parts_of}, Setting.{IsNode}};
+ghost use Rattle.sh_descend.specs.{Descent.{hop_of, level_of}, declared.Hop.TheVariants.{Right as HopRight, Down as HopDown}};
 ghost use Rattle.sh_image.specs.Node.{IsImage};
-ghost use Rattle.sh_decide.specs.declared.state.Aim.TheVariants.{Own};
-ghost use Rattle.sh_descend.specs.declared.Hop.TheVariants.{Right as HopRight, Down as HopDown};
-ghost use Rattle.sh_decide.specs.Aims.{aimed_key, target};
-ghost use Rattle.sh_decide.specs.Ways.{found_in, is_below, leads_right, rows_in, way_by, way_here, way_of};
-ghost use Rattle.sh_decide.specs.Allowed.{Leads};
+ghost use Rattle.sh_decide.specs.{declared.state.Aim.TheVariants.{Own}, Aims.{aimed_key, target}, Ways.{found_in, is_below, leads_right, rows_in, way_by, way_here, way_of}, Allowed.{Leads}};
 
 use crate::aims::{aimed_key, is_next, is_node, takes_lock, target};
 use crate::{Aim, Way};

@@ -1,20 +1,10 @@
 -- The child that a hop down leads to, pair by pair.
 use Rattle.std.proofs.Common.{◌≡◌, ℕ, zero, suc, ◌+◌, ◌<◌, ◌≤◌, Bool, true, false, List, [], ◌∷◌, length, drop, Some, refl, ap, sym, subst, add-one, inl, inr, arith}
-use Rattle.std.specs.Prelude.{slice_get, ◌==◌, ◌||◌, nat_lt, nat_le, if◌then◌else◌}
-use Rattle.std.proofs.lemmas.Bool.{cases_lt}
-use Rattle.std.proofs.lemmas.Bool.Decides.{nat_tests}
-use Rattle.std.proofs.lemmas.Option.{slice_get_within}
-use Rattle.sh_logic.proofs.Lists.{all_at}
-use Rattle.sh_logic.proofs.Tests.{less_test, not_less_test}
-use Rattle.sh_base.specs.declared.config.ConfigParts.{ConfigParts}
-use Rattle.sh_base.specs.Setting.{IsNode}
-use Rattle.sh_image.specs.declared.inner.Image.{Image}
-use Rattle.sh_image.specs.declared.inner.Image.TheVariants.{Leaf as LeafImage, Inner as InnerImage}
-use Rattle.sh_image.specs.declared.inner.Pair.{Pair}
-use Rattle.sh_image.specs.Inner.{no_pair, separator_at, HasChild, Inner, IsInner}
-use Rattle.sh_descend.specs.declared.Hop.{Hop}
-use Rattle.sh_descend.specs.declared.Hop.TheVariants.{Here, Right, Down, Restart}
-use Rattle.sh_descend.specs.Descent.{child_from, child_of, hop_of, image_pairs, Covers, HasSortedPairs, IsSorted}
+use Rattle.std.{specs.Prelude.{slice_get, ◌==◌, ◌||◌, nat_lt, nat_le, if◌then◌else◌}, proofs.lemmas.{Bool.{cases_lt, Decides.{nat_tests}}, Option.{slice_get_within}}}
+use Rattle.sh_logic.proofs.{Lists.{all_at}, Tests.{less_test, not_less_test}}
+use Rattle.sh_base.specs.{declared.config.ConfigParts.{ConfigParts}, Setting.{IsNode}}
+use Rattle.sh_image.specs.{declared.inner.{Image.{Image, TheVariants.{Leaf as LeafImage, Inner as InnerImage}}, Pair.{Pair}}, Inner.{no_pair, separator_at, HasChild, Inner, IsInner}}
+use Rattle.sh_descend.specs.{declared.Hop.{Hop, TheVariants.{Here, Right, Down, Restart}}, Descent.{child_from, child_of, hop_of, image_pairs, Covers, HasSortedPairs, IsSorted}}
 
 child_skip : (ps : List Pair) (at : ℕ) (x : Pair) (child key : ℕ) → slice_get ps at ≡ Some x → x.separator ≤ key → child_from child (drop at ps) key ≡ child_from x.child (drop (suc at) ps) key
 child_skip [] at x child key is low = absurd (omega (arith, slice_get_within [] at x is))

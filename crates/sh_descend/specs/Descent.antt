@@ -1,11 +1,7 @@
 -- Where a client goes from the image of a node, on its way to the node of a level that covers a key.
 use Rattle.std.specs.Prelude.{◌≡◌, ℕ, ◌+◌, ◌<◌, ◌≤◌, ◌==◌, ◌||◌, if◌then◌else◌, nat_le, nat_lt, List, [], ◌∷◌, length, slice_index_or}
-use Rattle.sh_image.specs.declared.inner.Image.{Image}
-use Rattle.sh_image.specs.declared.inner.Image.TheVariants.{Leaf as LeafImage, Inner as InnerImage}
-use Rattle.sh_image.specs.declared.inner.Pair.{Pair}
-use Rattle.sh_image.specs.Inner.{no_pair, separator_at}
-use Rattle.sh_descend.specs.declared.Hop.{Hop}
-use Rattle.sh_descend.specs.declared.Hop.TheVariants.{Here, Right, Down, Restart}
+use Rattle.sh_image.specs.{declared.inner.{Image.{Image, TheVariants.{Leaf as LeafImage, Inner as InnerImage}}, Pair.{Pair}}, Inner.{no_pair, separator_at}}
+use Rattle.sh_descend.specs.declared.Hop.{Hop, TheVariants.{Here, Right, Down, Restart}}
 
 -- a node's level: leaves have level 0
 abbrev pub level_of : Image → ℕ

@@ -2,10 +2,8 @@
 #![tactic(auto)]
 
 ghost use Rattle.std.specs.Prelude.{◌≡◌, ◌∷◌, [], ℕ};
-ghost use Rattle.sh_image.specs.Inner.{Inner};
-ghost use Rattle.sh_image.specs.declared.inner.Image.{Image};
-ghost use Rattle.sh_descend.specs.Descent.{child_of, high_of, hop_of, level_of, low_of, next_of, image_pairs, Covers, HasSortedPairs};
-ghost use Rattle.sh_descend.specs.declared.Hop.TheVariants.{Down};
+ghost use Rattle.sh_image.specs.{Inner.{Inner}, declared.inner.Image.{Image}};
+ghost use Rattle.sh_descend.specs.{Descent.{child_of, high_of, hop_of, level_of, low_of, next_of, image_pairs, Covers, HasSortedPairs}, declared.Hop.TheVariants.{Down}};
 
 use sh_image::{Image, InnerImage};
 

@@ -1,26 +1,14 @@
 -- A leaf with one entry written holds the put or the del, keeps its keys apart, meets the rules, and has its words from
 -- before but for that entry's.
 use Rattle.std.proofs.Common.{◌≡◌, ◌≢◌, ℕ, zero, suc, ◌+◌, ◌*◌, ◌<◌, List, [], ◌∷◌, ◌++◌, length, set, take, drop, inl, inr, refl, sym, ap, ◌∙◌, append_assoc, arith}
-use Rattle.std.proofs.Math.Seq.{take-append-add, drop-append-add}
-use Rattle.std.proofs.lemmas.Bool.{cases_lt}
-use Rattle.std.proofs.lemmas.List.{drop_at, length-set}
-use Rattle.std.specs.List.{flat_map, AllByRecursion}
+use Rattle.std.{proofs.{Math.Seq.{take-append-add, drop-append-add}, lemmas.{Bool.{cases_lt}, List.{drop_at, length-set}}}, specs.List.{flat_map, AllByRecursion}}
 use Rattle.sh_logic.proofs.Lists.{all_set}
-use Rattle.sh_base.specs.declared.config.ConfigParts.{ConfigParts}
-use Rattle.sh_base.specs.Setting.{entry_size}
-use Rattle.sh_base.specs.Layout.{entry_at}
-use Rattle.sh_base.proofs.LayoutLemmas.{entry_at_by_words, entry_size_is}
+use Rattle.sh_base.{specs.{declared.config.ConfigParts.{ConfigParts}, Setting.{entry_size}, Layout.{entry_at}}, proofs.LayoutLemmas.{entry_at_by_words, entry_size_is}}
 use Rattle.sh_map.specs.Map.{put, del}
-use Rattle.sh_image.specs.declared.leaf.LeafEntry.{LeafEntry}
-use Rattle.sh_image.specs.Entries.{entry_words}
-use Rattle.sh_image.specs.Leaf.{Leaf, header, leaf_words, IsEntry, IsLeaf}
-use Rattle.sh_image.proofs.EntriesLemmas.{length-entry_words}
+use Rattle.sh_image.{specs.{declared.leaf.LeafEntry.{LeafEntry}, Entries.{entry_words}, Leaf.{Leaf, header, leaf_words, IsEntry, IsLeaf}}, proofs.EntriesLemmas.{length-entry_words}}
 use Rattle.sh_image.proofs.LeafLemmas.{values_of}
-use Rattle.sh_edit.specs.Held.{map_of_entries, key_at, HasKeysOnce}
-use Rattle.sh_edit.specs.Placing.{IsFirstWith, IsPlaceFor}
-use Rattle.sh_edit.specs.Rewriting.{rewritten, with_entry}
-use Rattle.sh_edit.proofs.HeldLemmas.{over_is_put, new_is_put, removed_is_del, once-set}
-use Rattle.sh_edit.proofs.RewriteLemmas.{rewritten_once}
+use Rattle.sh_edit.specs.{Held.{map_of_entries, key_at, HasKeysOnce}, Placing.{IsFirstWith, IsPlaceFor}, Rewriting.{rewritten, with_entry}}
+use Rattle.sh_edit.proofs.{HeldLemmas.{over_is_put, new_is_put, removed_is_del, once-set}, RewriteLemmas.{rewritten_once}}
 
 -- no other entry has the key that is put at its place
 module _ (es : List LeafEntry) (key i : ℕ) (once : HasKeysOnce es) (at : IsPlaceFor es key i) where

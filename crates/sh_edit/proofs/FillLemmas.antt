@@ -1,8 +1,7 @@
 -- Pairs that are written from entry 0 on.
 use Rattle.std.proofs.Common.{◌≡◌, ℕ, zero, suc, ◌+◌, ◌-◌, ◌<◌, ◌≤◌, List, [], ◌∷◌, ◌++◌, length, get_or, set, take, drop, map, replicate, refl, sym, ap, ◌∙◌, length-append, arith}
 use Rattle.std.proofs.lemmas.List.{take-map, drop-map, drop-replicate, take_all, get_or-map, length-take-le, length-drop, length-map}
-use Rattle.sh_image.specs.declared.leaf.LeafEntry.{LeafEntry}
-use Rattle.sh_image.specs.Leaf.{Leaf}
+use Rattle.sh_image.specs.{declared.leaf.LeafEntry.{LeafEntry}, Leaf.{Leaf}}
 use Rattle.sh_edit.specs.Splitting.{entry_with, entries_from, pairs_after, left_count, pair_after, separator_of}
 
 suc_is : (n : ℕ) → suc n ≡ n + 1

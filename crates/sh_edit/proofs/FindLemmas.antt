@@ -1,12 +1,8 @@
 -- A scan of the keys is a scan of the entries.
-use Rattle.std.proofs.Common.{◌≡◌, ℕ, zero, suc, List, [], ◌∷◌, length, refl, sym, ◌∙◌, arith}
-use Rattle.std.specs.Prelude.{slice_index}
-use Rattle.std.proofs.lemmas.List.{length-map}
+use Rattle.std.{proofs.{Common.{◌≡◌, ℕ, zero, suc, List, [], ◌∷◌, length, refl, sym, ◌∙◌, arith}, lemmas.List.{length-map}}, specs.Prelude.{slice_index}}
 use Rattle.sh_lanes.specs.Scans.{IsFirst, LacksWord}
-use Rattle.sh_image.specs.declared.leaf.LeafEntry.{LeafEntry}
-use Rattle.sh_image.specs.Entries.{keys_of}
-use Rattle.sh_edit.specs.Held.{key_at}
-use Rattle.sh_edit.specs.Placing.{IsFirstWith, LacksKey}
+use Rattle.sh_image.specs.{declared.leaf.LeafEntry.{LeafEntry}, Entries.{keys_of}}
+use Rattle.sh_edit.specs.{Held.{key_at}, Placing.{IsFirstWith, LacksKey}}
 
 pub key_of_keys : (es : List LeafEntry) (i : ℕ) → slice_index (keys_of es) i ≡ key_at es i
 key_of_keys [] i = refl

@@ -1,22 +1,12 @@
 -- The halves of a lawful leaf are lawful, and keep their keys apart.
 use Rattle.std.proofs.Common.{◌≡◌, ◌≢◌, ◌⊎◌, ℕ, zero, suc, ◌+◌, ◌-◌, ◌<◌, ◌≤◌, ◌^◌, List, [], ◌∷◌, ◌++◌, length, take, drop, map, replicate, inl, inr, refl, sym, ap, ◌∙◌, get_or, arith}
-use Rattle.std.specs.Prelude.{T}
-use Rattle.std.specs.List.{AllByRecursion}
-use Rattle.std.specs.Ordering.{nat_cmp}
-use Rattle.std.specs.FinMap.{is_sorted, entries_sorted}
-use Rattle.std.specs.FinMap.Entries.{below_all}
-use Rattle.std.proofs.lemmas.Bool.{cases_eq, eq-eqb}
+use Rattle.std.{specs.{Prelude.{T}, List.{AllByRecursion}, Ordering.{nat_cmp}, FinMap.{is_sorted, entries_sorted, Entries.{below_all}}}, proofs.lemmas.Bool.{cases_eq, eq-eqb}}
 use Rattle.std.proofs.lemmas.List.{length-map, length-replicate, length-take-le, length-drop, length-append}
-use Rattle.sh_logic.proofs.Lists.{all_take, all_drop, all_weaker}
-use Rattle.sh_logic.proofs.Tests.{differ_test, first, second}
-use Rattle.sh_base.specs.declared.config.ConfigParts.{ConfigParts}
-use Rattle.sh_base.specs.Setting.{nodes, last_version}
-use Rattle.sh_map.specs.Map.{put}
-use Rattle.sh_map.proofs.RowsLemmas.{less}
-use Rattle.sh_image.specs.declared.leaf.LeafEntry.{LeafEntry}
-use Rattle.sh_image.specs.Leaf.{Leaf, IsEntry, IsLeaf}
-use Rattle.sh_edit.specs.Held.{pairs_of, map_of_entries, HasKeysOnce}
-use Rattle.sh_edit.specs.Placing.{LacksKey}
+use Rattle.sh_logic.proofs.{Lists.{all_take, all_drop, all_weaker}, Tests.{differ_test, first, second}}
+use Rattle.sh_base.specs.{declared.config.ConfigParts.{ConfigParts}, Setting.{nodes, last_version}}
+use Rattle.sh_map.{specs.Map.{put}, proofs.RowsLemmas.{less}}
+use Rattle.sh_image.specs.{declared.leaf.LeafEntry.{LeafEntry}, Leaf.{Leaf, IsEntry, IsLeaf}}
+use Rattle.sh_edit.specs.{Held.{pairs_of, map_of_entries, HasKeysOnce}, Placing.{LacksKey}}
 use Rattle.sh_edit.specs.Splitting.{empty_like, entry_with, entries_from, pairs_after, left_count, separator_of, left_half, right_half}
 use Rattle.sh_edit.proofs.SplitLemmas.{all_after, all_at, pair_above, are_keys, length-pairs_after, left_below, right_from, some_right}
 

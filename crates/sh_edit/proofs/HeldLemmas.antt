@@ -1,18 +1,11 @@
 -- What a leaf holds after one entry is set.
 use Rattle.std.proofs.Common.{◌≤◌, ◌≡◌, ◌≢◌, ◌⊎◌, ℕ, zero, suc, ◌<◌, Bool, false, cond, eqb, List, [], ◌∷◌, length, get_or, set, Some, None, refl, sym, ap, ◌∙◌, inl, inr, arith}
-use Rattle.std.proofs.lemmas.Bool.{cases_lt, cases_eq, eq-eqb}
-use Rattle.std.proofs.lemmas.Bool.Decides.{nat_tests}
-use Rattle.std.proofs.lemmas.List.{get_or-set_same, get_or-set_other, length-set}
-use Rattle.std.specs.List.{AllByRecursion}
-use Rattle.std.specs.Ordering.{nat_cmp, eq_by_cmp}
-use Rattle.std.specs.Cmp.{nat_cmp_total}
-use Rattle.std.specs.FinMap.{find, get-from_entries}
+use Rattle.std.{proofs.lemmas.{Bool.{cases_lt, cases_eq, eq-eqb, Decides.{nat_tests}}, List.{get_or-set_same, get_or-set_other, length-set}}, specs.List.{AllByRecursion}}
+use Rattle.std.specs.{Ordering.{nat_cmp, eq_by_cmp}, Cmp.{nat_cmp_total}, FinMap.{find, get-from_entries}}
 use Rattle.sh_logic.proofs.Tests.{differ_test}
-use Rattle.sh_map.specs.Map.{get, put, del}
-use Rattle.sh_map.proofs.MapLemmas.{is_put, is_del, apart_test, same_test}
+use Rattle.sh_map.{specs.Map.{get, put, del}, proofs.MapLemmas.{is_put, is_del, apart_test, same_test}}
 use Rattle.sh_image.specs.declared.leaf.LeafEntry.{LeafEntry}
-use Rattle.sh_edit.specs.Held.{pairs_of, held, map_of_entries, no_entry, key_at, HasKeysOnce}
-use Rattle.sh_edit.specs.Placing.{IsFirstWith, LacksKey}
+use Rattle.sh_edit.specs.{Held.{pairs_of, held, map_of_entries, no_entry, key_at, HasKeysOnce}, Placing.{IsFirstWith, LacksKey}}
 
 -- a test by the order is a test of equality, either way round
 test_is : (q k : ℕ) → eq_by_cmp nat_cmp q k ≡ eqb k q

@@ -1,14 +1,9 @@
 -- Pairs of an inner node with a new one, by their indexes.
 use Rattle.std.proofs.Common.{◌≡◌, ℕ, zero, suc, ◌+◌, ◌-◌, ◌<◌, ◌≤◌, true, false, List, [], ◌∷◌, ◌++◌, length, get_or, take, drop, Some, refl, sym, ap, ◌∙◌, append_assoc, length-append, arith}
-use Rattle.std.specs.Prelude.{nat_lt, slice_get}
-use Rattle.std.specs.List.{insert}
-use Rattle.std.proofs.lemmas.Bool.Decides.{nat_tests}
-use Rattle.std.proofs.lemmas.Option.{slice_get-get_or, get_or_from_slice_get}
-use Rattle.std.proofs.lemmas.List.{take_more, take_all, get_or-drop, length-drop, length-take-le, append-nil}
-use Rattle.std.proofs.lemmas.List.Edits.{length-insert, get_or-insert_at, get_or-insert_below, get_or-insert_above}
+use Rattle.std.{specs.{Prelude.{nat_lt, slice_get}, List.{insert}}, proofs.lemmas.{Bool.Decides.{nat_tests}, Option.{slice_get-get_or, get_or_from_slice_get}}}
+use Rattle.std.proofs.lemmas.List.{take_more, take_all, get_or-drop, length-drop, length-take-le, append-nil, Edits.{length-insert, get_or-insert_at, get_or-insert_below, get_or-insert_above}}
 use Rattle.sh_logic.proofs.Tests.{less_test, not_less_test}
-use Rattle.sh_image.specs.declared.inner.Pair.{Pair}
-use Rattle.sh_image.specs.Inner.{Inner, separator_at, no_pair}
+use Rattle.sh_image.specs.{declared.inner.Pair.{Pair}, Inner.{Inner, separator_at, no_pair}}
 use Rattle.sh_edit.specs.Pairing.{pairs_with, IsGapAt}
 
 -- a pair put in at its gap

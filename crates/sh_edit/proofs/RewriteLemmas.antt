@@ -1,18 +1,11 @@
 -- A rewritten leaf meets the rules, keeps its keys apart, and holds the put or the del.
-use Rattle.std.proofs.Common.{◌≡◌, ◌≢◌, ◌⊎◌, ℕ, zero, suc, ◌<◌, ◌≤◌, List, [], ◌∷◌, length, map, set, replicate, refl, sym, ap, ◌∙◌, arith}
-use Rattle.std.specs.Prelude.{◌==◌, if◌then◌else◌}
-use Rattle.std.proofs.lemmas.List.{length-map, length-set}
-use Rattle.std.specs.List.{AllByRecursion}
-use Rattle.std.specs.FinMap.{from_entries}
+use Rattle.std.{proofs.Common.{◌≡◌, ◌≢◌, ◌⊎◌, ℕ, zero, suc, ◌<◌, ◌≤◌, List, [], ◌∷◌, length, map, set, replicate, refl, sym, ap, ◌∙◌, arith}, specs.Prelude.{◌==◌, if◌then◌else◌}}
+use Rattle.std.{proofs.lemmas.List.{length-map, length-set}, specs.{List.{AllByRecursion}, FinMap.{from_entries}}}
 use Rattle.sh_logic.proofs.Lists.{all_set}
-use Rattle.sh_base.specs.declared.config.ConfigParts.{ConfigParts}
-use Rattle.sh_base.specs.Setting.{last_version}
+use Rattle.sh_base.specs.{declared.config.ConfigParts.{ConfigParts}, Setting.{last_version}}
 use Rattle.sh_map.specs.Map.{put, del}
-use Rattle.sh_image.specs.declared.leaf.LeafEntry.{LeafEntry}
-use Rattle.sh_image.specs.Leaf.{Leaf, IsEntry, IsLeaf}
-use Rattle.sh_edit.specs.Held.{pairs_of, map_of_entries, key_at, HasKeysOnce}
-use Rattle.sh_edit.specs.Placing.{IsFirstWith, LacksKey}
-use Rattle.sh_edit.specs.Rewriting.{cleared, rewritten}
+use Rattle.sh_image.specs.{declared.leaf.LeafEntry.{LeafEntry}, Leaf.{Leaf, IsEntry, IsLeaf}}
+use Rattle.sh_edit.specs.{Held.{pairs_of, map_of_entries, key_at, HasKeysOnce}, Placing.{IsFirstWith, LacksKey}, Rewriting.{cleared, rewritten}}
 use Rattle.sh_edit.proofs.HeldLemmas.{over_is_put, new_is_put, removed_is_del, once-set}
 
 pairs_of-cleared : (es : List LeafEntry) → pairs_of (map cleared es) ≡ pairs_of es

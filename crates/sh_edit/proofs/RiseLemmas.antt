@@ -1,15 +1,10 @@
 -- Inner nodes that pairs were added to, and their halves, meet the rules and keep all pairs.
 use Rattle.std.proofs.Common.{◌≡◌, ℕ, zero, suc, ◌+◌, ◌-◌, ◌*◌, ◌<◌, ◌≤◌, ◌^◌, List, [], ◌∷◌, length, take, drop, inl, inr, refl, subst, arith}
-use Rattle.std.specs.List.{AllByRecursion}
-use Rattle.std.specs.List.Sorted.{IsPermutation}
-use Rattle.std.proofs.lemmas.Bool.{cases_lt}
-use Rattle.std.proofs.lemmas.List.{length-take-le, length-drop}
+use Rattle.std.{specs.List.{AllByRecursion, Sorted.{IsPermutation}}, proofs.lemmas.{Bool.{cases_lt}, List.{length-take-le, length-drop}}}
 use Rattle.std.proofs.lemmas.List.Sorted.{IsPermutation-refl, IsPermutation-cons, IsPermutation-trans, IsPermutation-swap}
 use Rattle.sh_logic.proofs.Tests.{less_test, not_less_test}
-use Rattle.sh_base.specs.declared.config.ConfigParts.{ConfigParts}
-use Rattle.sh_base.specs.Setting.{nodes, last_version}
-use Rattle.sh_image.specs.declared.inner.Pair.{Pair}
-use Rattle.sh_image.specs.Inner.{Inner, IsInner, AreSeparators, HasChild, separator_at}
+use Rattle.sh_base.specs.{declared.config.ConfigParts.{ConfigParts}, Setting.{nodes, last_version}}
+use Rattle.sh_image.specs.{declared.inner.Pair.{Pair}, Inner.{Inner, IsInner, AreSeparators, HasChild, separator_at}}
 use Rattle.sh_edit.specs.Pairing.{IsNewSeparator, pairs_with, with_pair, middle_of, left_inner, right_inner, root_over}
 
 -- pairs with rising separators, all above one

@@ -1,17 +1,10 @@
 -- A leaf without a key twice has room exactly where its map has fewer keys than it has entries.
-use Rattle.std.proofs.Common.{◌≡◌, ◌≢◌, ℕ, zero, suc, ◌+◌, ◌<◌, ◌≤◌, Bool, true, false, cond, List, [], ◌∷◌, length, refl, sym, ap, ◌∙◌, inl, inr, None, arith}
-use Rattle.std.specs.Prelude.{nat_lt, is_some}
-use Rattle.std.proofs.lemmas.Bool.{cases_eq, eq-eqb}
-use Rattle.std.proofs.lemmas.Bool.Decides.{nat_tests}
-use Rattle.std.specs.Ordering.{nat_cmp}
-use Rattle.std.specs.Cmp.{nat_cmp_total}
-use Rattle.std.specs.FinMap.{len-insert, len-empty}
+use Rattle.std.{proofs.Common.{◌≡◌, ◌≢◌, ℕ, zero, suc, ◌+◌, ◌<◌, ◌≤◌, Bool, true, false, cond, List, [], ◌∷◌, length, refl, sym, ap, ◌∙◌, inl, inr, None, arith}, specs.Prelude.{nat_lt, is_some}}
+use Rattle.std.{proofs.lemmas.Bool.{cases_eq, eq-eqb, Decides.{nat_tests}}, specs.{Ordering.{nat_cmp}, Cmp.{nat_cmp_total}, FinMap.{len-insert, len-empty}}}
 use Rattle.sh_logic.proofs.Tests.{differ_test}
 use Rattle.sh_map.specs.Map.{get, size}
 use Rattle.sh_image.specs.declared.leaf.LeafEntry.{LeafEntry}
-use Rattle.sh_edit.specs.Held.{pairs_of, has_room, map_of_entries, key_at, HasKeysOnce}
-use Rattle.sh_edit.specs.Placing.{LacksKey}
-use Rattle.sh_edit.proofs.HeldLemmas.{get-map_of_entries, held_none}
+use Rattle.sh_edit.{specs.{Held.{pairs_of, has_room, map_of_entries, key_at, HasKeysOnce}, Placing.{LacksKey}}, proofs.HeldLemmas.{get-map_of_entries, held_none}}
 
 pub once_tail : (e : LeafEntry) (es : List LeafEntry) → HasKeysOnce (e ∷ es) → HasKeysOnce es
 once_tail e es once i j less below same = once (suc i) (suc j) (omega arith) (omega arith) same

@@ -1,27 +1,13 @@
 -- The halves of a split hold the put, each key on its side of the separator, and meet the rules.
 use Rattle.std.proofs.Common.{◌≡◌, ◌≢◌, ℕ, zero, suc, ◌+◌, ◌-◌, ◌<◌, ◌≤◌, true, cond, List, [], ◌∷◌, ◌++◌, length, take, drop, map, replicate, Some, None, inl, inr, refl, sym, ap, subst, ◌∙◌, get_or, Less, Equal, Greater, arith}
-use Rattle.std.specs.Prelude.{T, is_some}
-use Rattle.std.specs.List.{AllByRecursion}
-use Rattle.std.specs.Ordering.{nat_cmp, eq_by_cmp}
-use Rattle.std.specs.Cmp.{nat_cmp_total}
+use Rattle.std.specs.{Prelude.{T, is_some}, List.{AllByRecursion}, Ordering.{nat_cmp, eq_by_cmp}, Cmp.{nat_cmp_total}}
 use Rattle.std.specs.FinMap.{find, entries, from_entries, get-entries, get-from_entries, is_sorted, entries_sorted, len-entries, len-insert, len-empty, entries-insert}
-use Rattle.std.specs.FinMap.Entries.{below_all, by_order, put as put_pair}
-use Rattle.std.proofs.lemmas.Cmp.{ranked}
-use Rattle.std.proofs.lemmas.Bool.{cases_eq, eq-eqb}
-use Rattle.std.proofs.lemmas.List.{take-append-drop}
-use Rattle.sh_logic.proofs.Lists.{all_take, all_drop, all_weaker}
-use Rattle.sh_logic.proofs.Options.{some_none}
-use Rattle.sh_logic.proofs.Lookups.{find_past, find_before}
-use Rattle.sh_logic.proofs.Tests.{differ_test, first, second}
-use Rattle.sh_map.specs.Map.{Map, get, put, size}
-use Rattle.sh_map.proofs.MapLemmas.{same_by_keys, same_test, apart_test, get-put_other}
-use Rattle.sh_map.proofs.RowsLemmas.{less}
-use Rattle.sh_image.specs.declared.leaf.LeafEntry.{LeafEntry}
-use Rattle.sh_image.specs.Leaf.{Leaf}
-use Rattle.sh_edit.specs.Held.{pairs_of, map_of_entries, HasKeysOnce}
-use Rattle.sh_edit.specs.Placing.{LacksKey}
-use Rattle.sh_edit.specs.Splitting.{empty_like, entry_with, entries_from, pairs_after, left_count, separator_of, left_half, right_half}
-use Rattle.sh_edit.proofs.HeldLemmas.{get-zero, get-map_of_entries, held_none}
+use Rattle.std.{specs.FinMap.Entries.{below_all, by_order, put as put_pair}, proofs.lemmas.{Cmp.{ranked}, Bool.{cases_eq, eq-eqb}, List.{take-append-drop}}}
+use Rattle.sh_logic.proofs.{Lists.{all_take, all_drop, all_weaker}, Options.{some_none}, Lookups.{find_past, find_before}, Tests.{differ_test, first, second}}
+use Rattle.sh_map.{specs.Map.{Map, get, put, size}, proofs.{MapLemmas.{same_by_keys, same_test, apart_test, get-put_other}, RowsLemmas.{less}}}
+use Rattle.sh_image.specs.{declared.leaf.LeafEntry.{LeafEntry}, Leaf.{Leaf}}
+use Rattle.sh_edit.specs.{Held.{pairs_of, map_of_entries, HasKeysOnce}, Placing.{LacksKey}}
+use Rattle.sh_edit.{specs.Splitting.{empty_like, entry_with, entries_from, pairs_after, left_count, separator_of, left_half, right_half}, proofs.HeldLemmas.{get-zero, get-map_of_entries, held_none}}
 use Rattle.sh_edit.proofs.RoomLemmas.{size_is_pairs}
 
 -- no pair has the key 0

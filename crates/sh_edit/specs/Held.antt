@@ -1,6 +1,5 @@
 -- What a leaf's entries hold: they are unsorted, and some are empty.
-use Rattle.std.specs.Prelude.{◌≡◌, ℕ, ◌<◌, ◌==◌, if◌then◌else◌, Bool, true, false, List, [], ◌∷◌, length, slice_index_or, Option, Some, None}
-use Rattle.std.specs.FinMap.{from_entries}
+use Rattle.std.specs.{Prelude.{◌≡◌, ℕ, ◌<◌, ◌==◌, if◌then◌else◌, Bool, true, false, List, [], ◌∷◌, length, slice_index_or, Option, Some, None}, FinMap.{from_entries}}
 use Rattle.sh_map.specs.Map.{Map}
 use Rattle.sh_image.specs.declared.leaf.LeafEntry.{LeafEntry}
 

@@ -1,9 +1,7 @@
 -- An inner node with one pair more, its two halves, and the root above two nodes.
-use Rattle.std.specs.Prelude.{◌≢◌, ℕ, ◌+◌, ◌-◌, ◌^◌, ◌<◌, ◌≤◌, if◌then◌else◌, nat_lt, List, [], ◌∷◌, length, take, drop}
-use Rattle.std.specs.List.{AllByRecursion}
+use Rattle.std.specs.{Prelude.{◌≢◌, ℕ, ◌+◌, ◌-◌, ◌^◌, ◌<◌, ◌≤◌, if◌then◌else◌, nat_lt, List, [], ◌∷◌, length, take, drop}, List.{AllByRecursion}}
 use Rattle.sh_base.specs.declared.config.ConfigParts.{ConfigParts}
-use Rattle.sh_image.specs.declared.inner.Pair.{Pair}
-use Rattle.sh_image.specs.Inner.{Inner, HasChild, separator_at}
+use Rattle.sh_image.specs.{declared.inner.Pair.{Pair}, Inner.{Inner, HasChild, separator_at}}
 
 -- the pairs with one more, behind those whose separators are less
 abbrev pub pairs_with : List Pair → Pair → List Pair

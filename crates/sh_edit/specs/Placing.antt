@@ -1,9 +1,7 @@
 -- Where a key stands in a leaf, or may be put.
 use Rattle.std.specs.Prelude.{◌≡◌, ◌≢◌, ◌⊎◌, ℕ, ◌<◌, List, length}
 use Rattle.sh_image.specs.declared.leaf.LeafEntry.{LeafEntry}
-use Rattle.sh_edit.specs.Held.{key_at, value_at}
-use Rattle.sh_edit.specs.declared.Placed.{Placed}
-use Rattle.sh_edit.specs.declared.Placed.TheVariants.{Over, New, NoRoom}
+use Rattle.sh_edit.specs.{Held.{key_at, value_at}, declared.Placed.{Placed, TheVariants.{Over, New, NoRoom}}}
 
 -- the first entry with the key
 pub record IsFirstWith (es : List LeafEntry) (key i : ℕ) : Type 0 where

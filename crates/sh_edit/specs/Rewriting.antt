@@ -1,7 +1,6 @@
 -- A leaf with one entry changed, as a whole or alone.
 use Rattle.std.specs.Prelude.{ℕ, ◌+◌, List, map, slice_set}
-use Rattle.sh_image.specs.declared.leaf.LeafEntry.{LeafEntry}
-use Rattle.sh_image.specs.Leaf.{Leaf}
+use Rattle.sh_image.specs.{declared.leaf.LeafEntry.{LeafEntry}, Leaf.{Leaf}}
 
 -- an entry with its version back at 0
 abbrev pub cleared : LeafEntry → LeafEntry

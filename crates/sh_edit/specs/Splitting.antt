@@ -1,12 +1,8 @@
 -- A leaf without room, split at a put.
-use Rattle.std.specs.Prelude.{◌≤◌, ℕ, ◌+◌, ◌-◌, ◌/◌, ◌==◌, if◌then◌else◌, List, [], ◌++◌, length, map, take, drop, replicate, slice_index_or}
-use Rattle.std.specs.Option.{unwrap_or}
-use Rattle.std.specs.FinMap.{entries}
+use Rattle.std.specs.{Prelude.{◌≤◌, ℕ, ◌+◌, ◌-◌, ◌/◌, ◌==◌, if◌then◌else◌, List, [], ◌++◌, length, map, take, drop, replicate, slice_index_or}, Option.{unwrap_or}, FinMap.{entries}}
 use Rattle.sh_map.specs.Map.{put}
-use Rattle.sh_image.specs.declared.leaf.LeafEntry.{LeafEntry}
-use Rattle.sh_image.specs.Leaf.{Leaf}
-use Rattle.sh_edit.specs.Held.{held, map_of_entries, HasKeysOnce}
-use Rattle.sh_edit.specs.Placing.{LacksKey}
+use Rattle.sh_image.specs.{declared.leaf.LeafEntry.{LeafEntry}, Leaf.{Leaf}}
+use Rattle.sh_edit.specs.{Held.{held, map_of_entries, HasKeysOnce}, Placing.{LacksKey}}
 
 -- an empty entry whose value is as long as this one
 abbrev pub empty_like : List ℕ → LeafEntry

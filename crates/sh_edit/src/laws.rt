@@ -1,21 +1,11 @@
 // What the changes of leaves mean for the map that their entries hold, and those of inner nodes for their pairs.
 ghost use Rattle.std.specs.Prelude.{◌≡◌, ◌≢◌, ◌<◌, ◌≤◌, ◌⊎◌, ◌^◌, ◌+◌, ◌-◌, ◌++◌, ◌∷◌, ◌*◌, ℕ, List, drop, length, replicate, nat_lt, take, Some, None};
-ghost use Rattle.sh_base.specs.declared.config.ConfigParts.{ConfigParts};
-ghost use Rattle.sh_base.specs.Layout.{entry_at};
-ghost use Rattle.sh_base.specs.Setting.{entry_size, last_version, nodes};
-ghost use Rattle.std.specs.List.Sorted.{IsPermutation};
-ghost use Rattle.std.specs.FinMap.{from_entries};
+ghost use Rattle.sh_base.specs.{declared.config.ConfigParts.{ConfigParts}, Layout.{entry_at}, Setting.{entry_size, last_version, nodes}};
+ghost use Rattle.std.specs.{List.Sorted.{IsPermutation}, FinMap.{from_entries}};
 ghost use Rattle.sh_map.specs.Map.{get, put, del, size};
-ghost use Rattle.sh_image.specs.declared.leaf.LeafEntry.{LeafEntry};
-ghost use Rattle.sh_image.specs.Inner.{Inner, IsInner};
-ghost use Rattle.sh_image.specs.declared.inner.Pair.{Pair};
-ghost use Rattle.sh_image.specs.Entries.{entry_words};
-ghost use Rattle.sh_image.specs.Leaf.{leaf_words, Leaf, IsEntry, IsLeaf};
-ghost use Rattle.sh_edit.specs.Held.{map_of_entries, pairs_of, value_at, key_at, has_room, HasKeysOnce};
-ghost use Rattle.sh_edit.specs.Placing.{IsFirstWith, IsPlaceFor, LacksKey};
-ghost use Rattle.sh_edit.specs.Rewriting.{rewritten, with_entry};
-ghost use Rattle.sh_edit.specs.Pairing.{left_inner, middle_of, pairs_with, right_inner, root_over, with_pair, IsAddable};
-ghost use Rattle.sh_edit.specs.Splitting.{left_half, right_half, separator_of, IsSplit};
+ghost use Rattle.sh_image.specs.{declared.{leaf.LeafEntry.{LeafEntry}, inner.Pair.{Pair}}, Inner.{Inner, IsInner}, Entries.{entry_words}, Leaf.{leaf_words, Leaf, IsEntry, IsLeaf}};
+ghost use Rattle.sh_edit.specs.{Held.{map_of_entries, pairs_of, value_at, key_at, has_room, HasKeysOnce}, Placing.{IsFirstWith, IsPlaceFor, LacksKey}, Rewriting.{rewritten, with_entry}};
+ghost use Rattle.sh_edit.specs.{Pairing.{left_inner, middle_of, pairs_with, right_inner, root_over, with_pair, IsAddable}, Splitting.{left_half, right_half, separator_of, IsSplit}};
 
 /// The changes of a leaf are the map's. What `find` finds is the map's value of the key. A rewrite at the index that
 /// `place` answered is the put, and one that empties the index that `remove` answered is the delete, of a leaf without

@@ -7,9 +7,7 @@ mod ranging;
 mod split;
 
 ghost use Rattle.std.specs.Prelude.{◌≡◌, ◌↔◌, IsTrue, ◌-◌, ◌<◌, ◌≤◌, ◌^◌, MatchOption, length, map};
-ghost use Rattle.sh_edit.specs.Held.{value_at, HasKeysOnce};
-ghost use Rattle.sh_edit.specs.Placing.{LacksKey, IsFirstWith, PlacedBy, StandsFirst};
-ghost use Rattle.sh_edit.specs.Rewriting.{cleared, rewritten};
+ghost use Rattle.sh_edit.specs.{Held.{value_at, HasKeysOnce}, Placing.{LacksKey, IsFirstWith, PlacedBy, StandsFirst}, Rewriting.{cleared, rewritten}};
 
 pub use inner::{InnerHalves, add_child, new_root, split_inner};
 pub use laws::{

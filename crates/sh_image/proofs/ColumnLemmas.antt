@@ -1,12 +1,8 @@
 -- The entries in columns, by their indexes.
-use Rattle.std.proofs.Common.{◌≡◌, ℕ, ◌<◌, ◌≤◌, List, [], length, get_or, set, take, sym, ap, ◌∙◌, inl, inr, arith}
-use Rattle.std.specs.Prelude.{replicate}
-use Rattle.std.proofs.lemmas.Bool.{cases_eq}
+use Rattle.std.{proofs.{Common.{◌≡◌, ℕ, ◌<◌, ◌≤◌, List, [], length, get_or, set, take, sym, ap, ◌∙◌, inl, inr, arith}, lemmas.Bool.{cases_eq}}, specs.Prelude.{replicate}}
 use Rattle.std.proofs.lemmas.List.{same_lists, get_or-map, get_or-take, get_or-replicate, get_or_default, length-replicate, length-map, length-take-le, length-set, get_or-set_same, get_or-set_other}
 use Rattle.std.proofs.lemmas.List.FromFn.{get_or-map-range_with_len, length-map-range_with_len}
-use Rattle.sh_image.specs.declared.leaf.LeafEntry.{LeafEntry}
-use Rattle.sh_image.specs.Entries.{keys_of}
-use Rattle.sh_image.specs.Columns.{entry_of_columns, entries_of_columns}
+use Rattle.sh_image.specs.{declared.leaf.LeafEntry.{LeafEntry}, Entries.{keys_of}, Columns.{entry_of_columns, entries_of_columns}}
 
 module _ (versions keys : List ℕ) (values : List (List ℕ)) where
   pub length_entries_of : (n : ℕ) → length (entries_of_columns n versions keys values) ≡ n

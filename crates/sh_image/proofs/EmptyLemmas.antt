@@ -1,7 +1,5 @@
 -- Words are all 0 exactly where as many are 0 as there are.
-use Rattle.std.proofs.Common.{◌≡◌, ◌≤◌, ℕ, zero, suc, List, [], ◌∷◌, length, refl, ap, ◌∙◌, arith}
-use Rattle.std.specs.Prelude.{◌↔◌, replicate}
-use Rattle.std.proofs.lemmas.Bool.Decides.{nat_tests}
+use Rattle.std.{proofs.{Common.{◌≡◌, ◌≤◌, ℕ, zero, suc, List, [], ◌∷◌, length, refl, ap, ◌∙◌, arith}, lemmas.Bool.Decides.{nat_tests}}, specs.Prelude.{◌↔◌, replicate}}
 use Rattle.sh_lanes.specs.Scans.{count_empty}
 
 few : (ws : List ℕ) → count_empty ws ≤ length ws

@@ -1,12 +1,8 @@
 -- Entries are read back from their words, and words from the entries that they spell.
 use Rattle.std.proofs.Common.{◌≡◌, ℕ, zero, suc, ◌+◌, ◌*◌, ◌<◌, ◌≤◌, List, [], ◌∷◌, ◌++◌, length, get_or, take, drop, refl, sym, ap, subst, ◌∙◌, append_assoc, length-append, arith}
-use Rattle.std.specs.Prelude.{Some, slice_get, slice_index}
-use Rattle.std.proofs.lemmas.Option.{same_Some}
-use Rattle.std.proofs.Math.Seq.{drop-cons}
-use Rattle.std.specs.List.{flat_map, AllByRecursion}
+use Rattle.std.{specs.{Prelude.{Some, slice_get, slice_index}, List.{flat_map, AllByRecursion}}, proofs.{lemmas.Option.{same_Some}, Math.Seq.{drop-cons}}}
 use Rattle.std.proofs.lemmas.List.{take_at, drop_at, drop-drop, get_or-drop, length-drop, length-take-le, take-append-drop}
-use Rattle.sh_image.specs.declared.leaf.LeafEntry.{LeafEntry}
-use Rattle.sh_image.specs.Entries.{entry_words, entry_in, entries_in, AreWhole}
+use Rattle.sh_image.specs.{declared.leaf.LeafEntry.{LeafEntry}, Entries.{entry_words, entry_in, entries_in, AreWhole}}
 
 same_at : (i j : ℕ) (ws : List ℕ) → i ≡ j → get_or ws i 0 ≡ get_or ws j 0
 same_at i j ws e = ap (λ n. get_or ws n 0) e

@@ -1,14 +1,8 @@
 -- The entries of a leaf's words, as they are written into an image one by one.
-use Rattle.std.proofs.Common.{◌≡◌, ℕ, ◌+◌, ◌-◌, ◌<◌, List, length, get_or, set, take, drop, sym, ap, subst, ◌∙◌, inl, inr, arith}
-use Rattle.std.proofs.lemmas.Bool.{cases_eq}
+use Rattle.std.proofs.{Common.{◌≡◌, ℕ, ◌+◌, ◌-◌, ◌<◌, List, length, get_or, set, take, drop, sym, ap, subst, ◌∙◌, inl, inr, arith}, lemmas.Bool.{cases_eq}}
 use Rattle.std.proofs.lemmas.List.{same_lists, length-set, get_or-set_same, get_or-set_other}
-use Rattle.sh_base.specs.declared.config.ConfigParts.{ConfigParts}
-use Rattle.sh_base.specs.Layout.{entry_at}
-use Rattle.sh_image.specs.declared.leaf.LeafEntry.{LeafEntry}
-use Rattle.sh_image.specs.Entries.{entries_in}
-use Rattle.sh_image.specs.Leaf.{Leaf, leaf_in, IsEntry}
-use Rattle.sh_image.proofs.EntriesLemmas.{length-entries_in}
-use Rattle.sh_image.proofs.ReadLemmas.{entry_read}
+use Rattle.sh_base.specs.{declared.config.ConfigParts.{ConfigParts}, Layout.{entry_at}}
+use Rattle.sh_image.{specs.{declared.leaf.LeafEntry.{LeafEntry}, Entries.{entries_in}, Leaf.{Leaf, leaf_in, IsEntry}}, proofs.{EntriesLemmas.{length-entries_in}, ReadLemmas.{entry_read}}}
 
 -- the entries that the words spell, if they are a leaf's
 abbrev spelled : ConfigParts → List ℕ → List LeafEntry

@@ -1,16 +1,9 @@
 -- Pairs and inner nodes are read back from their words, and words from the pairs that they spell.
 use Rattle.std.proofs.Common.{◌≡◌, ℕ, zero, suc, ◌+◌, ◌*◌, ◌<◌, ◌≤◌, List, [], ◌∷◌, ◌++◌, length, get_or, take, drop, refl, sym, ap, subst, ◌∙◌, append_assoc, length-append, arith}
-use Rattle.std.specs.Prelude.{replicate, slice_index}
-use Rattle.std.proofs.Math.Nat.{mul-le-mul_right}
-use Rattle.std.proofs.Math.Seq.{drop-cons}
-use Rattle.std.specs.List.{flat_map, AllByRecursion}
+use Rattle.std.{specs.{Prelude.{replicate, slice_index}, List.{flat_map, AllByRecursion}}, proofs.Math.{Nat.{mul-le-mul_right}, Seq.{drop-cons}}}
 use Rattle.std.proofs.lemmas.List.{take_at, drop_at, drop-drop, drop_all, get_or-drop, length-replicate, take-append-drop}
-use Rattle.sh_base.specs.declared.config.ConfigParts.{ConfigParts}
-use Rattle.sh_base.specs.Setting.{nodes, node_size}
-use Rattle.sh_base.specs.Layout.{rear_at}
-use Rattle.sh_base.proofs.LayoutLemmas.{node_size_is, node_size_by_words}
-use Rattle.sh_image.specs.declared.inner.Pair.{Pair}
-use Rattle.sh_image.specs.Inner.{Inner, pair_words, pairs_in, inner_header, inner_words, inner_in, words_behind, HasChild, IsInner, SpellsInner}
+use Rattle.sh_base.{specs.{declared.config.ConfigParts.{ConfigParts}, Setting.{nodes, node_size}, Layout.{rear_at}}, proofs.LayoutLemmas.{node_size_is, node_size_by_words}}
+use Rattle.sh_image.specs.{declared.inner.Pair.{Pair}, Inner.{Inner, pair_words, pairs_in, inner_header, inner_words, inner_in, words_behind, HasChild, IsInner, SpellsInner}}
 
 abbrev zeros : ℕ → List ℕ
 zeros n = replicate n 0

@@ -1,16 +1,9 @@
 -- The leaf of a laid pool is lawful, and its other words are 0 but the root and the first counter.
-use Rattle.std.proofs.Common.{◌≡◌, ◌≢◌, ◌⊎◌, ℕ, zero, suc, ◌+◌, ◌<◌, ◌≤◌, List, get_or, replicate, refl, inl, inr, arith}
-use Rattle.std.specs.Prelude.{◌-◌, ◌^◌}
-use Rattle.std.specs.List.{AllByRecursion}
-use Rattle.std.proofs.lemmas.Bool.{cases_lt}
+use Rattle.std.{proofs.{Common.{◌≡◌, ◌≢◌, ◌⊎◌, ℕ, zero, suc, ◌+◌, ◌<◌, ◌≤◌, List, get_or, replicate, refl, inl, inr, arith}, lemmas.Bool.{cases_lt}}, specs.{Prelude.{◌-◌, ◌^◌}, List.{AllByRecursion}}}
 use Rattle.std.proofs.lemmas.List.{length-replicate}
-use Rattle.sh_base.specs.declared.config.ConfigParts.{ConfigParts}
-use Rattle.sh_base.specs.Setting.{node_size, IsNode, IsSetting}
-use Rattle.sh_base.specs.Layout.{node_word}
-use Rattle.sh_base.specs.Places.{Site, Root, Counter, Node, address, IsSite}
+use Rattle.sh_base.specs.{declared.config.ConfigParts.{ConfigParts}, Setting.{node_size, IsNode, IsSetting}, Layout.{node_word}, Places.{Site, Root, Counter, Node, address, IsSite}}
 use Rattle.sh_base.proofs.PlacesLemmas.{are_places_apart}
-use Rattle.sh_image.specs.Leaf.{IsEntry, IsLeaf, empty_entry}
-use Rattle.sh_image.specs.Laid.{blank_leaf, AreLaid}
+use Rattle.sh_image.specs.{Leaf.{IsEntry, IsLeaf, empty_entry}, Laid.{blank_leaf, AreLaid}}
 
 all_empty : (p : ConfigParts) (n : ℕ) → AllByRecursion (IsEntry p 0 (2 ^ 64 - 1)) (replicate n (empty_entry p))
 all_empty p zero = tt

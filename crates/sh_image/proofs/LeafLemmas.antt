@@ -1,15 +1,8 @@
 -- Words spell one leaf at most, and words that pass the tests spell theirs.
 use Rattle.std.proofs.Common.{◌≡◌, ℕ, suc, ◌+◌, ◌*◌, List, [], ◌∷◌, ◌++◌, length, get_or, drop, sym, ap, ◌∙◌, length-append, arith}
-use Rattle.std.specs.Prelude.{slice_index}
-use Rattle.std.proofs.Math.Seq.{drop-cons}
-use Rattle.std.specs.List.{flat_map, AllByRecursion}
-use Rattle.std.proofs.lemmas.List.{drop_all}
-use Rattle.sh_base.specs.declared.config.ConfigParts.{ConfigParts}
-use Rattle.sh_base.specs.Setting.{node_size}
-use Rattle.sh_base.proofs.LayoutLemmas.{node_size_by_words}
-use Rattle.sh_image.specs.declared.leaf.LeafEntry.{LeafEntry}
-use Rattle.sh_image.specs.Entries.{entry_words, entries_in, AreWhole}
-use Rattle.sh_image.specs.Leaf.{Leaf, leaf_words, leaf_in, HaveWords, IsEntry, Spells}
+use Rattle.std.{specs.{Prelude.{slice_index}, List.{flat_map, AllByRecursion}}, proofs.{Math.Seq.{drop-cons}, lemmas.List.{drop_all}}}
+use Rattle.sh_base.{specs.{declared.config.ConfigParts.{ConfigParts}, Setting.{node_size}}, proofs.LayoutLemmas.{node_size_by_words}}
+use Rattle.sh_image.specs.{declared.leaf.LeafEntry.{LeafEntry}, Entries.{entry_words, entries_in, AreWhole}, Leaf.{Leaf, leaf_words, leaf_in, HaveWords, IsEntry, Spells}}
 use Rattle.sh_image.proofs.EntriesLemmas.{entries_in-words, words-entries_in, length-words}
 
 -- a list with one element more than n

@@ -1,17 +1,9 @@
 -- The words of a node have one answer: the node that they spell, or the one cause that they spell none.
-use Rattle.std.proofs.Common.{◌≡◌, ℕ, ◌≤◌, List, length, get_or, inl, inr, refl, sym, ap, ◌∙◌, arith}
-use Rattle.std.proofs.lemmas.Bool.{cases_lt}
-use Rattle.sh_base.specs.declared.config.ConfigParts.{ConfigParts}
-use Rattle.sh_base.specs.Setting.{node_size}
-use Rattle.sh_image.specs.declared.inner.Image.{Image}
-use Rattle.sh_image.specs.declared.inner.Image.TheVariants.{Leaf, Inner}
-use Rattle.sh_image.specs.declared.read.Seen.{Seen}
-use Rattle.sh_image.specs.declared.read.Seen.TheVariants.{Leaf as LeafSeen, Inner as InnerSeen, Torn, TornEntry, Odd}
-use Rattle.sh_image.specs.Seen.{entry_front, entry_rear, IsTornAt, SeenBy}
-use Rattle.sh_image.specs.Node.{words_of, IsImage, SpellsImage, seen_as}
-use Rattle.sh_image.proofs.InnerLemmas.{inner_spelled_one, length-inner_words}
-use Rattle.sh_image.proofs.LeafLemmas.{length-leaf_words, spelled_one, values_of}
-use Rattle.sh_image.proofs.UntornLemmas.{seen_spelled, seen_inner}
+use Rattle.std.proofs.{Common.{◌≡◌, ℕ, ◌≤◌, List, length, get_or, inl, inr, refl, sym, ap, ◌∙◌, arith}, lemmas.Bool.{cases_lt}}
+use Rattle.sh_base.specs.{declared.config.ConfigParts.{ConfigParts}, Setting.{node_size}}
+use Rattle.sh_image.specs.declared.{inner.Image.{Image, TheVariants.{Leaf, Inner}}, read.Seen.{Seen, TheVariants.{Leaf as LeafSeen, Inner as InnerSeen, Torn, TornEntry, Odd}}}
+use Rattle.sh_image.{specs.{Seen.{entry_front, entry_rear, IsTornAt, SeenBy}, Node.{words_of, IsImage, SpellsImage, seen_as}}, proofs.InnerLemmas.{inner_spelled_one, length-inner_words}}
+use Rattle.sh_image.proofs.{LeafLemmas.{length-leaf_words, spelled_one, values_of}, UntornLemmas.{seen_spelled, seen_inner}}
 
 -- the first torn entry is one
 torn_once : (p : ConfigParts) (ws : List ℕ) (i j : ℕ) → IsTornAt p ws i → IsTornAt p ws j → i ≡ j

@@ -1,10 +1,7 @@
 -- The pairs in columns, by their indexes.
-use Rattle.std.proofs.Common.{◌≡◌, ℕ, ◌+◌, ◌<◌, ◌≤◌, List, [], ◌∷◌, ◌++◌, length, get_or, set, take, refl, sym, ap, ◌∙◌, inl, inr, length-append, arith}
-use Rattle.std.proofs.lemmas.Bool.{cases_lt}
-use Rattle.std.proofs.lemmas.List.{same_lists, get_or-take, length-take-le, get_or-set_same, get_or-set_other, get_or_append_left}
-use Rattle.std.proofs.lemmas.List.FromFn.{get_or-map-range_with_len, length-map-range_with_len}
-use Rattle.sh_image.specs.declared.inner.Pair.{Pair}
-use Rattle.sh_image.specs.PairColumns.{pair_at, pairs_of_columns}
+use Rattle.std.proofs.{Common.{◌≡◌, ℕ, ◌+◌, ◌<◌, ◌≤◌, List, [], ◌∷◌, ◌++◌, length, get_or, set, take, refl, sym, ap, ◌∙◌, inl, inr, length-append, arith}, lemmas.Bool.{cases_lt}}
+use Rattle.std.proofs.lemmas.List.{same_lists, get_or-take, length-take-le, get_or-set_same, get_or-set_other, get_or_append_left, FromFn.{get_or-map-range_with_len, length-map-range_with_len}}
+use Rattle.sh_image.specs.{declared.inner.Pair.{Pair}, PairColumns.{pair_at, pairs_of_columns}}
 
 module _ (separators children : List ℕ) where
   pub length_pairs_of : (n : ℕ) → length (pairs_of_columns n separators children) ≡ n

@@ -1,17 +1,10 @@
 -- An entry by the words that the code reads.
 use Rattle.std.proofs.Common.{◌≡◌, ℕ, ◌+◌, ◌*◌, ◌<◌, ◌≤◌, List, length, get_or, take, drop, refl, sym, ap, ◌∙◌, arith}
-use Rattle.std.proofs.lemmas.List.{get_or-drop, drop-drop, length-drop}
-use Rattle.std.specs.Prelude.{slice_index}
-use Rattle.sh_base.specs.declared.config.ConfigParts.{ConfigParts}
-use Rattle.sh_base.specs.Setting.{nodes, node_size}
-use Rattle.sh_base.specs.Layout.{entry_at, rear_at}
+use Rattle.std.{proofs.lemmas.List.{get_or-drop, drop-drop, length-drop}, specs.Prelude.{slice_index}}
+use Rattle.sh_base.specs.{declared.config.ConfigParts.{ConfigParts}, Setting.{nodes, node_size}, Layout.{entry_at, rear_at}}
 use Rattle.sh_base.proofs.LayoutLemmas.{entry_at_by_words, node_size_is, node_size_by_words}
-use Rattle.sh_image.specs.declared.leaf.LeafEntry.{LeafEntry}
-use Rattle.sh_image.specs.Entries.{entry_in, entries_in}
-use Rattle.sh_image.specs.Leaf.{Leaf, leaf_in, leaf_words, HaveWords, Spells}
-use Rattle.sh_image.specs.Seen.{HasWholeEntries}
-use Rattle.sh_image.proofs.EntriesLemmas.{get_or-entries_in, values_in, AreWhole-from_each}
-use Rattle.sh_image.proofs.LeafLemmas.{leaf_words-leaf_in}
+use Rattle.sh_image.specs.{declared.leaf.LeafEntry.{LeafEntry}, Entries.{entry_in, entries_in}, Leaf.{Leaf, leaf_in, leaf_words, HaveWords, Spells}, Seen.{HasWholeEntries}}
+use Rattle.sh_image.proofs.{EntriesLemmas.{get_or-entries_in, values_in, AreWhole-from_each}, LeafLemmas.{leaf_words-leaf_in}}
 
 word_at : (ws : List ℕ) (at o n : ℕ) → at + o ≡ n → get_or (drop at ws) o 0 ≡ get_or ws n 0
 word_at ws at o n e = get_or-drop at ws o 0 ∙ ap (λ k. get_or ws k 0) e

@@ -1,20 +1,10 @@
 -- Words that spell a leaf are untorn: the two versions of the node and of each entry agree.
 use Rattle.std.proofs.Common.{◌≡◌, ℕ, zero, suc, ◌+◌, ◌*◌, ◌<◌, ◌≤◌, List, [], ◌∷◌, ◌++◌, length, get_or, refl, sym, ap, ◌∙◌, append_assoc, arith}
-use Rattle.std.specs.List.{flat_map, AllByRecursion}
-use Rattle.std.proofs.lemmas.List.{drop_at, get_or-drop}
-use Rattle.sh_base.specs.declared.config.ConfigParts.{ConfigParts}
-use Rattle.sh_base.specs.Layout.{rear_at}
-use Rattle.sh_base.proofs.LayoutLemmas.{entry_at_by_words, node_size_is, node_size_by_words}
-use Rattle.sh_image.specs.declared.leaf.LeafEntry.{LeafEntry}
-use Rattle.sh_image.specs.Entries.{entry_words}
-use Rattle.sh_image.specs.Leaf.{Leaf, Spells, leaf_words}
-use Rattle.sh_image.specs.Inner.{Inner, SpellsInner}
-use Rattle.sh_image.proofs.InnerLemmas.{inner_spelled, inner_spelled_one, rear_spelled}
-use Rattle.sh_image.specs.declared.read.Seen.{Seen}
-use Rattle.sh_image.specs.declared.read.Seen.TheVariants.{Leaf as LeafSeen, Inner as InnerSeen, Torn, TornEntry, Odd}
-use Rattle.sh_image.specs.Seen.{IsUntorn, SeenBy}
-use Rattle.sh_image.proofs.EntriesLemmas.{length-entry_words, length-words}
-use Rattle.sh_image.proofs.LeafLemmas.{values_of, spelled_one}
+use Rattle.std.{specs.List.{flat_map, AllByRecursion}, proofs.lemmas.List.{drop_at, get_or-drop}}
+use Rattle.sh_base.{specs.{declared.config.ConfigParts.{ConfigParts}, Layout.{rear_at}}, proofs.LayoutLemmas.{entry_at_by_words, node_size_is, node_size_by_words}}
+use Rattle.sh_image.specs.{declared.leaf.LeafEntry.{LeafEntry}, Entries.{entry_words}, Leaf.{Leaf, Spells, leaf_words}, Inner.{Inner, SpellsInner}}
+use Rattle.sh_image.{proofs.InnerLemmas.{inner_spelled, inner_spelled_one, rear_spelled}, specs.declared.read.Seen.{Seen, TheVariants.{Leaf as LeafSeen, Inner as InnerSeen, Torn, TornEntry, Odd}}}
+use Rattle.sh_image.{specs.Seen.{IsUntorn, SeenBy}, proofs.{EntriesLemmas.{length-entry_words, length-words}, LeafLemmas.{values_of, spelled_one}}}
 
 -- the word behind a list
 behind : (xs rest : List ℕ) (y n : ℕ) → length xs ≡ n → get_or (xs ++ y ∷ rest) n 0 ≡ y

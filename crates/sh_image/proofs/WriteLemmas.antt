@@ -1,16 +1,9 @@
 -- Words that are written piece by piece.
 use Rattle.std.proofs.Common.{◌≡◌, ◌<◌, ◌≤◌, ◌+◌, ◌-◌, ◌*◌, ◌++◌, [], ◌∷◌, ℕ, zero, suc, List, length, drop, take, get_or, refl, sym, ap, ◌∙◌, append_assoc, length-append, arith}
-use Rattle.std.specs.Prelude.{slice_set, replicate}
-use Rattle.std.specs.List.{flat_map}
-use Rattle.std.proofs.lemmas.List.{take_more, drop_all, length-drop, length-set, set_split, append-nil}
-use Rattle.std.proofs.lemmas.List.Concat.{flat_map-append}
+use Rattle.std.{specs.{Prelude.{slice_set, replicate}, List.{flat_map}}, proofs.lemmas.List.{take_more, drop_all, length-drop, length-set, set_split, append-nil, Concat.{flat_map-append}}}
 use Rattle.std.proofs.lemmas.Slice.{take-put_mid}
 use borrow.Rule.Slice.PartMut.{put_mid}
-use Rattle.sh_image.specs.declared.leaf.LeafEntry.{LeafEntry}
-use Rattle.sh_image.specs.Leaf.{Leaf, header}
-use Rattle.sh_image.specs.Entries.{entry_words}
-use Rattle.sh_image.specs.Inner.{Inner, inner_header, pair_words}
-use Rattle.sh_image.specs.declared.inner.Pair.{Pair}
+use Rattle.sh_image.specs.{declared.{leaf.LeafEntry.{LeafEntry}, inner.Pair.{Pair}}, Leaf.{Leaf, header}, Entries.{entry_words}, Inner.{Inner, inner_header, pair_words}}
 
 -- one piece more is written behind what stands
 pub piece_more : (out front new : List ℕ) (at size next : ℕ) → at ≤ length out → next ≡ at + size → length new ≡ size → take at out ≡ front → take next (put_mid at (at + size - at) out new) ≡ front ++ new

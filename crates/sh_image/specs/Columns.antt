@@ -1,6 +1,5 @@
 -- Columns: a part of each entry, one behind the other.
-use Rattle.std.specs.Prelude.{ℕ, List, [], map, slice_index, slice_index_or}
-use Rattle.std.specs.List.{range_with_len}
+use Rattle.std.specs.{Prelude.{ℕ, List, [], map, slice_index, slice_index_or}, List.{range_with_len}}
 use Rattle.sh_image.specs.declared.leaf.LeafEntry.{LeafEntry}
 
 -- the entry at an index of the columns

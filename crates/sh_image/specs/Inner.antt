@@ -1,9 +1,7 @@
 -- An inner node, the words that spell it, and the inner node that words spell.
 use Rattle.std.specs.Prelude.{◌≡◌, ◌↔◌, ℕ, zero, suc, ◌+◌, ◌-◌, ◌*◌, ◌^◌, ◌<◌, ◌≤◌, List, [], ◌∷◌, ◌++◌, drop, length, replicate, slice_index, slice_index_or}
 use Rattle.std.specs.List.{flat_map, AllByRecursion}
-use Rattle.sh_base.specs.declared.config.ConfigParts.{ConfigParts}
-use Rattle.sh_base.specs.Setting.{nodes, last_version}
-use Rattle.sh_base.specs.Layout.{rear_at}
+use Rattle.sh_base.specs.{declared.config.ConfigParts.{ConfigParts}, Setting.{nodes, last_version}, Layout.{rear_at}}
 use Rattle.sh_image.specs.declared.inner.Pair.{Pair}
 
 -- Its version, its level above the leaves, the keys that it covers (low and all below high), the next node of its level

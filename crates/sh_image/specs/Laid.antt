@@ -1,8 +1,6 @@
 -- The words of a laid pool.
 use Rattle.std.specs.Prelude.{◌≡◌, ◌≢◌, ◌⊎◌, ℕ, ◌+◌, ◌-◌, ◌^◌, ◌<◌, ◌≤◌, List, length, replicate, slice_index}
-use Rattle.sh_base.specs.declared.config.ConfigParts.{ConfigParts}
-use Rattle.sh_base.specs.Setting.{node_size, pool_words}
-use Rattle.sh_base.specs.Layout.{root_word, counter_word, node_word, node_part}
+use Rattle.sh_base.specs.{declared.config.ConfigParts.{ConfigParts}, Setting.{node_size, pool_words}, Layout.{root_word, counter_word, node_word, node_part}}
 use Rattle.sh_image.specs.Leaf.{Leaf, leaf_words, empty_entry}
 
 -- the empty leaf of all keys

@@ -1,10 +1,7 @@
 -- A leaf, the words that spell it, and the leaf that words spell.
-use Rattle.std.specs.Prelude.{◌≡◌, ◌↔◌, ℕ, ◌-◌, ◌^◌, ◌<◌, ◌≤◌, ◌⊎◌, List, [], ◌∷◌, ◌++◌, drop, length, replicate, slice_index}
-use Rattle.std.specs.List.{flat_map, AllByRecursion}
-use Rattle.sh_base.specs.declared.config.ConfigParts.{ConfigParts}
-use Rattle.sh_base.specs.Setting.{nodes, last_version, last_entry_version}
-use Rattle.sh_image.specs.declared.leaf.LeafEntry.{LeafEntry}
-use Rattle.sh_image.specs.Entries.{entry_words, entries_in}
+use Rattle.std.specs.{Prelude.{◌≡◌, ◌↔◌, ℕ, ◌-◌, ◌^◌, ◌<◌, ◌≤◌, ◌⊎◌, List, [], ◌∷◌, ◌++◌, drop, length, replicate, slice_index}, List.{flat_map, AllByRecursion}}
+use Rattle.sh_base.specs.{declared.config.ConfigParts.{ConfigParts}, Setting.{nodes, last_version, last_entry_version}}
+use Rattle.sh_image.specs.{declared.leaf.LeafEntry.{LeafEntry}, Entries.{entry_words, entries_in}}
 
 -- Its version, the keys that it covers (low and all below high), the next leaf of its chain (0: none), its entries.
 pub record Leaf : Type 0 where

@@ -1,13 +1,8 @@
 -- Leaves and inner nodes alike: one relation between words and the node that they spell.
 use Rattle.std.specs.Prelude.{ℕ, List}
 use Rattle.sh_base.specs.declared.config.ConfigParts.{ConfigParts}
-use Rattle.sh_image.specs.Leaf.{leaf_words, IsLeaf, Spells}
-use Rattle.sh_image.specs.Inner.{inner_words, IsInner, SpellsInner}
-use Rattle.sh_image.specs.declared.inner.Image.{Image}
-use Rattle.sh_image.specs.declared.inner.Image.TheVariants.{Leaf, Inner}
-use Rattle.sh_image.specs.declared.read.Seen.{Seen}
-use Rattle.sh_image.specs.declared.read.Seen.TheVariants.{Leaf as LeafSeen, Inner as InnerSeen, Torn as TornSeen, TornEntry as TornEntrySeen, Odd as OddSeen}
-use Rattle.sh_image.specs.declared.read.Found.{Found}
+use Rattle.sh_image.specs.{Leaf.{leaf_words, IsLeaf, Spells}, Inner.{inner_words, IsInner, SpellsInner}, declared.{inner.Image.{Image, TheVariants.{Leaf, Inner}}, read.Seen.{Seen}}}
+use Rattle.sh_image.specs.declared.read.{Seen.TheVariants.{Leaf as LeafSeen, Inner as InnerSeen, Torn as TornSeen, TornEntry as TornEntrySeen, Odd as OddSeen}, Found.{Found}}
 use Rattle.sh_image.specs.declared.read.Found.TheVariants.{Node, Torn, TornEntry, Odd}
 
 -- the words of a node

@@ -1,6 +1,5 @@
 -- The pairs of an inner node as two columns.
-use Rattle.std.specs.Prelude.{ℕ, List, map, slice_index}
-use Rattle.std.specs.List.{range_with_len}
+use Rattle.std.specs.{Prelude.{ℕ, List, map, slice_index}, List.{range_with_len}}
 use Rattle.sh_image.specs.declared.inner.Pair.{Pair}
 
 -- the pair at an index of the columns

@@ -1,11 +1,7 @@
 -- What a reader answers of a node's words, each answer by its cause.
 use Rattle.std.specs.Prelude.{◌≡◌, ◌≢◌, ℕ, ◌<◌, List, slice_index}
-use Rattle.sh_base.specs.declared.config.ConfigParts.{ConfigParts}
-use Rattle.sh_base.specs.Layout.{entry_at, entry_rear_at, rear_at}
-use Rattle.sh_image.specs.Leaf.{Leaf, Spells}
-use Rattle.sh_image.specs.Inner.{Inner, SpellsInner}
-use Rattle.sh_image.specs.declared.read.Seen.{Seen}
-use Rattle.sh_image.specs.declared.read.Seen.TheVariants.{Leaf as LeafSeen, Inner as InnerSeen, Torn, TornEntry, Odd}
+use Rattle.sh_base.specs.{declared.config.ConfigParts.{ConfigParts}, Layout.{entry_at, entry_rear_at, rear_at}}
+use Rattle.sh_image.specs.{Leaf.{Leaf, Spells}, Inner.{Inner, SpellsInner}, declared.read.Seen.{Seen, TheVariants.{Leaf as LeafSeen, Inner as InnerSeen, Torn, TornEntry, Odd}}}
 
 -- the node's version in front, and behind
 abbrev pub front_of : List ℕ → ℕ

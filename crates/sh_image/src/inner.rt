@@ -39,8 +39,7 @@ pub enum Image {
 
 impl Model for InnerImage {
     ghost use Rattle.std.specs.Prelude.{length, ◌≡◌, ◌≤◌};
-    ghost use Rattle.sh_image.specs.Inner.{Inner};
-    ghost use Rattle.sh_image.specs.PairColumns.{pairs_of_columns};
+    ghost use Rattle.sh_image.specs.{Inner.{Inner}, PairColumns.{pairs_of_columns}};
 
     ghost Value = { Inner };
 

@@ -1,13 +1,8 @@
 // The laws of the codec: its round trips, how long a node's words are, and that no words have two answers.
 ghost use Rattle.std.specs.Prelude.{◌≡◌, List, ℕ, length};
-ghost use Rattle.sh_base.specs.Parts.{parts_of};
-ghost use Rattle.sh_base.specs.Setting.{node_size};
-ghost use Rattle.sh_image.specs.Inner.{inner_in, inner_words, Inner, IsInner, SpellsInner};
-ghost use Rattle.sh_image.specs.Leaf.{Leaf, leaf_in, leaf_words, HaveWords, IsLeaf, Spells};
-ghost use Rattle.sh_image.specs.Node.{seen_as, words_of, IsImage, SpellsImage};
-ghost use Rattle.sh_image.specs.Seen.{IsUntorn, SeenBy};
-ghost use Rattle.sh_image.specs.declared.inner.Image.{Image};
-ghost use Rattle.sh_image.specs.declared.read.Seen.{Seen};
+ghost use Rattle.sh_base.specs.{Parts.{parts_of}, Setting.{node_size}};
+ghost use Rattle.sh_image.specs.{Inner.{inner_in, inner_words, Inner, IsInner, SpellsInner}, Leaf.{Leaf, leaf_in, leaf_words, HaveWords, IsLeaf, Spells}};
+ghost use Rattle.sh_image.specs.{Node.{seen_as, words_of, IsImage, SpellsImage}, Seen.{IsUntorn, SeenBy}, declared.{inner.Image.{Image}, read.Seen.{Seen}}};
 ghost use Rattle.sh_image.specs.declared.read.Seen.TheVariants.{Inner as InnerSeen, Leaf as LeafSeen, Odd};
 
 use sh_base::Config;

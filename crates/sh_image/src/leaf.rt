@@ -32,8 +32,7 @@ pub struct LeafImage {
 
 impl Model for LeafImage {
     ghost use Rattle.std.specs.Prelude.{length, ◌≡◌, ◌≤◌};
-    ghost use Rattle.sh_image.specs.Leaf.{Leaf};
-    ghost use Rattle.sh_image.specs.Columns.{entries_of_columns};
+    ghost use Rattle.sh_image.specs.{Leaf.{Leaf}, Columns.{entries_of_columns}};
 
     ghost Value = { Leaf };
 

@@ -1,9 +1,7 @@
 // What the words of a node are.
 ghost use Rattle.std.specs.Prelude.{◌≡◌, length};
-ghost use Rattle.sh_base.specs.Parts.{parts_of};
-ghost use Rattle.sh_base.specs.Setting.{node_size};
-ghost use Rattle.sh_image.specs.Node.{seen_as, seen_with};
-ghost use Rattle.sh_image.specs.Seen.{SeenBy};
+ghost use Rattle.sh_base.specs.{Parts.{parts_of}, Setting.{node_size}};
+ghost use Rattle.sh_image.specs.{Node.{seen_as, seen_with}, Seen.{SeenBy}};
 
 use crate::read_inner::inner_into;
 use crate::read_leaf::{first_torn, leaf_into};

@@ -1,12 +1,8 @@
 // Whether the words of a node are an inner node's.
 ghost use Rattle.std.specs.Prelude.{◌≡◌, ◌↔◌, ℕ, ◌+◌, ◌*◌, ◌<◌, ◌≤◌, IsTrue, MatchOption, drop, length, replicate, slice_index, take};
 ghost use Rattle.std.specs.List.{AllByRecursion};
-ghost use Rattle.sh_base.specs.Parts.{parts_of};
-ghost use Rattle.sh_base.specs.Setting.{nodes, node_size};
-ghost use Rattle.sh_base.specs.Layout.{rear_at};
-ghost use Rattle.sh_image.specs.Inner.{inner_in, pairs_in, separator_at, words_behind, AreSeparators, HasChild, Inner, IsInner, SpellsInner};
-ghost use Rattle.sh_image.specs.Node.{seen_as};
-ghost use Rattle.sh_image.specs.Seen.{SeenBy};
+ghost use Rattle.sh_base.specs.{Parts.{parts_of}, Setting.{nodes, node_size}, Layout.{rear_at}};
+ghost use Rattle.sh_image.specs.{Inner.{inner_in, pairs_in, separator_at, words_behind, AreSeparators, HasChild, Inner, IsInner, SpellsInner}, Node.{seen_as}, Seen.{SeenBy}};
 
 use crate::read_leaf::are_empty;
 use crate::{Image, InnerImage, Pair};

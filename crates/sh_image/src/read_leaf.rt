@@ -1,11 +1,7 @@
 // Whether the words of a node are a leaf's.
 ghost use Rattle.std.specs.Prelude.{◌≡◌, ◌↔◌, ◌≤◌, All, IsTrue, MatchOption, drop, length, replicate, slice_index};
-ghost use Rattle.sh_base.specs.Parts.{parts_of};
-ghost use Rattle.sh_base.specs.Setting.{nodes, node_size};
-ghost use Rattle.sh_image.specs.Entries.{entries_in};
-ghost use Rattle.sh_image.specs.Leaf.{leaf_in, IsEntry, IsLeaf, Leaf, Spells};
-ghost use Rattle.sh_image.specs.Node.{seen_as};
-ghost use Rattle.sh_image.specs.Seen.{HasWholeEntries, IsTornAt, IsUntorn, SeenBy};
+ghost use Rattle.sh_base.specs.{Parts.{parts_of}, Setting.{nodes, node_size}};
+ghost use Rattle.sh_image.specs.{Entries.{entries_in}, Leaf.{leaf_in, IsEntry, IsLeaf, Leaf, Spells}, Node.{seen_as}, Seen.{HasWholeEntries, IsTornAt, IsUntorn, SeenBy}};
 
 use crate::{Image, LeafEntry, LeafImage};
 use sh_base::{Config, Value};

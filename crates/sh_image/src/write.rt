@@ -1,11 +1,8 @@
 // The words of entries and leaves.
 ghost use Rattle.std.specs.Prelude.{◌≡◌, ◌+◌, ◌*◌, ◌<◌, ◌≤◌, ◌++◌, length, replicate, take};
 ghost use Rattle.std.specs.List.{flat_map};
-ghost use Rattle.sh_base.specs.Parts.{parts_of};
-ghost use Rattle.sh_base.specs.Setting.{node_size};
-ghost use Rattle.sh_image.specs.Entries.{entry_words};
-ghost use Rattle.sh_image.specs.Inner.{inner_header, inner_words, pair_words};
-ghost use Rattle.sh_image.specs.Leaf.{header, leaf_words, HaveWords};
+ghost use Rattle.sh_base.specs.{Parts.{parts_of}, Setting.{node_size}};
+ghost use Rattle.sh_image.specs.{Entries.{entry_words}, Inner.{inner_header, inner_words, pair_words}, Leaf.{header, leaf_words, HaveWords}};
 
 use crate::{InnerImage, LeafImage, Pair};
 use sh_base::{Config, Value};

@@ -1,13 +1,8 @@
 -- What is found, with one call or one row more.
-use Rattle.std.proofs.Common.{ℕ, ◌≡◌, ◌≤◌, ◌<◌, ◌==◌, Bool, true, false, List, [], ◌∷◌, ◌++◌, get_or, set, replicate, refl, ap, sym, ◌∙◌, arith}
-use Rattle.std.specs.Prelude.{max}
-use Rattle.std.proofs.lemmas.Bool.{eqb-true, eqb-false}
-use Rattle.std.proofs.lemmas.List.{get_or-set_same, get_or-set_other, get_or-replicate, length-set, length-replicate}
-use Rattle.std.proofs.lemmas.List.Sums.{fold-append}
-use Rattle.sh_map.specs.declared.book.Row.{Row}
-use Rattle.sh_map.specs.declared.book.Done.{Done}
-use Rattle.sh_judge.specs.Reading.{end_of, least_first, with_end, with_last_row, with_row}
-use Rattle.sh_judge.specs.Reader.{HasLeast}
+use Rattle.std.{proofs.Common.{ℕ, ◌≡◌, ◌≤◌, ◌<◌, ◌==◌, Bool, true, false, List, [], ◌∷◌, ◌++◌, get_or, set, replicate, refl, ap, sym, ◌∙◌, arith}, specs.Prelude.{max}}
+use Rattle.std.proofs.lemmas.{Bool.{eqb-true, eqb-false}, List.{get_or-set_same, get_or-set_other, get_or-replicate, length-set, length-replicate, Sums.{fold-append}}}
+use Rattle.sh_map.specs.declared.book.{Row.{Row}, Done.{Done}}
+use Rattle.sh_judge.specs.{Reading.{end_of, least_first, with_end, with_last_row, with_row}, Reader.{HasLeast}}
 
 least_more : (dones : List Done) (d : Done) (seat : ℕ) → least_first (dones ++ d ∷ []) seat ≡ with_end seat (least_first dones seat) d
 unfolding least_first

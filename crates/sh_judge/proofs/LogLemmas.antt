@@ -1,10 +1,7 @@
 -- The log of calls, with one place more.
-use Rattle.std.proofs.Common.{ℕ, ◌≡◌, ◌<◌, ◌+◌, List, [], ◌++◌, length, get_or, add-one, ap, refl, arith}
-use Rattle.std.specs.Prelude.{find, slice_get}
-use Rattle.sh_map.specs.declared.log.Entry.{Entry}
-use Rattle.sh_map.specs.declared.book.Done.{Done}
-use Rattle.sh_judge.specs.Places.{entry_at, entry_of, is_at, log_to}
-use Rattle.sh_judge.specs.Tables.{AreOwners}
+use Rattle.std.{proofs.Common.{ℕ, ◌≡◌, ◌<◌, ◌+◌, List, [], ◌++◌, length, get_or, add-one, ap, refl, arith}, specs.Prelude.{find, slice_get}}
+use Rattle.sh_map.specs.declared.{log.Entry.{Entry}, book.Done.{Done}}
+use Rattle.sh_judge.specs.{Places.{entry_at, entry_of, is_at, log_to}, Tables.{AreOwners}}
 
 pub log_none : (dones : List Done) → [] ≡ log_to dones 0
 unfolding log_to

@@ -1,10 +1,8 @@
 -- What digits say, and words joined by colons.
 use Rattle.std.proofs.Common.{ℕ, ◌≡◌, ◌≤◌, ◌<◌, ◌+◌, ◌^◌, false, true, List, [], ◌∷◌, ◌++◌, length, Option, Some, None, refl, ap, sym, ◌∙◌, arith, option_map, append_assoc}
 use Rattle.std.proofs.lemmas.Bool.Decides.{nat_tests}
-use Rattle.sh_sheet.specs.Number.{are_digits, value_from}
-use Rattle.sh_sheet.specs.Row.{joined}
-use Rattle.sh_judge.specs.Fields.{has_zero, parts_at, value_of, wide_of, word_of, words_of}
-use Rattle.sh_judge.proofs.Parts.{has_part}
+use Rattle.sh_sheet.specs.{Number.{are_digits, value_from}, Row.{joined}}
+use Rattle.sh_judge.{specs.Fields.{has_zero, parts_at, value_of, wide_of, word_of, words_of}, proofs.Parts.{has_part}}
 
 -- what is too large is no number
 pub wide_of_large : (bs : List ℕ) → 2 ^ 128 ≤ value_from 0 bs → None ≡ wide_of bs

@@ -1,16 +1,9 @@
 -- The owners of places, with one call more.
 use Rattle.std.proofs.Common.{ℕ, ◌≡◌, ◌≢◌, ◌≤◌, ◌<◌, ◌∙◌, Bool, true, false, List, [], ◌∷◌, ◌++◌, length, get_or, set, Option, Some, None, inl, inr, refl, ap, sym, subst, take, ◌+◌, arith, if◌then◌else◌}
-use Rattle.std.specs.Prelude.{find}
-use Rattle.std.specs.List.{slice_get}
-use Rattle.std.specs.Option.{option_or}
-use Rattle.std.proofs.lemmas.Bool.{cases_lt, cases_eq}
-use Rattle.std.proofs.lemmas.Bool.Decides.{nat_tests}
-use Rattle.std.proofs.lemmas.List.{get_or_default, take_more, get_or-set_same, get_or-set_other, length-set}
-use Rattle.std.proofs.lemmas.List.Folds.{find-append}
-use Rattle.std.proofs.lemmas.Option.{slice_get_past, slice_get-get_or}
+use Rattle.std.{specs.{Prelude.{find}, List.{slice_get}, Option.{option_or}}, proofs.lemmas.Bool.{cases_lt, cases_eq, Decides.{nat_tests}}}
+use Rattle.std.proofs.lemmas.{List.{get_or_default, take_more, get_or-set_same, get_or-set_other, length-set, Folds.{find-append}}, Option.{slice_get_past, slice_get-get_or}}
 use Rattle.sh_map.specs.declared.book.Done.{Done}
-use Rattle.sh_judge.specs.Places.{is_at}
-use Rattle.sh_judge.specs.Tables.{AreOwners, is_below}
+use Rattle.sh_judge.specs.{Places.{is_at}, Tables.{AreOwners, is_below}}
 
 module _ (n : ℕ) (all dones : List Done) (d : Done) (owners : List ℕ) (was : AreOwners n all dones owners) where
   found_more : (p : ℕ) (t : Bool) → is_at p d ≡ t → find (is_at p) (dones ++ d ∷ []) ≡ option_or (find (is_at p) dones) (if t then Some d else None)

@@ -1,10 +1,6 @@
 -- Where a text is cut at a byte.
-use Rattle.std.proofs.Common.{ℕ, ◌≡◌, ◌<◌, ◌≤◌, ◌+◌, ◌-◌, ◌==◌, Bool, true, false, List, [], ◌∷◌, length, take, drop, Option, Some, None, refl, arith}
-use Rattle.std.specs.List.{position, position_or_len}
-use Rattle.std.proofs.lemmas.Bool.Decides.{nat_tests}
-use Rattle.std.proofs.lemmas.List.{take_rest}
-use Rattle.std.proofs.lemmas.List.Splits.{slice_split_first, length-slice_split}
-use Rattle.std.proofs.lemmas.Option.{cond_some}
+use Rattle.std.{proofs.Common.{ℕ, ◌≡◌, ◌<◌, ◌≤◌, ◌+◌, ◌-◌, ◌==◌, Bool, true, false, List, [], ◌∷◌, length, take, drop, Option, Some, None, refl, arith}, specs.List.{position, position_or_len}}
+use Rattle.std.proofs.lemmas.{Bool.Decides.{nat_tests}, List.{take_rest, Splits.{slice_split_first, length-slice_split}}, Option.{cond_some}}
 use Rattle.sh_judge.specs.Fields.{parts_at, parts_behind, one_of}
 
 module _ (code : ℕ) where

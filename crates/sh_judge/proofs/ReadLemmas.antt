@@ -1,8 +1,6 @@
 -- The reading of a text, line by line.
 use Rattle.std.proofs.Common.{ℕ, ◌≡◌, ◌≤◌, ◌+◌, Bool, true, false, List, [], ◌∷◌, length, Some, None, refl, ◌∙◌, arith, if◌then◌else◌}
-use Rattle.sh_judge.specs.Fields.{parts_at}
-use Rattle.sh_judge.specs.Reading.{Reading, Astray, Told, reading_from, told_then, with_line}
-use Rattle.sh_judge.proofs.Parts.{has_part}
+use Rattle.sh_judge.{specs.{Fields.{parts_at}, Reading.{Reading, Astray, Told, reading_from, told_then, with_line}}, proofs.Parts.{has_part}}
 
 step_of : (words : ℕ) (t : Told) (n : ℕ) (line : List ℕ) (parts : List (List ℕ)) → 1 ≤ length parts
     → reading_from words t n (line ∷ parts) ≡ told_then (with_line words t line) (n + 1) (λ u. reading_from words u (n + 1) parts)

@@ -1,18 +1,9 @@
 -- The rows of a tree, by rising keys.
-use Rattle.std.proofs.Common.{ℕ, ◌≡◌, ◌∙◌, List, [], ◌∷◌, ◌++◌, map, ap, sym, Less}
-use Rattle.std.specs.Prelude.{T}
-use Rattle.std.specs.List.{AllByRecursion}
-use Rattle.std.specs.List.Sorted.{IsStrictlySortedBy}
-use Rattle.std.specs.Map.{keys_of}
-use Rattle.std.specs.Ordering.{nat_cmp}
-use Rattle.std.specs.Cmp.{nat_cmp_total}
-use Rattle.std.specs.FinMap.{entries, entries-from_sorted, from_entries, from_sorted, get-from_entries, get-from_sorted, is_sorted}
-use Rattle.std.specs.FinMap.Entries.{below_all}
+use Rattle.std.{proofs.Common.{ℕ, ◌≡◌, ◌∙◌, List, [], ◌∷◌, ◌++◌, map, ap, sym, Less}, specs.{Prelude.{T}, List.{AllByRecursion, Sorted.{IsStrictlySortedBy}}, Map.{keys_of}, Ordering.{nat_cmp}}}
+use Rattle.std.specs.{Cmp.{nat_cmp_total}, FinMap.{entries, entries-from_sorted, from_entries, from_sorted, get-from_entries, get-from_sorted, is_sorted, Entries.{below_all}}}
 use Rattle.std.proofs.lemmas.List.{append-nil, append_assoc}
 use Rattle.sh_logic.proofs.Tests.{both}
-use Rattle.sh_map.specs.declared.book.Row.{Row}
-use Rattle.sh_map.specs.Map.{Map, pair_row}
-use Rattle.sh_map.proofs.MapLemmas.{same_by_keys}
+use Rattle.sh_map.{specs.{declared.book.Row.{Row}, Map.{Map, pair_row}}, proofs.MapLemmas.{same_by_keys}}
 use Rattle.sh_judge.specs.Trees.{rows_in}
 
 abbrev pub to_row : ℕ × List ℕ → Row

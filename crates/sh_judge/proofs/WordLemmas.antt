@@ -1,11 +1,8 @@
 -- How many words a value has, by what the parse tells.
-use Rattle.std.proofs.Common.{◌≡◌, ℕ, List, Option, None, refl, ap, ap₂, sym, subst, ◌∙◌}
-use Rattle.std.specs.Prelude.{option_and_then, unwrap_or, codes}
-use Rattle.clap.specs.Words.{first_value, found_of}
-use Rattle.clap.specs.declared.parser.matches.ArgMatches.{ArgMatches}
+use Rattle.std.{proofs.Common.{◌≡◌, ℕ, List, Option, None, refl, ap, ap₂, sym, subst, ◌∙◌}, specs.Prelude.{option_and_then, unwrap_or, codes}}
+use Rattle.clap.specs.{Words.{first_value, found_of}, declared.parser.matches.ArgMatches.{ArgMatches}}
 use Rattle.sh_sheet.specs.Number.{number_of}
-use Rattle.sh_options.specs.Holds.{Told}
-use Rattle.sh_options.specs.Uses.{Names, Text, told_by}
+use Rattle.sh_options.specs.{Holds.{Told}, Uses.{Names, Text, told_by}}
 use Rattle.sh_judge.specs.Words.{judge_names, width_if, width_in, width_of}
 
 pub names_are : {options flags : List Text} → options ≡ judge_names.options → flags ≡ judge_names.flags → (let n : Names = record { options = options; flags = flags } in n ≡ judge_names)

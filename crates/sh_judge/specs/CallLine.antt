@@ -1,14 +1,9 @@
 -- What the line of a call says: `n,seat,op,a,b,reply,value,point`.
-use Rattle.std.specs.Prelude.{ℕ, ◌==◌, nat_le, nat_lt, List, [], length, codes, Option, Some, None, option_map, option_and_then, if◌then◌else◌}
-use Rattle.std.specs.Str.{bytes_eq}
-use Rattle.sh_map.specs.declared.call.Call.{Call}
-use Rattle.sh_map.specs.declared.call.Call.TheVariants.{Get, Put, Del, Range}
-use Rattle.sh_map.specs.declared.call.Reply.{Reply}
+use Rattle.std.specs.{Prelude.{ℕ, ◌==◌, nat_le, nat_lt, List, [], length, codes, Option, Some, None, option_map, option_and_then, if◌then◌else◌}, Str.{bytes_eq}}
+use Rattle.sh_map.specs.declared.{call.{Call.{Call, TheVariants.{Get, Put, Del, Range}}, Reply.{Reply}}, book.Done.{Done}}
 use Rattle.sh_map.specs.declared.call.Reply.TheVariants as reply
-use Rattle.sh_map.specs.declared.book.Done.{Done}
 use Rattle.sh_sheet.specs.Row.{is_key}
-use Rattle.sh_judge.specs.declared.call.Span.{Span}
-use Rattle.sh_judge.specs.Fields.{Seven, parts_at, two_of, value_of, word_of}
+use Rattle.sh_judge.specs.{declared.call.Span.{Span}, Fields.{Seven, parts_at, two_of, value_of, word_of}}
 
 -- the key that a field says: a word from 1 to 2^64-2
 abbrev pub key_of : List ℕ → Option ℕ

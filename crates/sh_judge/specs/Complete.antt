@@ -1,8 +1,7 @@
 -- A judge that meets nothing in its way.
 use Rattle.std.specs.Prelude.{ℕ, ◌≡◌, ◌≢◌, ◌<◌, ◌-◌, ◌^◌, List, length, Option, Some}
 use Rattle.sh_sheet.specs.declared.status.Status.TheVariants as status
-use Rattle.sh_judge.specs.declared.status.JudgeStatus.{JudgeStatus}
-use Rattle.sh_judge.specs.declared.status.JudgeStatus.TheVariants.{Served, NotLawful}
+use Rattle.sh_judge.specs.declared.status.JudgeStatus.{JudgeStatus, TheVariants.{Served, NotLawful}}
 
 -- a count of faults that stays, below its last value
 abbrev pub HasNoFault : ℕ → ℕ → Type 0

@@ -1,8 +1,6 @@
 -- The fields of a printed line, and what a field says. Numbers are decimal, without leading zeros.
-use Rattle.std.specs.Prelude.{ℕ, ◌==◌, ◌^◌, Bool, not, ◌&&◌, nat_lt, List, [], ◌∷◌, length, get_or, Option, Some, None, option_map, if◌then◌else◌}
-use Rattle.std.specs.List.{slice_split}
-use Rattle.sh_sheet.specs.Number.{are_digits, number_of, value_from}
-use Rattle.sh_sheet.specs.Row.{joined}
+use Rattle.std.specs.{Prelude.{ℕ, ◌==◌, ◌^◌, Bool, not, ◌&&◌, nat_lt, List, [], ◌∷◌, length, get_or, Option, Some, None, option_map, if◌then◌else◌}, List.{slice_split}}
+use Rattle.sh_sheet.specs.{Number.{are_digits, number_of, value_from}, Row.{joined}}
 
 -- the parts of a text between its bytes of this code
 abbrev pub parts_at : ℕ → List ℕ → List (List ℕ)

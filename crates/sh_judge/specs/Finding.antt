@@ -1,17 +1,9 @@
 -- What is found of a printed replay.
-use Rattle.std.specs.Prelude.{◌≡◌, ◌≢◌, ◌⊎◌, ℕ, ◌+◌, ◌-◌, List, [], length, take, sum, Some}
-use Rattle.std.specs.List.{slice_get, sum_by}
-use Rattle.sh_map.specs.declared.book.Row.{Row}
-use Rattle.sh_map.specs.declared.log.Entry.{Entry}
-use Rattle.sh_map.specs.Log.{map_of}
-use Rattle.sh_map.specs.Book.{IsLawful}
-use Rattle.sh_map.specs.Judge.{IsFirstMisfit}
-use Rattle.sh_judge.specs.declared.found.End.{End}
-use Rattle.sh_judge.specs.declared.finding.Finding.{Finding}
-use Rattle.sh_judge.specs.declared.finding.Finding.TheVariants as finding
-use Rattle.sh_judge.specs.Places.{ArePlaced, IsLeastUnplaced, log_of}
-use Rattle.sh_judge.specs.Trees.{rows_in}
+use Rattle.std.specs.{Prelude.{◌≡◌, ◌≢◌, ◌⊎◌, ℕ, ◌+◌, ◌-◌, List, [], length, take, sum, Some}, List.{slice_get, sum_by}}
+use Rattle.sh_map.specs.{declared.{book.Row.{Row}, log.Entry.{Entry}}, Log.{map_of}, Book.{IsLawful}, Judge.{IsFirstMisfit}}
+use Rattle.sh_judge.specs.{declared.{found.End.{End}, finding.Finding.{Finding}}, Places.{ArePlaced, IsLeastUnplaced, log_of}, Trees.{rows_in}}
 use Rattle.sh_judge.specs.Reading.{Reading, AllTold, Astray, Told, made_end, reading_of}
+use Rattle.sh_judge.specs.declared.finding.Finding.TheVariants as finding
 
 -- the keys and values of the map of a log, by rising keys
 abbrev pub rows_of : List Entry → List Row

@@ -1,6 +1,5 @@
 -- The line of what is found.
-use Rattle.std.specs.Prelude.{ℕ, List, ◌++◌, codes}
-use Rattle.std.specs.Fmt.{decimal}
+use Rattle.std.specs.{Prelude.{ℕ, List, ◌++◌, codes}, Fmt.{decimal}}
 use Rattle.sh_map.specs.declared.misfit.Misfit.{Misfit}
 use Rattle.sh_map.specs.declared.misfit.Misfit.TheVariants as misfit
 use Rattle.sh_judge.specs.declared.finding.Finding.{Finding}

@@ -1,16 +1,10 @@
 -- What a judge of a printed replay leaves, by how it ended.
-use Rattle.std.specs.Prelude.{ℕ, ◌≡◌, List, [], Option, Some, None}
-use Rattle.std.specs.Io.KnownBytes.{Appends}
-use Rattle.sh_port.specs.Port.{HasRisen, AppendsFront}
-use Rattle.sh_port.specs.Intake.{TookAll, TookSome, TookMost}
+use Rattle.std.specs.{Prelude.{ℕ, ◌≡◌, List, [], Option, Some, None}, Io.KnownBytes.{Appends}}
+use Rattle.sh_port.specs.{Port.{HasRisen, AppendsFront}, Intake.{TookAll, TookSome, TookMost}}
 use Rattle.sh_sheet.specs.declared.status.Status.TheVariants as status
 use Rattle.sh_sheet.specs.Status.{status_code, status_text}
-use Rattle.sh_judge.specs.declared.status.JudgeStatus.{JudgeStatus}
-use Rattle.sh_judge.specs.declared.status.JudgeStatus.TheVariants.{Served, NotLawful}
-use Rattle.sh_judge.specs.declared.finding.Finding.{Finding}
+use Rattle.sh_judge.specs.{declared.{status.JudgeStatus.{JudgeStatus, TheVariants.{Served, NotLawful}}, finding.Finding.{Finding}}, Finding.{IsFinding}, FindingLine.{finding_line}}
 use Rattle.sh_judge.specs.declared.finding.Finding.TheVariants as finding
-use Rattle.sh_judge.specs.Finding.{IsFinding}
-use Rattle.sh_judge.specs.FindingLine.{finding_line}
 
 -- the code that a program ends with, and the text of a status
 abbrev pub judge_code : JudgeStatus → ℕ

@@ -1,10 +1,6 @@
 -- The log that finished calls make, by their points.
-use Rattle.std.specs.Prelude.{◌≡◌, ◌≢◌, ℕ, zero, suc, ◌<◌, ◌==◌, ◌&&◌, Bool, List, [], ◌++◌, Option, Some, None, find, if◌then◌else◌}
-use Rattle.std.specs.List.{sum_by}
-use Rattle.sh_map.specs.declared.log.Entry.{Entry}
-use Rattle.sh_map.specs.declared.book.Done.{Done}
-use Rattle.sh_map.specs.Book.{made}
-use Rattle.sh_map.specs.Made.{entries_by}
+use Rattle.std.specs.{Prelude.{◌≡◌, ◌≢◌, ℕ, zero, suc, ◌<◌, ◌==◌, ◌&&◌, Bool, List, [], ◌++◌, Option, Some, None, find, if◌then◌else◌}, List.{sum_by}}
+use Rattle.sh_map.specs.{declared.{log.Entry.{Entry}, book.Done.{Done}}, Book.{made}, Made.{entries_by}}
 
 abbrev pub made_by : Done → ℕ
 made_by d = made d.call d.reply

@@ -1,10 +1,8 @@
 -- How far a text is read.
 use Rattle.std.specs.Prelude.{ℕ, ◌≡◌, ◌<◌, List, length, get_or}
 use Rattle.sh_map.specs.declared.book.Done.{Done}
-use Rattle.sh_judge.specs.declared.found.Found.{Found}
-use Rattle.sh_judge.specs.declared.read.ReadFault.{ReadFault}
+use Rattle.sh_judge.specs.{declared.{found.Found.{Found}, read.ReadFault.{ReadFault}}, Reading.{Reading, Astray, Told, least_first}}
 use Rattle.sh_judge.specs.declared.read.ReadFault.TheVariants as fault
-use Rattle.sh_judge.specs.Reading.{Reading, Astray, Told, least_first}
 
 abbrev pub told_of : Found → Told
 told_of f = record { dones = f.dones.items; maps = f.maps.items; end = f.end }

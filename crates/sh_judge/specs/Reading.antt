@@ -1,16 +1,8 @@
 -- What a printed replay says, line by line.
 use Rattle.std.specs.Prelude.{ℕ, ◌+◌, ◌-◌, ◌^◌, ◌==◌, nat_lt, Bool, true, false, ◌&&◌, is_some, List, [], ◌∷◌, ◌++◌, length, codes, Option, Some, None, option_map, option_and_then, if◌then◌else◌, min, max}
-use Rattle.std.specs.List.{fold, slice_get}
-use Rattle.std.specs.Str.{bytes_eq}
-use Rattle.sh_map.specs.declared.call.Call.{Call}
-use Rattle.sh_map.specs.declared.call.Call.TheVariants.{Range}
-use Rattle.sh_map.specs.declared.book.Row.{Row}
-use Rattle.sh_map.specs.declared.book.Done.{Done}
-use Rattle.sh_map.specs.Book.{made}
-use Rattle.sh_map.specs.Map.{pair_row}
-use Rattle.sh_judge.specs.declared.found.End.{End}
-use Rattle.sh_judge.specs.Fields.{Three, fields_of, parts_at, seven_of, three_of, two_of, value_of, wide_of, word_of}
-use Rattle.sh_judge.specs.CallLine.{done_of}
+use Rattle.std.specs.{List.{fold, slice_get}, Str.{bytes_eq}}
+use Rattle.sh_map.specs.{declared.{call.Call.{Call, TheVariants.{Range}}, book.{Row.{Row}, Done.{Done}}}, Book.{made}, Map.{pair_row}}
+use Rattle.sh_judge.specs.{declared.found.End.{End}, Fields.{Three, fields_of, parts_at, seven_of, three_of, two_of, value_of, wide_of, word_of}, CallLine.{done_of}}
 
 -- What lines say: the finished calls with their rows, the rows of the map, and the numbers of the last line, once it
 -- was read.

@@ -1,6 +1,5 @@
 -- Tables that are kept beside the calls of a text, so that each of them is placed quickly.
-use Rattle.std.specs.Prelude.{◌≡◌, ℕ, ◌<◌, ◌&&◌, ◌==◌, nat_lt, Bool, List, length, get_or, min, find}
-use Rattle.std.specs.List.{slice_get}
+use Rattle.std.specs.{Prelude.{◌≡◌, ℕ, ◌<◌, ◌&&◌, ◌==◌, nat_lt, Bool, List, length, get_or, min, find}, List.{slice_get}}
 use Rattle.sh_map.specs.declared.book.Done.{Done}
 use Rattle.sh_judge.specs.Places.{count_at, is_at, made_by}
 

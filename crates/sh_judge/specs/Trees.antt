@@ -1,9 +1,6 @@
 -- A tree of keys and values, seen as a map.
-use Rattle.std.specs.Prelude.{ℕ, List, map}
-use Rattle.std.specs.BTreeMap.{BTreeMap}
-use Rattle.std.specs.FinMap.{entries, from_entries}
-use Rattle.sh_map.specs.declared.book.Row.{Row}
-use Rattle.sh_map.specs.Map.{Map, pair_row}
+use Rattle.std.specs.{Prelude.{ℕ, List, map}, BTreeMap.{BTreeMap}, FinMap.{entries, from_entries}}
+use Rattle.sh_map.specs.{declared.book.Row.{Row}, Map.{Map, pair_row}}
 
 abbrev pub map_in : BTreeMap ℕ (List ℕ) → Map
 map_in t = from_entries t.entries

@@ -1,7 +1,6 @@
 // The line of a call.
 ghost use Rattle.std.specs.Prelude.{◌≡◌, ◌≤◌, IfSome};
-ghost use Rattle.sh_judge.specs.CallLine.{call_of, del_reply, done_of, ends_of, found_of, key_of, put_of, put_reply, range_of, range_reply, reply_of, seat_of, two_ends};
-ghost use Rattle.sh_judge.specs.Reading.{least_first};
+ghost use Rattle.sh_judge.specs.{CallLine.{call_of, del_reply, done_of, ends_of, found_of, key_of, put_of, put_reply, range_of, range_reply, reply_of, seat_of, two_ends}, Reading.{least_first}};
 ghost use Rattle.sh_judge.specs.Reader.{HasLeast};
 
 use crate::cut::{SevenFields, two};

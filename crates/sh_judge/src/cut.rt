@@ -1,6 +1,5 @@
 // Texts cut at a byte, part by part.
-ghost use Rattle.std.specs.Prelude.{◌≡◌, ◌∷◌, ◌==◌, [], MatchOption, option_map};
-ghost use Rattle.std.specs.List.{position};
+ghost use Rattle.std.specs.{Prelude.{◌≡◌, ◌∷◌, ◌==◌, [], MatchOption, option_map}, List.{position}};
 ghost use Rattle.sh_judge.specs.Fields.{parts_at, parts_behind, one_of, seven_of, three_of, two_of};
 
 /// Where the first byte of this code stands.

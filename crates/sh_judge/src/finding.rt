@@ -1,6 +1,5 @@
 // What is found of a printed replay.
-ghost use Rattle.std.specs.Prelude.{◌≡◌, ◌++◌, IfOk, OnOk, codes, string_bytes};
-ghost use Rattle.std.specs.Fmt.{decimal};
+ghost use Rattle.std.specs.{Prelude.{◌≡◌, ◌++◌, IfOk, OnOk, codes, string_bytes}, Fmt.{decimal}};
 ghost use Rattle.sh_judge.specs.FindingLine.{finding_line, misfit_rest};
 
 use sh_map::Misfit;

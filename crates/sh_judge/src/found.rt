@@ -1,8 +1,7 @@
 // What is found in the lines of a text so far.
 ghost use Rattle.std.specs.Prelude.{◌≡◌, ◌≤◌, ◌∷◌, ◌++◌, [], Some, None, IfOk, OnOk};
 ghost use Rattle.sh_map.specs.Book.{made};
-ghost use Rattle.sh_judge.specs.Reading.{end_of, least_first, nothing_told, with_last_row, with_row};
-ghost use Rattle.sh_judge.specs.Reader.{HasLeast, told_of};
+ghost use Rattle.sh_judge.specs.{Reading.{end_of, least_first, nothing_told, with_last_row, with_row}, Reader.{HasLeast, told_of}};
 
 use sh_map::{Call, Done, Reply, Row};
 use std::alloc::{AllocError, Global};

@@ -1,7 +1,6 @@
 // A printed replay, judged.
 ghost use Rattle.std.specs.Prelude.{◌≡◌, ◌≤◌, ◌↔◌, Some, IfOk, IsTrue, MatchOption, length};
-ghost use Rattle.sh_judge.specs.Finding.{HasMap, IsFinding, IsFoundIn, IsWrongMap, end_for, sum_of};
-ghost use Rattle.sh_judge.specs.Reader.{told_of};
+ghost use Rattle.sh_judge.specs.{Finding.{HasMap, IsFinding, IsFoundIn, IsWrongMap, end_for, sum_of}, Reader.{told_of}};
 
 use crate::Finding;
 use crate::found::Found;

@@ -1,8 +1,7 @@
 // The map that a log makes, as rows.
 ghost use Rattle.std.specs.Prelude.{◌≡◌, ◌^◌, ◌≤◌, ◌*◌, ◌↔◌, IfOk, IsTrue, MatchOption, OnOk, sum};
 ghost use Rattle.sh_map.specs.Log.{changed, map_of};
-ghost use Rattle.sh_judge.specs.Finding.{AreUnlikeAt, rows_of, sum_of};
-ghost use Rattle.sh_judge.specs.Trees.{map_in, rows_in};
+ghost use Rattle.sh_judge.specs.{Finding.{AreUnlikeAt, rows_of, sum_of}, Trees.{map_in, rows_in}};
 
 use sh_base::Value;
 use sh_map::{Change, Entry, Row};

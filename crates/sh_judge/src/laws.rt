@@ -1,13 +1,8 @@
 // What is found, and what the headline means for a caller.
 ghost use Rattle.std.specs.Prelude.{◌≡◌, ℕ, List, Option};
 ghost use Rattle.sh_map.specs.Book.{IsClosed};
-ghost use Rattle.sh_judge.specs.declared.finding.Finding.TheVariants.{Lawful};
-ghost use Rattle.sh_judge.specs.declared.status.JudgeStatus.{JudgeStatus};
-ghost use Rattle.sh_judge.specs.Complete.{EndsWell, IsFree};
-ghost use Rattle.sh_judge.specs.Finding.{IsFoundIn};
-ghost use Rattle.sh_judge.specs.Judged.{JudgeHeadline};
-ghost use Rattle.sh_judge.specs.Places.{log_of};
-ghost use Rattle.sh_judge.specs.Reading.{Told};
+ghost use Rattle.sh_judge.specs.{declared.{finding.Finding.TheVariants.{Lawful}, status.JudgeStatus.{JudgeStatus}}, Complete.{EndsWell, IsFree}, Finding.{IsFoundIn}, Judged.{JudgeHeadline}};
+ghost use Rattle.sh_judge.specs.{Places.{log_of}, Reading.{Told}};
 
 /// The book of a lawful text is closed: each entry of its log is some call's own. A judge is complete: with accepted words,
 /// bytes within the number and no fault of source or sink, the text is judged, or memory is wanting.

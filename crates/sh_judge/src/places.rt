@@ -1,8 +1,6 @@
 // The places of calls in a log.
-ghost use Rattle.std.specs.Prelude.{◌≡◌, ◌≢◌, ◌≤◌, ◌<◌, ◌+◌, ◌++◌, ℕ, IfOk, MatchOption, get_or, length, slice_get, vec_len};
-ghost use Rattle.std.specs.Vec.{vec_capacity};
-ghost use Rattle.sh_judge.specs.Places.{ArePlaced, IsLeastUnplaced, entry_of, log_of, log_to, made_by, updates};
-ghost use Rattle.sh_judge.specs.Tables.{AreCounted, AreOwners, is_below};
+ghost use Rattle.std.specs.{Prelude.{◌≡◌, ◌≢◌, ◌≤◌, ◌<◌, ◌+◌, ◌++◌, ℕ, IfOk, MatchOption, get_or, length, slice_get, vec_len}, Vec.{vec_capacity}};
+ghost use Rattle.sh_judge.specs.{Places.{ArePlaced, IsLeastUnplaced, entry_of, log_of, log_to, made_by, updates}, Tables.{AreCounted, AreOwners, is_below}};
 
 use crate::found::made;
 use sh_map::{Done, Log, log_call};

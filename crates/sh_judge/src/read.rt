@@ -1,9 +1,7 @@
 // The lines of a text, each in its place.
 ghost use Rattle.std.specs.Prelude.{◌≡◌, ◌≤◌, ◌<◌, ◌+◌, ◌∷◌, [], Some, None, IfOk, IfSome, OnOk, MatchOption, MatchResult, if◌then◌else◌, length, option_map};
-ghost use Rattle.sh_judge.specs.Fields.{parts_at, parts_behind};
-ghost use Rattle.sh_judge.specs.Reading.{AllTold, call_in, end_in, ends_in_range, map_in, reading_of, reading_from, row_in, row_of, says, with_fields, with_line};
-ghost use Rattle.sh_judge.specs.Reader.{HasLeast, IsReadFault, told_of};
-ghost use Rattle.sh_judge.specs.declared.read.ReadFault.TheVariants.{NoMemory};
+ghost use Rattle.sh_judge.specs.{Fields.{parts_at, parts_behind}, Reading.{AllTold, call_in, end_in, ends_in_range, map_in, reading_of, reading_from, row_in, row_of, says, with_fields, with_line}};
+ghost use Rattle.sh_judge.specs.{Reader.{HasLeast, IsReadFault, told_of}, declared.read.ReadFault.TheVariants.{NoMemory}};
 
 use crate::call::done;
 use crate::cut::{cut, find, seven, three, two};

@@ -1,7 +1,6 @@
 // From the bytes of a printed replay to the line of what is found.
 ghost use Rattle.std.specs.Prelude.{◌≡◌, ◌≤◌, map};
-ghost use Rattle.sh_judge.specs.Judged.{JudgeHeadline, Judged};
-ghost use Rattle.sh_judge.specs.Words.{width_of};
+ghost use Rattle.sh_judge.specs.{Judged.{JudgeHeadline, Judged}, Words.{width_of}};
 
 use crate::finding::finding_line;
 use crate::status::ended_by;

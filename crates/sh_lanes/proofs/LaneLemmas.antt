@@ -3,10 +3,7 @@ use Rattle.std.proofs.Common.{ℕ, ◌≡◌, ◌≢◌, ◌<◌, ◌≤◌, ◌
 use Rattle.std.specs.List.{prefix_len, count_by}
 use lib.Count.{count_trailing_zeros}
 use lib.Lanes.{chunk, zip2, mask_l, top}
-use Rattle.std.proofs.lemmas.Bool.{cases_lt, eqb-false, eqb-true}
-use Rattle.std.proofs.lemmas.Bool.Decides.{nat_tests}
-use Rattle.std.proofs.lemmas.List.{take_all, same_lists, get_or_default}
-use Rattle.std.proofs.lemmas.List.Sums.{sum_by-cons}
+use Rattle.std.proofs.lemmas.{Bool.{cases_lt, eqb-false, eqb-true, Decides.{nat_tests}}, List.{take_all, same_lists, get_or_default, Sums.{sum_by-cons}}}
 use Rattle.std.proofs.lemmas.Simd.{run_in_chunk_fails, run_in_chunk_stops, length-chunk, get_or-chunk, length-zip2, get_or-zip2, chunk-drop, tops_compared, mask_l-mod, leading_from_mask_l, trailing_mask_l}
 use Rattle.sh_lanes.specs.Scans.{count_empty, IsFirst, IsFirstDiffering}
 

@@ -3,8 +3,7 @@
 #![tactic(auto)]
 
 ghost use Rattle.std.specs.Prelude.{◌≡◌, ◌==◌, ℕ, ◌+◌, ◌*◌, ◌<◌, ◌≤◌, length, not, MatchOption};
-ghost use Rattle.std.specs.List.{prefix_len};
-ghost use Rattle.std.specs.Simd.Lanes.{chunk, zip2};
+ghost use Rattle.std.specs.{List.{prefix_len}, Simd.Lanes.{chunk, zip2}};
 ghost use Rattle.sh_lanes.specs.Scans.{count_empty, LacksWord, IsColumn, IsFirst, IsFirstDiffering};
 
 use std::simd::prelude::*;

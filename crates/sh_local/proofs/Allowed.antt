@@ -5,23 +5,12 @@ use mathlib.Core.Option.{some, some-injective, some-ne-none}
 use mathlib.Core.Logic.{dite}
 use native.Mathlib.Decide.{ℕ_discrete}
 use lib.ListN.{get_elem?}
-use Rattle.std.proofs.lemmas.List.{get_or-set_same, get_or-set_other, set-get_or}
-use Rattle.std.proofs.lemmas.Bool.{false≢true}
-use Rattle.std.proofs.lemmas.Bool.Decides.{nat_tests}
-use Rattle.std.proofs.lemmas.Option.{none-some}
-use Rattle.std.proofs.Math.Nat.{mod-add-mod}
-use Rattle.std.specs.List.{Contains}
-use Rattle.atomic_table.specs.Table.{State, Me, Allows, keeps, takes, gives}
-use Rattle.atomic_table.proofs.Lists.{set_here, set_else, set_again, one_turn}
-use Rattle.sh_local.specs.declared.view.Ticket.{Ticket}
-use Rattle.sh_local.specs.declared.view.ChairCall.{ChairCall}
-use Rattle.sh_local.specs.declared.view.ChairCall.TheVariants.{Drew, Waited, Turned, Counted, Left}
-use Rattle.sh_local.specs.declared.view.View.{View}
+use Rattle.std.{proofs.{lemmas.{List.{get_or-set_same, get_or-set_other, set-get_or}, Bool.{false≢true, Decides.{nat_tests}}, Option.{none-some}}, Math.Nat.{mod-add-mod}}, specs.List.{Contains}}
+use Rattle.atomic_table.{specs.Table.{State, Me, Allows, keeps, takes, gives}, proofs.Lists.{set_here, set_else, set_again, one_turn}}
+use Rattle.sh_local.specs.declared.view.{Ticket.{Ticket}, ChairCall.{ChairCall, TheVariants.{Drew, Waited, Turned, Counted, Left}}, View.{View}}
 use Rattle.sh_local.specs.Calls.{ticket, weight, weight_at_home, gave, took, drew_at, turned_at, below, total, waits, out, held, drew, waited, turned, counted, gone, seen_ahead, or_none}
-use Rattle.sh_local.specs.Lines.{Line, before, Seated, StandsInLine, AllStand, HasTicket, in_turn, Queue, Kept, LineAgrees}
-use Rattle.sh_local.specs.Steps.{Draws, Looks, LooksIf, Counts, LeavesQueue, FitsIf, carried_right}
-use Rattle.sh_local.specs.Chairs.{MayLeave}
-use Rattle.sh_local.proofs.Sums.{total_set, total_le, put, put_here, put_else, same_at, at_lt, there}
+use Rattle.sh_local.specs.{Lines.{Line, before, Seated, StandsInLine, AllStand, HasTicket, in_turn, Queue, Kept, LineAgrees}, Steps.{Draws, Looks, LooksIf, Counts, LeavesQueue, FitsIf, carried_right}}
+use Rattle.sh_local.{specs.Chairs.{MayLeave}, proofs.Sums.{total_set, total_le, put, put_here, put_else, same_at, at_lt, there}}
 use Rattle.sh_local.proofs.Changes.{Grows, changes, stand_on, more_of, has_same, turn_same, length_set}
 
 -- a fact of the value, if there is one

@@ -6,10 +6,7 @@ use mathlib.Core.Logic.{dite}
 use native.Mathlib.Decide.{ℕ_discrete}
 use lib.ListN.{get_elem?}
 use Rattle.atomic_table.proofs.Lists.{at_set, set_here, set_else}
-use Rattle.sh_local.specs.declared.view.Ticket.{Ticket}
-use Rattle.sh_local.specs.declared.view.ChairCall.{ChairCall}
-use Rattle.sh_local.specs.declared.view.ChairCall.TheVariants.{Drew, Waited, Turned, Counted, Left}
-use Rattle.sh_local.specs.declared.view.View.{View}
+use Rattle.sh_local.specs.declared.view.{Ticket.{Ticket}, ChairCall.{ChairCall, TheVariants.{Drew, Waited, Turned, Counted, Left}}, View.{View}}
 use Rattle.sh_local.specs.Calls.{ticket, weight_at_home, gave, took, drew_at, draws_of, turned_at, turns_of, below, total, given, taken, waits, out, or_none}
 use Rattle.sh_local.specs.Lines.{Line, before, Seated, StandsInLine, AllStand, KnowsLine, HasTicket, HasTicketTurn, Queue, Kept}
 use Rattle.sh_local.proofs.Sums.{total_set, total_snoc, put, put_here, put_else, at_put, same_at, at_lt}

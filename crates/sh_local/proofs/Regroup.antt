@@ -5,20 +5,13 @@ use mathlib.Core.Option.{some, some-injective, some-ne-none}
 use mathlib.Core.Logic.{dite}
 use native.Mathlib.Decide.{ℕ_discrete}
 use lib.ListN.{get_elem?}
-use Rattle.std.proofs.lemmas.Bool.Decides.{nat_tests}
-use Rattle.std.proofs.lemmas.Option.{none-some}
-use Rattle.atomic_table.specs.Table.{Splits, Joins}
-use Rattle.atomic_table.proofs.Lists.{at_set, set_else, at_longer, at_snoc}
+use Rattle.std.proofs.lemmas.{Bool.Decides.{nat_tests}, Option.{none-some}}
+use Rattle.atomic_table.{specs.Table.{Splits, Joins}, proofs.Lists.{at_set, set_else, at_longer, at_snoc}}
 use Rattle.sh_logic.proofs.Options.{some_is}
-use Rattle.sh_local.specs.declared.view.Ticket.{Ticket}
-use Rattle.sh_local.specs.declared.view.ChairCall.{ChairCall}
-use Rattle.sh_local.specs.declared.view.View.{View}
-use Rattle.sh_local.specs.Calls.{weight, weight_at_home, gave, took, drew_at, draws_of, turned_at, turns_of, below, total, given, taken, waits, out, opener}
-use Rattle.sh_local.specs.Lines.{Line, AllStand, KnowsLine, in_turn, before, Kept}
-use Rattle.sh_local.specs.Calls.{less_one, new_chair, both, spent}
-use Rattle.sh_local.proofs.Sums.{total_set, total_snoc, total_append, total_none, total_alone, total_part, same_at, at_lt, there}
-use Rattle.sh_local.proofs.Changes.{all_stand_append}
-use Rattle.sh_local.proofs.Allowed.{Holds, out_le}
+use Rattle.sh_local.specs.declared.view.{Ticket.{Ticket}, ChairCall.{ChairCall}, View.{View}}
+use Rattle.sh_local.specs.Calls.{weight, weight_at_home, gave, took, drew_at, draws_of, turned_at, turns_of, below, total, given, taken, waits, out, opener, less_one, new_chair, both, spent}
+use Rattle.sh_local.{specs.Lines.{Line, AllStand, KnowsLine, in_turn, before, Kept}, proofs.Sums.{total_set, total_snoc, total_append, total_none, total_alone, total_part, same_at, at_lt, there}}
+use Rattle.sh_local.proofs.{Changes.{all_stand_append}, Allowed.{Holds, out_le}}
 
 abbrev part : {T K : Type 0} → View T K → ℕ
 part v = v.parts

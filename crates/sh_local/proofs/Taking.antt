@@ -1,16 +1,9 @@
 -- The chairs that are taken in, one after another.
 use Rattle.std.proofs.Common.{◌≡◌, ℕ, Option, None, List, [], ◌∷◌, ◌++◌, length, ap, sym, subst, arith, length-append}
-use Rattle.atomic_table.specs.Table.{Seen, Final}
-use Rattle.atomic_table.specs.Seated.{TableId}
-use Rattle.sh_local.specs.declared.view.ChairCall.{ChairCall}
-use Rattle.sh_local.specs.declared.view.View.{View}
-use Rattle.sh_local.specs.Calls.{gave, took, drew_at, draws_of, turned_at, turns_of, total, given, taken}
-use Rattle.sh_local.specs.Lines.{Line, AllStand}
-use Rattle.sh_local.specs.Calls.{both}
-use Rattle.sh_local.specs.Chairs.{Sitting, AllFree, AllTold, AllNone, TakenIn, Gathered}
-use Rattle.sh_local.proofs.Sums.{total_append, total_snoc}
-use Rattle.sh_local.proofs.Regroup.{ends_served, ends_once, ends_turns, ends_left, ends_even, ends_empty, ends_told}
-use Rattle.sh_local.proofs.Allowed.{Holds}
+use Rattle.atomic_table.specs.{Table.{Seen, Final}, Seated.{TableId}}
+use Rattle.sh_local.specs.{declared.view.{ChairCall.{ChairCall}, View.{View}}, Calls.{gave, took, drew_at, draws_of, turned_at, turns_of, total, given, taken, both}, Lines.{Line, AllStand}}
+use Rattle.sh_local.{specs.Chairs.{Sitting, AllFree, AllTold, AllNone, TakenIn, Gathered}, proofs.Sums.{total_append, total_snoc}}
+use Rattle.sh_local.proofs.{Regroup.{ends_served, ends_once, ends_turns, ends_left, ends_even, ends_empty, ends_told}, Allowed.{Holds}}
 
 all_stand_split : {T : Type 0} (lines : ℕ → Line T) (xs ys : List (ChairCall T)) → AllStand lines (xs ++ ys) → AllStand lines xs × AllStand lines ys
 all_stand_split lines [] ys h = (tt, h)

@@ -1,10 +1,7 @@
 -- Tickets, the calls on a chair with their answers, and what each call leaves of what the chair knows.
 use Rattle.std.specs.Prelude.{ℕ, zero, suc, ◌+◌, ◌-◌, ◌==◌, nat_lt, Bool, true, false, if◌then◌else◌, Option, None, Some, List, [], ◌∷◌, ◌++◌}
 use mathlib.Core.Option as maybe
-use Rattle.sh_local.specs.declared.view.Ticket.{Ticket}
-use Rattle.sh_local.specs.declared.view.ChairCall.{ChairCall}
-use Rattle.sh_local.specs.declared.view.ChairCall.TheVariants.{Drew, Waited, Turned, Counted, Left}
-use Rattle.sh_local.specs.declared.view.View.{View}
+use Rattle.sh_local.specs.declared.view.{Ticket.{Ticket}, ChairCall.{ChairCall, TheVariants.{Drew, Waited, Turned, Counted, Left}}, View.{View}}
 
 abbrev pub ticket : ℕ → ℕ → Bool → Bool → Ticket
 ticket c n turn ahead = record { cell = c; number = n; turn = turn; ahead = ahead }

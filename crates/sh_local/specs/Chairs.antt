@@ -3,13 +3,8 @@ use Rattle.std.specs.Prelude.{◌≡◌, ◌≢◌, ℕ, ◌+◌, ◌%◌, ◌^�
 use mathlib.Core.Option as maybe
 use lib.ListN.{get_elem?}
 use Rattle.atomic_table.specs.Seated.{TableId}
-use Rattle.sh_local.specs.declared.view.View.{View}
-use Rattle.sh_local.specs.declared.view.Ticket.{Ticket}
-use Rattle.sh_local.specs.declared.look.Look.{Look}
-use Rattle.sh_local.specs.declared.look.Look.TheVariants.{Wait, Turn}
-use Rattle.sh_local.specs.Calls.{total, given, taken, draws_of, turns_of, below, held, waited, turned}
-use Rattle.sh_local.specs.Lines.{Line, before, AllStand}
-use Rattle.sh_local.specs.Steps.{FitsIf}
+use Rattle.sh_local.specs.{declared.{view.{View.{View}, Ticket.{Ticket}}, look.Look.{Look, TheVariants.{Wait, Turn}}}, Calls.{total, given, taken, draws_of, turns_of, below, held, waited, turned}}
+use Rattle.sh_local.specs.{Lines.{Line, before, AllStand}, Steps.{FitsIf}}
 
 -- a table of cells: which one it is, its key, and how many cells and chairs it has
 pub record CellTable (K : Type 0) : Type 0 where

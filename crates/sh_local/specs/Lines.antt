@@ -1,12 +1,8 @@
 -- The line of tickets of each cell, and the rule that the table of cells keeps.
-use Rattle.std.specs.Prelude.{◌≡◌, ℕ, zero, suc, ◌+◌, ◌%◌, ◌^◌, ◌<◌, ◌≤◌, ◌==◌, Bool, true, if◌then◌else◌, Option, None, Some, List, [], ◌∷◌, length, slice_index}
-use Rattle.std.specs.List.{Contains}
+use Rattle.std.specs.{Prelude.{◌≡◌, ℕ, zero, suc, ◌+◌, ◌%◌, ◌^◌, ◌<◌, ◌≤◌, ◌==◌, Bool, true, if◌then◌else◌, Option, None, Some, List, [], ◌∷◌, length, slice_index}, List.{Contains}}
 use mathlib.Core.Option as maybe
 use lib.ListN.{get_elem?}
-use Rattle.sh_local.specs.declared.view.Ticket.{Ticket}
-use Rattle.sh_local.specs.declared.view.ChairCall.{ChairCall}
-use Rattle.sh_local.specs.declared.view.ChairCall.TheVariants.{Drew, Waited, Turned, Counted, Left}
-use Rattle.sh_local.specs.declared.view.View.{View}
+use Rattle.sh_local.specs.declared.view.{Ticket.{Ticket}, ChairCall.{ChairCall, TheVariants.{Drew, Waited, Turned, Counted, Left}}, View.{View}}
 use Rattle.sh_local.specs.Calls.{ticket, weight_at_home, total, given, taken, draws_of, turns_of, below, out}
 
 -- The line of one cell: the next ticket to be drawn, the one that is served, which seat has drawn a ticket, and what its leave put down

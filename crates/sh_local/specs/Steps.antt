@@ -1,8 +1,7 @@
 -- What each step on the table of cells tells: the number found, and the seat before and after.
 use Rattle.std.specs.Prelude.{◌≡◌, ℕ, ◌+◌, ◌%◌, ◌^◌, ◌<◌, ◌==◌, Bool, true, false, Option, None, Some, List, [], ◌∷◌}
 use Rattle.atomic_table.specs.Table.{Me, rest}
-use Rattle.sh_local.specs.declared.view.View.{View}
-use Rattle.sh_local.specs.Calls.{held, drew, waited, turned, counted, gone}
+use Rattle.sh_local.specs.{declared.view.View.{View}, Calls.{held, drew, waited, turned, counted, gone}}
 
 -- a fact of the value, where there is one
 abbrev pub FitsIf : {T : Type 0} → (T → Type 0) → Option T → Type 0

@@ -1,8 +1,6 @@
 // The table of ticket queues, as chairs see it.
 ghost use Rattle.std.specs.Prelude.{◌≡◌, ◌≢◌, ◌≤◌, None, Some, true, false, IfOk};
-ghost use Rattle.sh_local.specs.Calls.{counted, gone, held};
-ghost use Rattle.sh_local.specs.Chairs.{AreAll, FitsAt, Gathered, HasTicketFor, SitsAt, IsNewTable, Looked, MayLeave, cells_of};
-ghost use Rattle.sh_local.specs.Steps.{Draws};
+ghost use Rattle.sh_local.specs.{Calls.{counted, gone, held}, Chairs.{AreAll, FitsAt, Gathered, HasTicketFor, SitsAt, IsNewTable, Looked, MayLeave, cells_of}, Steps.{Draws}};
 
 use crate::chair::Chair;
 use crate::look::Look;

@@ -1,8 +1,6 @@
 // The table of cells with its memory: how its chairs are made and taken in.
-ghost use Rattle.std.specs.Prelude.{◌≡◌, ◌<◌, ◌≤◌, [], length, replicate, vec_capacity};
-ghost use Rattle.std.specs.Slots.{slots_items, IsFull};
-ghost use Rattle.sh_local.specs.Calls.{opener};
-ghost use Rattle.sh_local.specs.Chairs.{fresh_chair, AllFree, AllNone, Gathered, TakenIn};
+ghost use Rattle.std.specs.{Prelude.{◌≡◌, ◌<◌, ◌≤◌, [], length, replicate, vec_capacity}, Slots.{slots_items, IsFull}};
+ghost use Rattle.sh_local.specs.{Calls.{opener}, Chairs.{fresh_chair, AllFree, AllNone, Gathered, TakenIn}};
 
 use crate::chair::Chair;
 use crate::rule::{Carried, Gathering, Lines, Seating, Setup};

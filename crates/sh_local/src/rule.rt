@@ -2,9 +2,7 @@
 ghost use Rattle.std.specs.Prelude.{◌≡◌, ◌+◌, ℕ, Option, List, length, slice_index};
 ghost use mathlib.Core.Option as maybe;
 ghost use lib.ListN.{get_elem?};
-ghost use Rattle.sh_local.specs.Calls.{less_one, new_chair, both, spent, opener};
-ghost use Rattle.sh_local.specs.Lines.{Kept, LineAgrees};
-ghost use Rattle.sh_local.specs.Steps.{Draws, Looks, Counts, LeavesQueue};
+ghost use Rattle.sh_local.specs.{Calls.{less_one, new_chair, both, spent, opener}, Lines.{Kept, LineAgrees}, Steps.{Draws, Looks, Counts, LeavesQueue}};
 
 use crate::view::View;
 use atomic_table::{Join, Play, Split, TableRule};

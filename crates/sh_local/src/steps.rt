@@ -1,9 +1,7 @@
 // The four steps of a chair on the table of cells. The next ticket of a cell is the word `cell`, its served number the
 // word `at`, behind all next tickets, and its value the slot `cell`.
 ghost use Rattle.std.specs.Prelude.{◌≡◌, ◌+◌, ◌%◌, ◌^◌, ◌<◌, None, Some, true, false, [], ◌∷◌};
-ghost use Rattle.sh_local.specs.Calls.{held, counted, gone};
-ghost use Rattle.sh_local.specs.Chairs.{HasTicketFor, Looked, MayLeave, slot_if};
-ghost use Rattle.sh_local.specs.Steps.{Draws};
+ghost use Rattle.sh_local.specs.{Calls.{held, counted, gone}, Chairs.{HasTicketFor, Looked, MayLeave, slot_if}, Steps.{Draws}};
 
 use crate::look::Look;
 use crate::rule::{Carried, Count, Draw, Leave, Lines, Looking, Setup};

@@ -1,6 +1,5 @@
 ghost use Rattle.std.specs.Prelude.{◌≡◌, ◌≢◌, ◌+◌, ◌<◌, ◌≤◌, None, Some, true, false, []};
-ghost use Rattle.sh_local.specs.Chairs.{FitsAt, HasTicketFor, SitsAt};
-ghost use Rattle.sh_local.specs.Steps.{FitsIf};
+ghost use Rattle.sh_local.specs.{Chairs.{FitsAt, HasTicketFor, SitsAt}, Steps.{FitsIf}};
 ghost use Rattle.atomic_table.specs.Seated.{TableId};
 
 use super::*;

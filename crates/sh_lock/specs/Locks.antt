@@ -1,12 +1,7 @@
 -- How a lock is taken, and how it is given up.
 use Rattle.std.specs.Prelude.{ℕ, ◌+◌, ◌==◌, ◌||◌, if◌then◌else◌}
-use Rattle.sh_base.specs.declared.config.ConfigParts.{ConfigParts}
-use Rattle.sh_base.specs.declared.event.Event.{Event}
-use Rattle.sh_base.specs.declared.event.Event.TheVariants.{Exchange}
-use Rattle.sh_base.specs.Layout.{lock_word, compute_of}
-use Rattle.sh_lock.specs.declared.state.Grab.{Grab}
-use Rattle.sh_lock.specs.declared.state.Release.{Release}
-use Rattle.sh_lock.specs.declared.state.Release.TheVariants.{Hand, Free}
+use Rattle.sh_base.specs.{declared.{config.ConfigParts.{ConfigParts}, event.Event.{Event, TheVariants.{Exchange}}}, Layout.{lock_word, compute_of}}
+use Rattle.sh_lock.specs.declared.state.{Grab.{Grab}, Release.{Release, TheVariants.{Hand, Free}}}
 
 -- the exchange that takes a free lock for a seat: the lock word then holds its compute server's number plus 1
 abbrev pub grab_of : ConfigParts → (lock seat : ℕ) → Event

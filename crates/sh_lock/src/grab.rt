@@ -1,7 +1,6 @@
 // The exchange that takes a lock.
 ghost use Rattle.std.specs.Prelude.{◌≡◌, ◌==◌, ◌<◌};
-ghost use Rattle.sh_base.specs.Parts.{parts_of};
-ghost use Rattle.sh_base.specs.Setting.{all_locks, all_seats};
+ghost use Rattle.sh_base.specs.{Parts.{parts_of}, Setting.{all_locks, all_seats}};
 ghost use Rattle.sh_lock.specs.Locks.{event_of, grab_of};
 
 use crate::Grab;

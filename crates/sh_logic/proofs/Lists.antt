@@ -1,6 +1,5 @@
 -- What holds of each element of a list, and what a place of a list reads after a change.
-use Rattle.std.proofs.Common.{◌≡◌, ◌≢◌, ◌⊎◌, ℕ, zero, suc, ◌<◌, List, [], ◌∷◌, ◌++◌, length, get_or, set, take, drop, Some, inl, inr, refl, ap, arith}
-use Rattle.std.specs.Prelude.{replicate, slice_get}
+use Rattle.std.{proofs.Common.{◌≡◌, ◌≢◌, ◌⊎◌, ℕ, zero, suc, ◌<◌, List, [], ◌∷◌, ◌++◌, length, get_or, set, take, drop, Some, inl, inr, refl, ap, arith}, specs.Prelude.{replicate, slice_get}}
 use Rattle.std.specs.List.{AllByRecursion}
 
 module _ {X : Type 0} (P : X → Type 0) where

@@ -1,7 +1,5 @@
 -- What two lists of pairs, one behind the other, have at a key.
-use Rattle.std.proofs.Common.{◌≡◌, ℕ, Bool, true, false, cond, List, [], ◌∷◌, ◌++◌, Some, None, refl, ap}
-use Rattle.std.specs.Ordering.{nat_cmp, eq_by_cmp}
-use Rattle.std.specs.FinMap.{find}
+use Rattle.std.{proofs.Common.{◌≡◌, ℕ, Bool, true, false, cond, List, [], ◌∷◌, ◌++◌, Some, None, refl, ap}, specs.{Ordering.{nat_cmp, eq_by_cmp}, FinMap.{find}}}
 
 pub find_past : {V : Type 0} (xs ys : List (ℕ × V)) (q : ℕ) → find nat_cmp q xs ≡ None → find nat_cmp q (xs ++ ys) ≡ find nat_cmp q ys
 find_past [] ys q none = refl

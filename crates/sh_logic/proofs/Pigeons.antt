@@ -1,7 +1,5 @@
 -- Different numbers from 1 up to a limit aren't more than the limit.
-use Rattle.std.proofs.Common.{◌≡◌, ◌≢◌, ℕ, zero, suc, ◌<◌, ◌≤◌, sym, ◌∙◌, inl, inr, arith, ne_eqb, eq-eqb}
-use Rattle.std.specs.Prelude.{◌==◌, if◌then◌else◌}
-use Rattle.std.proofs.lemmas.Bool.{cases_eq}
+use Rattle.std.{proofs.{Common.{◌≡◌, ◌≢◌, ℕ, zero, suc, ◌<◌, ◌≤◌, sym, ◌∙◌, inl, inr, arith, ne_eqb, eq-eqb}, lemmas.Bool.{cases_eq}}, specs.Prelude.{◌==◌, if◌then◌else◌}}
 
 -- the limit's place is taken by the last number
 moved : (ℕ → ℕ) → (limit last : ℕ) → ℕ → ℕ

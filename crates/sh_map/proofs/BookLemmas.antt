@@ -1,25 +1,11 @@
 -- A book that gains an entry or a Done.
-use Rattle.std.proofs.Common.{◌≡◌, ◌⊎◌, ℕ, ◌<◌, ◌≤◌, List, [], ◌∷◌, ◌++◌, length, length-append, get_or, Option, Some, sym, ap, ◌∙◌, inl, inr, arith}
-use Rattle.std.specs.Prelude.{slice_get, All, Any}
-use Rattle.std.proofs.lemmas.Bool.{cases_lt, cases_eq}
-use Rattle.std.proofs.lemmas.List.{get_or_append_left}
-use Rattle.std.proofs.lemmas.List.Elements.{All-push, All-weaker}
-use Rattle.std.proofs.lemmas.List.Quantifiers.{all_pairs_push}
-use Rattle.std.proofs.lemmas.Option.{slice_get_within, slice_get-get_or}
-use Rattle.sh_logic.proofs.Options.{some_is}
-use Rattle.sh_logic.proofs.Lists.{slice_get-append_left, slice_get-push_back}
-use Rattle.sh_map.specs.declared.log.Entry.{Entry}
-use Rattle.sh_map.specs.Map.{get}
-use Rattle.sh_map.specs.Log.{map_of, map_at, IsNext}
-use Rattle.sh_map.specs.declared.call.Call.{Call}
+use Rattle.std.{proofs.Common.{◌≡◌, ◌⊎◌, ℕ, ◌<◌, ◌≤◌, List, [], ◌∷◌, ◌++◌, length, length-append, get_or, Option, Some, sym, ap, ◌∙◌, inl, inr, arith}, specs.Prelude.{slice_get, All, Any}}
+use Rattle.std.proofs.lemmas.{Bool.{cases_lt, cases_eq}, List.{get_or_append_left, Elements.{All-push, All-weaker}, Quantifiers.{all_pairs_push}}, Option.{slice_get_within, slice_get-get_or}}
+use Rattle.sh_logic.proofs.{Options.{some_is}, Lists.{slice_get-append_left, slice_get-push_back}}
+use Rattle.sh_map.specs.{declared.{log.Entry.{Entry}, call.{Call.{Call}, Reply.{Reply}}, book.{Row.{Row}, Done.{Done}}}, Map.{get}, Log.{map_of, map_at, IsNext}}
+use Rattle.sh_map.{specs.{Book.{AnswersRange, AnswersAt, Answers, IsOwn, IsLastOfSeat, IsLater, IsLawful}, Points.{IsLeastPoint}}, proofs.LogLemmas.{map_at-push, IsLegal-push}}
 use Rattle.sh_map.specs.declared.call.Call.TheVariants as call
-use Rattle.sh_map.specs.declared.call.Reply.{Reply}
 use Rattle.sh_map.specs.declared.call.Reply.TheVariants as reply
-use Rattle.sh_map.specs.declared.book.Row.{Row}
-use Rattle.sh_map.specs.declared.book.Done.{Done}
-use Rattle.sh_map.specs.Book.{AnswersRange, AnswersAt, Answers, IsOwn, IsLastOfSeat, IsLater, IsLawful}
-use Rattle.sh_map.specs.Points.{IsLeastPoint}
-use Rattle.sh_map.proofs.LogLemmas.{map_at-push, IsLegal-push}
 
 module _ (log : List Entry) (e : Entry) where
   range_later : (a b low upto : ℕ) (rows : List Row) → b ≤ length log → AnswersRange log a b low upto rows → AnswersRange (log ++ e ∷ []) a b low upto rows

@@ -1,10 +1,6 @@
 -- What an entry that was read fits.
-use Rattle.std.proofs.Common.{◌≡◌, ℕ, ◌<◌, List, length, get_or, Some, subst, ◌∙◌}
-use Rattle.std.specs.Prelude.{slice_get}
-use Rattle.std.proofs.lemmas.Option.{get_or_from_slice_get}
-use Rattle.sh_map.specs.declared.log.Entry.{Entry}
-use Rattle.sh_map.specs.Map.{Map}
-use Rattle.sh_map.specs.Log.{map_at, IsNext}
+use Rattle.std.{proofs.{Common.{◌≡◌, ℕ, ◌<◌, List, length, get_or, Some, subst, ◌∙◌}, lemmas.Option.{get_or_from_slice_get}}, specs.Prelude.{slice_get}}
+use Rattle.sh_map.specs.{declared.log.Entry.{Entry}, Map.{Map}, Log.{map_at, IsNext}}
 
 -- what was found of an entry that was read holds of the one at its place
 pub next_here : (log : List Entry) (at : ℕ) (read : Entry) (m : Map) → at < length log → read ≡ get_or log at read → m ≡ map_at log at → IsNext m read → (e : Entry) → slice_get log at ≡ Some e → IsNext (map_at log at) e

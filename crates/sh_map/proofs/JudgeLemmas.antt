@@ -1,14 +1,8 @@
 -- The least number of a call that breaks a rule, and what a book is that breaks none.
 use Rattle.std.proofs.Common.{◌≡◌, ◌↔◌, ◌⊎◌, ℕ, Bool, true, ◌+◌, ◌<◌, ◌≤◌, List, [], ◌∷◌, ◌++◌, length, get_or, take, Option, Some, None, min, MatchOption, inl, inr, refl, sym, ap, subst, ◌∙◌, arith}
-use Rattle.std.specs.Prelude.{slice_get, IsTrue}
-use Rattle.std.proofs.lemmas.List.{take-append-le, take_all, get_or_default}
-use Rattle.std.proofs.lemmas.Bool.{cases_lt}
-use Rattle.std.proofs.lemmas.Option.{slice_get_within, slice_get-get_or}
+use Rattle.std.{specs.Prelude.{slice_get, IsTrue}, proofs.lemmas.{List.{take-append-le, take_all, get_or_default}, Bool.{cases_lt}, Option.{slice_get_within, slice_get-get_or}}}
 use Rattle.sh_logic.proofs.Lists.{slice_get-append_left, slice_get-push_back, slice_get-push_end}
-use Rattle.sh_map.specs.declared.book.Done.{Done}
-use Rattle.sh_map.specs.Judge.{AllFit, IsLeastUnfit}
-use Rattle.sh_map.specs.Tables.{AreKept}
-use Rattle.sh_map.proofs.WalkLemmas.{one_more}
+use Rattle.sh_map.{specs.{declared.book.Done.{Done}, Judge.{AllFit, IsLeastUnfit}, Tables.{AreKept}}, proofs.WalkLemmas.{one_more}}
 
 -- the least so far of the calls that break the rule
 abbrev pub SoFar : (List Done → Done → Type 0) → List Done → Option ℕ → Type 0

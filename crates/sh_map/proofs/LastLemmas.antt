@@ -1,22 +1,10 @@
 -- The last entry of a key.
-use Rattle.std.proofs.Common.{◌≡◌, ◌≢◌, ◌⊎◌, ℕ, zero, suc, ◌<◌, List, [], ◌∷◌, Some, None, inl, inr, refl, sym, ap, subst, ◌∙◌, arith}
-use Rattle.std.specs.Prelude.{slice_get}
-use Rattle.std.specs.Ordering.{nat_cmp}
-use Rattle.std.specs.FinMap.{empty, get-empty}
-use Rattle.std.proofs.lemmas.Bool.{cases_eq}
-use Rattle.sh_map.specs.declared.log.Change.{Change}
-use Rattle.sh_map.specs.declared.log.Change.TheVariants.{Put, Del}
-use Rattle.sh_map.specs.declared.log.Entry.{Entry}
-use Rattle.sh_map.specs.declared.call.Call.{Call}
-use Rattle.sh_map.specs.declared.call.Call.TheVariants as call
-use Rattle.sh_map.specs.declared.call.Reply.{Reply}
-use Rattle.sh_map.specs.declared.book.Done.{Done}
-use Rattle.sh_map.specs.Map.{Map, get}
-use Rattle.sh_map.specs.Log.{change_key, left_value, changed, map_from, map_of}
-use Rattle.sh_map.specs.Book.{AnswersAt, Answers}
-use Rattle.sh_map.specs.Laws.{IsLastOfKey, HasNoEntry}
-use Rattle.sh_map.proofs.LogLemmas.{changed_other}
+use Rattle.std.{proofs.Common.{◌≡◌, ◌≢◌, ◌⊎◌, ℕ, zero, suc, ◌<◌, List, [], ◌∷◌, Some, None, inl, inr, refl, sym, ap, subst, ◌∙◌, arith}, specs.{Prelude.{slice_get}, Ordering.{nat_cmp}}}
+use Rattle.std.{specs.FinMap.{empty, get-empty}, proofs.lemmas.Bool.{cases_eq}}
+use Rattle.sh_map.specs.{declared.{log.{Change.{Change, TheVariants.{Put, Del}}, Entry.{Entry}}, call.{Call.{Call}, Reply.{Reply}}, book.Done.{Done}}, Map.{Map, get}}
+use Rattle.sh_map.{specs.{Log.{change_key, left_value, changed, map_from, map_of}, Book.{AnswersAt, Answers}, Laws.{IsLastOfKey, HasNoEntry}}, proofs.LogLemmas.{changed_other}}
 use Rattle.sh_map.proofs.ReplyLemmas.{changed_here}
+use Rattle.sh_map.specs.declared.call.Call.TheVariants as call
 
 none_from : (m : Map) (log : List Entry) (key : ℕ) → HasNoEntry log key → get (map_from m log) key ≡ get m key
 none_from m [] key none = refl

@@ -1,21 +1,12 @@
 -- A book is lawful where it breaks no rule.
-use Rattle.std.proofs.Common.{◌≡◌, ℕ, suc, ◌+◌, ◌<◌, ◌≤◌, List, [], ◌∷◌, length, get_or, take, Some, refl, sym, subst, arith, length-take-le}
-use Rattle.std.specs.Prelude.{slice_get, AllPairs}
-use Rattle.std.proofs.lemmas.List.{get_or-take}
-use Rattle.std.proofs.lemmas.Option.{slice_get_within, slice_get-get_or, get_or_from_slice_get}
-use Rattle.sh_map.specs.declared.call.Call.{Call}
-use Rattle.sh_map.specs.declared.call.Call.TheVariants as call
-use Rattle.sh_map.specs.declared.call.Reply.{Reply}
-use Rattle.sh_map.specs.declared.call.Reply.TheVariants as reply
-use Rattle.sh_map.specs.declared.log.Entry.{Entry}
-use Rattle.sh_map.specs.declared.book.Done.{Done}
-use Rattle.sh_map.specs.declared.misfit.Misfit.{Misfit}
-use Rattle.sh_map.specs.declared.misfit.Misfit.TheVariants as misfit
-use Rattle.sh_map.specs.Map.{Map}
-use Rattle.sh_map.specs.Log.{changed, map_from, IsNext, IsLegalFrom}
-use Rattle.sh_map.specs.Book.{AnswersAt, Answers, IsLawful}
-use Rattle.sh_map.specs.Judge.{AnswersAside, RowsAnswer, FitsReply, FitsRows, FitsOrder, FollowsOnSeat, AllFit, AllEntriesFit, IsFirstMisfit}
+use Rattle.std.{proofs.Common.{◌≡◌, ℕ, suc, ◌+◌, ◌<◌, ◌≤◌, List, [], ◌∷◌, length, get_or, take, Some, refl, sym, subst, arith, length-take-le}, specs.Prelude.{slice_get, AllPairs}}
+use Rattle.std.proofs.lemmas.{List.{get_or-take}, Option.{slice_get_within, slice_get-get_or, get_or_from_slice_get}}
+use Rattle.sh_map.specs.{declared.{call.{Call.{Call}, Reply.{Reply}}, log.Entry.{Entry}, book.Done.{Done}, misfit.Misfit.{Misfit}}, Map.{Map}, Log.{changed, map_from, IsNext, IsLegalFrom}}
+use Rattle.sh_map.specs.{Book.{AnswersAt, Answers, IsLawful}, Judge.{AnswersAside, RowsAnswer, FitsReply, FitsRows, FitsOrder, FollowsOnSeat, AllFit, AllEntriesFit, IsFirstMisfit}}
 use Rattle.sh_map.proofs.LogLemmas.{IsLegal-at}
+use Rattle.sh_map.specs.declared.call.Call.TheVariants as call
+use Rattle.sh_map.specs.declared.call.Reply.TheVariants as reply
+use Rattle.sh_map.specs.declared.misfit.Misfit.TheVariants as misfit
 
 legal_from : (m : Map) (log : List Entry) → ((i : ℕ) (e : Entry) → slice_get log i ≡ Some e → IsNext (map_from m (take i log)) e) → IsLegalFrom m log
 legal_from m [] h = tt

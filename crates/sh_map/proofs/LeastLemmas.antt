@@ -1,13 +1,9 @@
 -- The least point of a reply is the first at which the map has this at the key.
-use Rattle.std.proofs.Common.{◌≡◌, ◌≢◌, ℕ, zero, suc, ◌+◌, ◌-◌, ◌<◌, ◌≤◌, Bool, true, false, List, length, Option, Some, None, refl, ap, subst, arith}
-use Rattle.std.specs.Prelude.{if◌then◌else◌}
+use Rattle.std.{proofs.Common.{◌≡◌, ◌≢◌, ℕ, zero, suc, ◌+◌, ◌-◌, ◌<◌, ◌≤◌, Bool, true, false, List, length, Option, Some, None, refl, ap, subst, arith}, specs.Prelude.{if◌then◌else◌}}
 use mathlib.Core.Logic.{dite}
 use native.Mathlib.Decide.{ℕ_discrete}
 use Rattle.std.proofs.lemmas.Slice.Eq.{bytes_eq-Decides}
-use Rattle.sh_map.specs.declared.log.Entry.{Entry}
-use Rattle.sh_map.specs.Map.{get}
-use Rattle.sh_map.specs.Log.{map_at}
-use Rattle.sh_map.specs.Points.{had_same, least_from, least_point, IsLeastPoint}
+use Rattle.sh_map.specs.{declared.log.Entry.{Entry}, Map.{get}, Log.{map_at}, Points.{had_same, least_from, least_point, IsLeastPoint}}
 
 same_is : (a b : Option (List ℕ)) → had_same a b ≡ true → a ≡ b
 same_is None None e = refl

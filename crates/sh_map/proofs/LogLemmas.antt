@@ -1,16 +1,8 @@
 -- A log that gains an entry.
 use Rattle.std.proofs.Common.{◌≡◌, ◌≢◌, ◌<◌, ◌+◌, ◌-◌, sym, drop, Result, Ok, Err, ◌∙◌, ℕ, zero, suc, ◌≤◌, List, [], ◌∷◌, ◌++◌, length, get_or, take, Some, refl, ap, subst, arith}
-use Rattle.std.specs.Prelude.{slice_get, OnOk}
-use Rattle.std.proofs.Math.Seq.{take-add}
-use Rattle.sh_map.proofs.WalkLemmas.{one_more}
-use Rattle.std.proofs.lemmas.List.{take_more, take-append-le, take_all}
-use Rattle.std.specs.FinMap.{empty}
-use Rattle.sh_map.specs.declared.log.Change.{Change}
-use Rattle.sh_map.specs.declared.log.Change.TheVariants.{Put, Del}
-use Rattle.sh_map.specs.declared.log.Entry.{Entry}
-use Rattle.sh_map.specs.Map.{Map, get}
-use Rattle.sh_map.specs.Log.{change_key, changed, map_from, map_of, map_at, IsNext, IsLegalFrom, IsLegal}
-use Rattle.sh_map.proofs.MapLemmas.{get-put_other, get-del_other}
+use Rattle.std.{specs.{Prelude.{slice_get, OnOk}, FinMap.{empty}}, proofs.{Math.Seq.{take-add}, lemmas.List.{take_more, take-append-le, take_all}}}
+use Rattle.sh_map.{proofs.WalkLemmas.{one_more}, specs.{declared.log.{Change.{Change, TheVariants.{Put, Del}}, Entry.{Entry}}, Map.{Map, get}}}
+use Rattle.sh_map.{specs.Log.{change_key, changed, map_from, map_of, map_at, IsNext, IsLegalFrom, IsLegal}, proofs.MapLemmas.{get-put_other, get-del_other}}
 
 pub map_from-append : (m : Map) (log more : List Entry) → map_from m (log ++ more) ≡ map_from (map_from m log) more
 map_from-append m [] more = refl

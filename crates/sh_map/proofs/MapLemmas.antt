@@ -1,9 +1,6 @@
 -- What a map has after a change.
-use Rattle.std.proofs.Common.{◌≡◌, ◌≢◌, ℕ, ◌<◌, Less, Equal, Greater, inl, inr, true, false, cond, List, Some, None, refl, sym, ap, ◌∙◌, arith}
-use Rattle.std.specs.Ordering.{nat_cmp, eq_by_cmp, is_eq}
-use Rattle.std.proofs.lemmas.Bool.{cases_lt, cases_eq}
-use Rattle.std.specs.Cmp.{nat_cmp_total, nat_cmp_is}
-use Rattle.std.specs.FinMap.{get-insert, get-remove, same_map, nat_cmp-IsAntisymmetric}
+use Rattle.std.{proofs.Common.{◌≡◌, ◌≢◌, ℕ, ◌<◌, Less, Equal, Greater, inl, inr, true, false, cond, List, Some, None, refl, sym, ap, ◌∙◌, arith}, specs.Ordering.{nat_cmp, eq_by_cmp, is_eq}}
+use Rattle.std.{proofs.lemmas.Bool.{cases_lt, cases_eq}, specs.{Cmp.{nat_cmp_total, nat_cmp_is}, FinMap.{get-insert, get-remove, same_map, nat_cmp-IsAntisymmetric}}}
 use Rattle.sh_map.specs.Map.{Map, get, put, del}
 
 pub same_test : (q : ℕ) → eq_by_cmp nat_cmp q q ≡ true

@@ -1,21 +1,10 @@
 -- Bounds of the calls so far, and rules that are kept.
 use Rattle.std.proofs.Common.{◌≡◌, ◌↔◌, ℕ, ◌+◌, ◌<◌, ◌≤◌, Bool, true, List, [], ◌∷◌, ◌++◌, length, get_or, take, max, Some, inl, inr, sym, ap, subst, ◌∙◌, arith, length-append}
-use Rattle.std.specs.Prelude.{IsTrue, unwrap_or}
-use Rattle.std.specs.Ordering.{nat_cmp}
-use Rattle.std.specs.Map.{lookup}
+use Rattle.std.{specs.{Prelude.{IsTrue, unwrap_or}, Ordering.{nat_cmp}, Map.{lookup}, BTreeMap.{BTreeMap, is_at, Updates}}, proofs.lemmas.Bool.{cases_eq}}
+use Rattle.std.proofs.lemmas.{List.{take-append-le, take_all, get_or_append_left, get_or_push, Elements.{All-nil}}, Option.{slice_get_within}}
 use Rattle.std.specs.BTreeMap as tree
-use Rattle.std.specs.BTreeMap.{BTreeMap, is_at, Updates}
-use Rattle.std.proofs.lemmas.Bool.{cases_eq}
-use Rattle.std.proofs.lemmas.List.{take-append-le, take_all, get_or_append_left, get_or_push}
-use Rattle.std.proofs.lemmas.List.Elements.{All-nil}
-use Rattle.std.proofs.lemmas.Option.{slice_get_within}
 use Rattle.sh_logic.proofs.Lists.{slice_get-push_back}
-use Rattle.sh_map.specs.declared.book.Done.{Done}
-use Rattle.sh_map.specs.Book.{made}
-use Rattle.sh_map.specs.Judge.{FitsOrder}
-use Rattle.sh_map.specs.Tables.{AreKept, AreBounds}
-use Rattle.sh_map.proofs.MapLemmas.{apart_test}
-use Rattle.sh_map.proofs.WalkLemmas.{all_push, one_more}
+use Rattle.sh_map.{specs.{declared.book.Done.{Done}, Book.{made}, Judge.{FitsOrder}, Tables.{AreKept, AreBounds}}, proofs.{MapLemmas.{apart_test}, WalkLemmas.{all_push, one_more}}}
 
 abbrev Ends : ℕ → ℕ → Done → Type 0
 Ends seat first x = x.seat ≡ seat → x.point + made x.call x.reply ≤ first

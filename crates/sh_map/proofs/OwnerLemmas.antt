@@ -1,21 +1,11 @@
 -- Tables of owners.
 use Rattle.std.proofs.Common.{◌≡◌, ◌≢◌, ◌↔◌, ◌⊎◌, ℕ, ◌+◌, ◌<◌, Bool, true, false, List, [], ◌∷◌, ◌++◌, length, get_or, set, take, replicate, Option, Some, None, inl, inr, refl, sym, ap, subst, ◌∙◌, arith, eq-eqb, length-take-le}
-use Rattle.std.specs.Prelude.{slice_get, Any, IsTrue, MatchOption, nat_eq}
-use Rattle.std.specs.Option.{option_eq}
-use Rattle.std.specs.Ordering.{nat_cmp}
-use Rattle.std.specs.Map.{lookup}
-use Rattle.std.specs.BTreeMap as tree
-use Rattle.std.specs.BTreeMap.{BTreeMap, is_at, Updates}
-use Rattle.std.proofs.lemmas.Bool.{cases_lt, cases_eq, eqb-true}
-use Rattle.std.proofs.lemmas.List.{get_or-set_same, get_or-set_other, get_or-replicate, length-replicate, length-set}
+use Rattle.std.specs.{Prelude.{slice_get, Any, IsTrue, MatchOption, nat_eq}, Option.{option_eq}, Ordering.{nat_cmp}, Map.{lookup}, BTreeMap.{BTreeMap, is_at, Updates}}
+use Rattle.std.proofs.lemmas.{Bool.{cases_lt, cases_eq, eqb-true}, List.{get_or-set_same, get_or-set_other, get_or-replicate, length-replicate, length-set}}
 use Rattle.std.proofs.lemmas.Option.{slice_get_within, slice_get-get_or}
-use Rattle.sh_logic.proofs.Options.{some_is}
-use Rattle.sh_logic.proofs.Lists.{slice_get-append_left, slice_get-push_back, slice_get-push_end}
-use Rattle.sh_map.specs.declared.log.Entry.{Entry}
-use Rattle.sh_map.specs.declared.book.Done.{Done}
-use Rattle.sh_map.specs.Book.{made, IsOwn, IsLastOfSeat}
-use Rattle.sh_map.specs.Tables.{AreOwned, AreLastPlaces, IsLastPlace, HasNoPlace}
-use Rattle.sh_map.proofs.MapLemmas.{apart_test}
+use Rattle.std.specs.BTreeMap as tree
+use Rattle.sh_logic.proofs.{Options.{some_is}, Lists.{slice_get-append_left, slice_get-push_back, slice_get-push_end}}
+use Rattle.sh_map.{specs.{declared.{log.Entry.{Entry}, book.Done.{Done}}, Book.{made, IsOwn, IsLastOfSeat}, Tables.{AreOwned, AreLastPlaces, IsLastPlace, HasNoPlace}}, proofs.MapLemmas.{apart_test}}
 use Rattle.sh_map.proofs.WalkLemmas.{any_push, one_more}
 
 pub owned_none : (n : ℕ) (owned : List Bool) → owned ≡ replicate n false → AreOwned n [] owned

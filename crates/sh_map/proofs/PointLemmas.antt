@@ -1,24 +1,9 @@
 -- When each key of a range has a point.
 use Rattle.std.proofs.Common.{◌≡◌, ◌↔◌, ◌⊎◌, ℕ, suc, ◌+◌, ◌-◌, ◌<◌, ◌≤◌, Bool, List, [], ◌∷◌, length, get_or, take, drop, map, Option, Some, None, Result, Ok, Err, IfOk, inl, inr, refl, sym, ap, subst, ◌∙◌, arith, length-drop, length-take-le}
-use Rattle.std.specs.Prelude.{IsTrue, IsSome, Contains, All, AllPairs}
-use Rattle.std.specs.Ordering.{nat_cmp}
-use Rattle.std.specs.Cmp.{nat_cmp_total}
-use Rattle.std.specs.FinMap.{empty, find, get-from_entries}
-use Rattle.std.specs.declared.alloc.AllocError.{AllocError}
-use Rattle.std.proofs.lemmas.Bool.{cases_eq}
-use Rattle.std.proofs.Math.Seq.{take-add, take-take}
-use Rattle.sh_map.specs.declared.log.Entry.{Entry}
-use Rattle.sh_map.specs.declared.book.Row.{Row}
-use Rattle.sh_map.specs.Map.{Map, get, row_pair}
-use Rattle.sh_map.specs.Log.{map_from, map_of, map_at}
-use Rattle.sh_map.specs.Book.{AnswersRange}
-use Rattle.sh_map.specs.Rows.{RowHasPoint}
-use Rattle.sh_map.specs.Tables.{AreMet, IsGivenValue, given_value}
-use Rattle.std.specs.BTreeSet.{BTreeSet}
-use Rattle.std.proofs.lemmas.List.Elements.{All-contains}
-use Rattle.sh_map.proofs.RangeLemmas.{given_becomes}
-use Rattle.sh_map.proofs.MapLemmas.{apart_test}
-use Rattle.sh_map.proofs.LogLemmas.{map_from-append}
+use Rattle.std.specs.{Prelude.{IsTrue, IsSome, Contains, All, AllPairs}, Ordering.{nat_cmp}, Cmp.{nat_cmp_total}, FinMap.{empty, find, get-from_entries}, declared.alloc.AllocError.{AllocError}}
+use Rattle.std.{proofs.{lemmas.{Bool.{cases_eq}, List.Elements.{All-contains}}, Math.Seq.{take-add, take-take}}, specs.BTreeSet.{BTreeSet}}
+use Rattle.sh_map.specs.{declared.{log.Entry.{Entry}, book.Row.{Row}}, Map.{Map, get, row_pair}, Log.{map_from, map_of, map_at}, Book.{AnswersRange}, Rows.{RowHasPoint}}
+use Rattle.sh_map.{specs.Tables.{AreMet, IsGivenValue, given_value}, proofs.{RangeLemmas.{given_becomes}, MapLemmas.{apart_test}, LogLemmas.{map_from-append}}}
 
 -- a key stands nowhere in these rows, or at a place
 found_or_not : (rows : List Row) (key : ℕ) → (find nat_cmp key (map row_pair rows) ≡ None) ⊎ ((k : ℕ) × (k < length rows) × ((d : Row) → (get_or rows k d).key ≡ key))

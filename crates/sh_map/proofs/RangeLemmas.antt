@@ -1,25 +1,10 @@
 -- What rows and points say of a range.
 use Rattle.std.proofs.Common.{◌≡◌, ◌↔◌, ◌⊎◌, ℕ, zero, suc, ◌+◌, ◌-◌, ◌<◌, ◌≤◌, true, false, List, [], ◌∷◌, length, get_or, take, map, Option, inl, inr, refl, sym, ap, subst, ◌∙◌, arith, length-take-le}
-use Rattle.std.proofs.lemmas.List.{take_more, get_or-take, get_or_default}
-use Rattle.std.specs.Prelude.{T, IsTrue, AllPairs, Any}
-use Rattle.std.specs.Ordering.{nat_cmp}
-use Rattle.std.specs.FinMap.Entries.{below_all}
-use Rattle.std.proofs.lemmas.Bool.{cases_eq}
-use Rattle.std.proofs.lemmas.List.Quantifiers.{all_pairs_push}
+use Rattle.std.{proofs.lemmas.{List.{take_more, get_or-take, get_or_default}, Bool.{cases_eq}}, specs.{Prelude.{T, IsTrue, AllPairs, Any}, Ordering.{nat_cmp}, FinMap.Entries.{below_all}}}
+use Rattle.std.{proofs.lemmas.List.Quantifiers.{all_pairs_push}, specs.{List.{list_any}, BTreeMap.{is_at}, BTreeSet.{BTreeSet, contains, Updates}}}
 use Rattle.sh_logic.proofs.Tests.{both}
-use Rattle.sh_map.specs.declared.log.Entry.{Entry}
-use Rattle.sh_map.specs.declared.book.Row.{Row}
-use Rattle.sh_map.specs.Map.{Map, get, row_pair}
-use Rattle.sh_map.specs.Log.{change_key, left_value, changed, map_from}
-use Rattle.sh_map.specs.Rows.{IsRising, Becomes}
-use Rattle.sh_map.specs.Tables.{AreMet, IsGivenValue, given_value}
-use Rattle.sh_map.proofs.MapLemmas.{apart_test}
-use Rattle.sh_map.proofs.WalkLemmas.{any_push, one_more}
-use Rattle.std.specs.List.{list_any}
-use Rattle.std.specs.BTreeMap.{is_at}
-use Rattle.std.specs.BTreeSet.{BTreeSet, contains, Updates}
-use Rattle.sh_map.proofs.LogLemmas.{changed_other}
-use Rattle.sh_map.proofs.ReplyLemmas.{changed_here}
+use Rattle.sh_map.specs.{declared.{log.Entry.{Entry}, book.Row.{Row}}, Map.{Map, get, row_pair}, Log.{change_key, left_value, changed, map_from}, Rows.{IsRising, Becomes}}
+use Rattle.sh_map.{specs.Tables.{AreMet, IsGivenValue, given_value}, proofs.{MapLemmas.{apart_test}, WalkLemmas.{any_push, one_more}, LogLemmas.{changed_other}, ReplyLemmas.{changed_here}}}
 use Rattle.sh_map.proofs.RowsLemmas.{less_is}
 
 -- a walk over rows, one row on, which was read and lies above the one before

@@ -1,11 +1,6 @@
 -- What a key has after a log.
 use Rattle.std.proofs.Common.{◌≡◌, ℕ, ◌+◌, ◌<◌, List, length, get_or, sym, ap, ◌∙◌}
-use Rattle.sh_map.specs.declared.log.Change.{Change}
-use Rattle.sh_map.specs.declared.log.Change.TheVariants.{Put, Del}
-use Rattle.sh_map.specs.declared.log.Entry.{Entry}
-use Rattle.sh_map.specs.Map.{Map, get}
-use Rattle.sh_map.specs.Log.{change_key, left_value, changed, map_at}
-use Rattle.sh_map.proofs.MapLemmas.{get-put, get-del}
+use Rattle.sh_map.{specs.{declared.log.{Change.{Change, TheVariants.{Put, Del}}, Entry.{Entry}}, Map.{Map, get}, Log.{change_key, left_value, changed, map_at}}, proofs.MapLemmas.{get-put, get-del}}
 use Rattle.sh_map.proofs.LogLemmas.{map_more}
 
 pub changed_here : (m : Map) (change : Change) → get (changed m change) (change_key change) ≡ left_value change

@@ -1,21 +1,11 @@
 -- What a search finds among rising rows, and what an edit there makes of the map.
 use Rattle.std.proofs.Common.{◌≡◌, ◌≢◌, ℕ, zero, suc, ◌<◌, ◌≤◌, cond, List, [], ◌∷◌, length, get_or, set, map, Some, None, Result, Ok, Err, IfOk, IfErr, Less, Equal, Greater, refl, sym, ap, ◌∙◌, subst, arith}
-use Rattle.std.specs.Prelude.{T}
-use Rattle.std.specs.List.{insert, remove}
-use Rattle.std.specs.List.Sorted.{IsSearchInRange, IsBinarySearchResult, IsNonDecreasingBy}
-use Rattle.std.specs.Ordering.{nat_cmp, ordering_index, is_lt, eq_by_cmp}
-use Rattle.std.specs.Cmp.{nat_cmp_is, nat_cmp_total}
-use Rattle.std.proofs.lemmas.Cmp.{ranked}
-use Rattle.std.proofs.lemmas.List.Sorted.{IsNonDecreasingBy-from_default}
-use Rattle.std.proofs.lemmas.Bool.Decides.{nat_tests}
+use Rattle.std.specs.{Prelude.{T}, List.{insert, remove, Sorted.{IsSearchInRange, IsBinarySearchResult, IsNonDecreasingBy}}, Ordering.{nat_cmp, ordering_index, is_lt, eq_by_cmp}}
+use Rattle.std.{specs.Cmp.{nat_cmp_is, nat_cmp_total}, proofs.lemmas.{Cmp.{ranked}, List.Sorted.{IsNonDecreasingBy-from_default}, Bool.Decides.{nat_tests}}}
 use Rattle.std.specs.FinMap.{find, is_sorted, entries, from_entries, get-from_entries, entries-from_sorted, entries-insert, get-from_sorted, same_entries_map, empty, empty_of_len, len-entries}
-use Rattle.std.proofs.lemmas.List.{get_or_default}
-use Rattle.std.specs.FinMap.Entries.{put, below_all, is_sorted-put}
+use Rattle.std.{proofs.lemmas.List.{get_or_default}, specs.FinMap.Entries.{put, below_all, is_sorted-put}}
 use Rattle.sh_logic.proofs.Tests.{first, second, both}
-use Rattle.sh_map.specs.Map.{get, del, row_pair, put as map_put}
-use Rattle.sh_map.proofs.MapLemmas.{apart_test, is_del}
-use Rattle.sh_map.specs.declared.book.Row.{Row}
-use Rattle.sh_map.specs.Rows.{nothing, IsRising, map_of_rows, row_key, IsRowAt, IsGapFor}
+use Rattle.sh_map.{specs.{Map.{get, del, row_pair, put as map_put}, declared.book.Row.{Row}, Rows.{nothing, IsRising, map_of_rows, row_key, IsRowAt, IsGapFor}}, proofs.MapLemmas.{apart_test, is_del}}
 
 pub less : (x y : ℕ) → T (is_lt (nat_cmp x y)) → x < y
 less x y h = elim (nat_cmp x y) as (λ r. r ≡ nat_cmp x y → T (is_lt r) → x < y) [

@@ -1,16 +1,9 @@
 -- In a lawful closed book the entries of a seat are those of its calls, in their order.
 use Rattle.std.proofs.Common.{◌≡◌, ◌⊎◌, ℕ, zero, suc, ◌+◌, ◌<◌, ◌≤◌, Bool, true, false, cond, eqb, ◌&&◌, eq-eqb, zero-add, List, [], ◌∷◌, length, get_or, Some, inl, inr, refl, sym, ap, subst, ◌∙◌, arith}
-use Rattle.std.specs.Prelude.{slice_get, All, AllPairs}
-use Rattle.std.proofs.lemmas.Bool.{eqb-true, and_parts, and_from}
-use Rattle.std.proofs.lemmas.Option.{slice_get_within, slice_get-get_or, get_or_from_slice_get}
-use Rattle.sh_map.specs.declared.call.Call.{Call}
+use Rattle.std.{specs.Prelude.{slice_get, All, AllPairs}, proofs.lemmas.{Bool.{eqb-true, and_parts, and_from}, Option.{slice_get_within, slice_get-get_or, get_or_from_slice_get}}}
+use Rattle.sh_map.specs.{declared.{call.{Call.{Call}, Reply.{Reply}}, log.Entry.{Entry}, book.Done.{Done}}, Book.{AnswersAt, Answers, made, IsClosed, IsLater, IsLawful}, Laws.{places_of, updates_of}}
 use Rattle.sh_map.specs.declared.call.Call.TheVariants as call
-use Rattle.sh_map.specs.declared.call.Reply.{Reply}
 use Rattle.sh_map.specs.declared.call.Reply.TheVariants as reply
-use Rattle.sh_map.specs.declared.log.Entry.{Entry}
-use Rattle.sh_map.specs.declared.book.Done.{Done}
-use Rattle.sh_map.specs.Book.{AnswersAt, Answers, made, IsClosed, IsLater, IsLawful}
-use Rattle.sh_map.specs.Laws.{places_of, updates_of}
 
 -- n stands in the list
 abbrev In : ℕ → List ℕ → Type 0

@@ -1,24 +1,12 @@
 -- A sweep over finished calls in the order of their points.
 use Rattle.std.proofs.Common.{◌≡◌, ◌↔◌, ◌⊎◌, ℕ, ◌+◌, ◌<◌, Bool, true, List, [], ◌∷◌, ◌++◌, length, get_or, set, take, replicate, Some, inl, inr, refl, sym, ap, subst, ◌∙◌, arith, length-append, length-take-le}
-use Rattle.std.specs.Prelude.{slice_get, All, Any, IsTrue}
-use Rattle.std.specs.List.Sorted.{IsPermutation}
-use Rattle.std.proofs.lemmas.Bool.{cases_eq}
-use Rattle.std.proofs.lemmas.List.{get_or-set_same, get_or-set_other, get_or-replicate, length-replicate, length-set}
-use Rattle.std.proofs.lemmas.List.Elements.{All-nil, All-push}
-use Rattle.std.proofs.lemmas.List.Sorted.{All-permutation, Contains-permutation}
+use Rattle.std.{specs.{Prelude.{slice_get, All, Any, IsTrue}, List.Sorted.{IsPermutation}}, proofs.lemmas.Bool.{cases_eq}}
+use Rattle.std.proofs.lemmas.List.{get_or-set_same, get_or-set_other, get_or-replicate, length-replicate, length-set, Elements.{All-nil, All-push}, Sorted.{All-permutation, Contains-permutation}}
 use Rattle.std.proofs.lemmas.Option.{get_or_from_slice_get, slice_get_within}
 use Rattle.sh_logic.proofs.Lists.{slice_get-push_back}
-use Rattle.sh_map.specs.declared.log.Entry.{Entry}
-use Rattle.sh_map.specs.declared.book.Done.{Done}
-use Rattle.sh_map.specs.declared.sweep.Part.{Part}
-use Rattle.sh_map.specs.declared.sweep.Due.{Due}
+use Rattle.sh_map.specs.declared.{log.Entry.{Entry}, book.Done.{Done}, sweep.{Part.{Part}, Due.{Due}}, call.{Call.{Call, TheVariants.{Get, Put, Del, Range}}, Reply.{Reply}}}
+use Rattle.sh_map.{specs.{Judge.{AsksNothing, FitsPart, RowsAnswer}, Tables.{AreKept}}, proofs.WalkLemmas.{any_from, any_push, one_more}}
 use Rattle.sh_map.specs.declared.sweep.Part.TheVariants as part
-use Rattle.sh_map.specs.declared.call.Call.{Call}
-use Rattle.sh_map.specs.declared.call.Call.TheVariants.{Get, Put, Del, Range}
-use Rattle.sh_map.specs.declared.call.Reply.{Reply}
-use Rattle.sh_map.specs.Judge.{AsksNothing, FitsPart, RowsAnswer}
-use Rattle.sh_map.specs.Tables.{AreKept}
-use Rattle.sh_map.proofs.WalkLemmas.{any_from, any_push, one_more}
 
 -- each of these calls is due, or nothing is asked of its part
 pub record AreDue (part : Part) (dones : List Done) (due : List Due) : Type 0 where

@@ -1,29 +1,12 @@
 -- What a tree of keys and values says as a map.
 use Rattle.std.proofs.Common.{◌≡◌, ℕ, ◌+◌, ◌<◌, ◌≤◌, List, [], ◌∷◌, ◌++◌, length, map, take, get_or, Some, None, inl, inr, refl, sym, ap, subst, ◌∙◌, cond, true, arith, Less, Equal, false}
-use Rattle.std.specs.Prelude.{All, Contains, IsSome, slice_get}
-use Rattle.std.specs.declared.ops.Bound.TheVariants.{Included, Excluded}
-use Rattle.std.specs.Ordering.{nat_cmp, eq_by_cmp, is_gt}
-use Rattle.std.specs.Cmp.{nat_cmp_total, nat_cmp_is}
-use Rattle.std.specs.FinMap.{find, from_entries, get-from_entries}
-use Rattle.std.specs.Map.{lookup, keys_of}
-use Rattle.std.specs.BTreeMap.{BTreeMap, is_at, Updates}
+use Rattle.std.specs.{Prelude.{All, Contains, IsSome, slice_get}, declared.ops.Bound.TheVariants.{Included, Excluded}, Ordering.{nat_cmp, eq_by_cmp, is_gt}, Cmp.{nat_cmp_total, nat_cmp_is}}
+use Rattle.std.specs.{FinMap.{find, from_entries, get-from_entries}, Map.{lookup, keys_of}, BTreeMap.{BTreeMap, is_at, Updates, Range.{IsInRange, entries_between, range_contains}}}
+use Rattle.std.proofs.lemmas.Map.{Keys.{le_from_not_gt}, Entries.{lookup-filter-keys}, Views.{range_contains-from_IsInRange, Contains-keys_from_lookup, tells_apart}, Lookups.{exact_unsigned}}
+use Rattle.std.proofs.lemmas.{List.{append-nil, append_assoc, map-append, Elements.{All-map}}, Bool.{cases_lt}, Cmp.{ranked}, Option.{get_or_from_slice_get, slice_get-get_or, slice_get_within}}
 use Rattle.std.specs.BTreeMap as tree
-use Rattle.std.specs.BTreeMap.Range.{IsInRange, entries_between, range_contains}
-use Rattle.std.proofs.lemmas.Map.Keys.{le_from_not_gt}
-use Rattle.std.proofs.lemmas.Map.Entries.{lookup-filter-keys}
-use Rattle.std.proofs.lemmas.Map.Views.{range_contains-from_IsInRange, Contains-keys_from_lookup, tells_apart}
-use Rattle.std.proofs.lemmas.Map.Lookups.{exact_unsigned}
-use Rattle.std.proofs.lemmas.List.Elements.{All-map}
-use Rattle.std.proofs.lemmas.List.{append-nil, append_assoc, map-append}
-use Rattle.std.proofs.lemmas.Bool.{cases_lt}
-use Rattle.std.proofs.lemmas.Cmp.{ranked}
-use Rattle.sh_map.specs.declared.book.Row.{Row}
-use Rattle.sh_map.specs.Map.{get, put, del, row_pair, pair_row}
-use Rattle.sh_map.specs.Tables.{given_value}
-use Rattle.sh_map.proofs.MapLemmas.{apart_test, is_put, is_del}
-use Rattle.sh_map.proofs.RowsLemmas.{less_is}
+use Rattle.sh_map.{specs.{declared.book.Row.{Row}, Map.{get, put, del, row_pair, pair_row}, Tables.{given_value}}, proofs.{MapLemmas.{apart_test, is_put, is_del}, RowsLemmas.{less_is}}}
 use Rattle.sh_map.proofs.WalkLemmas.{one_more}
-use Rattle.std.proofs.lemmas.Option.{get_or_from_slice_get, slice_get-get_or, slice_get_within}
 
 find_is_lookup : (q : ℕ) (es : List (ℕ × List ℕ)) → find nat_cmp q es ≡ lookup (is_at (nat_cmp q)) es
 find_is_lookup q [] = refl

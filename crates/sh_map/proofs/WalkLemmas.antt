@@ -1,9 +1,6 @@
 -- What holds of a list that gains an element, and of a walk over a list, one on.
-use Rattle.std.proofs.Common.{◌≡◌, ◌↔◌, ◌⊎◌, ℕ, ◌+◌, ◌<◌, List, [], ◌∷◌, ◌++◌, length, get_or, take, inl, inr, sym, ap, subst, ◌∙◌}
-use Rattle.std.specs.Prelude.{All, Any, Contains}
-use Rattle.std.proofs.lemmas.List.{take_more}
-use Rattle.std.proofs.lemmas.List.Elements.{All-push, All-contains, Contains-push, Contains-push_cases, Contains-append_left, Contains-get_or}
-use Rattle.std.proofs.lemmas.List.Quantifiers.{Any-push}
+use Rattle.std.{proofs.{Common.{◌≡◌, ◌↔◌, ◌⊎◌, ℕ, ◌+◌, ◌<◌, List, [], ◌∷◌, ◌++◌, length, get_or, take, inl, inr, sym, ap, subst, ◌∙◌}, lemmas.List.{take_more}}, specs.Prelude.{All, Any, Contains}}
+use Rattle.std.proofs.lemmas.List.{Elements.{All-push, All-contains, Contains-push, Contains-push_cases, Contains-append_left, Contains-get_or}, Quantifiers.{Any-push}}
 
 module _ {X : Type 0} where
   pub any_from : (P : X → Type 0) (xs : List X) (x : X) → Contains xs x → P x → Any P xs

@@ -1,17 +1,9 @@
 -- The finished calls of a book, each answered at a point of its log.
-use Rattle.std.specs.Prelude.{◌≡◌, ◌≢◌, ◌⊎◌, ℕ, ◌+◌, ◌<◌, ◌≤◌, List, length, map, slice_get, All, AllPairs, Any, Option, Some, None}
-use Rattle.std.specs.FinMap.{from_entries}
-use Rattle.sh_map.specs.declared.call.Call.{Call}
-use Rattle.sh_map.specs.declared.call.Call.TheVariants.{Get, Put, Del, Range}
-use Rattle.sh_map.specs.declared.call.Reply.{Reply}
-use Rattle.sh_map.specs.declared.call.Reply.TheVariants as reply
-use Rattle.sh_map.specs.declared.log.Change.{Change}
-use Rattle.sh_map.specs.declared.log.Change.TheVariants as change
-use Rattle.sh_map.specs.declared.log.Entry.{Entry}
-use Rattle.sh_map.specs.declared.book.Row.{Row}
-use Rattle.sh_map.specs.declared.book.Done.{Done}
-use Rattle.sh_map.specs.Map.{get, row_pair}
+use Rattle.std.specs.{Prelude.{◌≡◌, ◌≢◌, ◌⊎◌, ℕ, ◌+◌, ◌<◌, ◌≤◌, List, length, map, slice_get, All, AllPairs, Any, Option, Some, None}, FinMap.{from_entries}}
+use Rattle.sh_map.specs.{declared.{call.{Call.{Call, TheVariants.{Get, Put, Del, Range}}, Reply.{Reply}}, log.{Change.{Change}, Entry.{Entry}}, book.{Row.{Row}, Done.{Done}}}, Map.{get, row_pair}}
 use Rattle.sh_map.specs.Log.{map_at, IsLegal}
+use Rattle.sh_map.specs.declared.call.Reply.TheVariants as reply
+use Rattle.sh_map.specs.declared.log.Change.TheVariants as change
 
 -- A range answered key by key: the rows rise and lie in low..upto, and each key of low..upto has its row's value, or
 -- nothing where it has no row, at a point of its own from a to b.

@@ -1,8 +1,7 @@
 -- Calls, and which of them are in range for a setting.
 use Rattle.std.specs.Prelude.{◌≡◌, ℕ, ◌-◌, ◌^◌, ◌<◌, ◌≤◌, length}
 use Rattle.sh_base.specs.declared.config.ConfigParts.{ConfigParts}
-use Rattle.sh_map.specs.declared.call.Call.{Call}
-use Rattle.sh_map.specs.declared.call.Call.TheVariants.{Get, Put, Del, Range}
+use Rattle.sh_map.specs.declared.call.Call.{Call, TheVariants.{Get, Put, Del, Range}}
 
 -- a key: neither 0, which marks an empty entry, nor the last word, which is the end of all ranges
 abbrev pub IsKey : ℕ → Type 0

@@ -1,19 +1,11 @@
 -- Where a book breaks a rule, and which break is the first.
 use Rattle.std.specs.Prelude.{◌≡◌, ◌⊎◌, ℕ, ◌<◌, ◌≤◌, List, [], length, take, slice_get, All, Any, Some}
-use Rattle.sh_map.specs.declared.call.Call.{Call}
-use Rattle.sh_map.specs.declared.call.Call.TheVariants.{Range}
-use Rattle.sh_map.specs.declared.call.Reply.{Reply}
+use Rattle.sh_map.specs.declared.{call.{Call.{Call, TheVariants.{Range}}, Reply.{Reply}}, log.Entry.{Entry}, book.Done.{Done}, misfit.{Misfit.{Misfit}, Rule.{Rule}}, sweep.Part.{Part}}
+use Rattle.sh_map.specs.{Log.{map_at, IsNext}, Book.{AnswersRange, AnswersAt, IsOwn, IsLastOfSeat, IsLater}}
 use Rattle.sh_map.specs.declared.call.Reply.TheVariants as reply
-use Rattle.sh_map.specs.declared.log.Entry.{Entry}
-use Rattle.sh_map.specs.declared.book.Done.{Done}
-use Rattle.sh_map.specs.declared.misfit.Misfit.{Misfit}
 use Rattle.sh_map.specs.declared.misfit.Misfit.TheVariants as misfit
-use Rattle.sh_map.specs.declared.misfit.Rule.{Rule}
 use Rattle.sh_map.specs.declared.misfit.Rule.TheVariants as rule
-use Rattle.sh_map.specs.declared.sweep.Part.{Part}
 use Rattle.sh_map.specs.declared.sweep.Part.TheVariants as part
-use Rattle.sh_map.specs.Log.{map_at, IsNext}
-use Rattle.sh_map.specs.Book.{AnswersRange, AnswersAt, IsOwn, IsLastOfSeat, IsLater}
 
 -- the entry at place i fits the map of the entries before it, and it is a finished call's own or its seat's last
 abbrev pub FitsEntry : List Entry → List Done → ℕ → Type 0

@@ -1,9 +1,6 @@
 -- What laws of logs and books speak of.
 use Rattle.std.specs.Prelude.{◌≡◌, ◌≢◌, ℕ, ◌+◌, ◌<◌, ◌==◌, ◌&&◌, if◌then◌else◌, List, [], ◌∷◌, slice_get, Some}
-use Rattle.sh_map.specs.declared.log.Entry.{Entry}
-use Rattle.sh_map.specs.declared.book.Done.{Done}
-use Rattle.sh_map.specs.Log.{change_key}
-use Rattle.sh_map.specs.Book.{made}
+use Rattle.sh_map.specs.{declared.{log.Entry.{Entry}, book.Done.{Done}}, Log.{change_key}, Book.{made}}
 
 -- the entry at place i is the last of its key
 pub record IsLastOfKey (log : List Entry) (key i : ℕ) (e : Entry) : Type 0 where

@@ -1,10 +1,6 @@
 -- A log of changes, and the map that it makes.
-use Rattle.std.specs.Prelude.{◌≡◌, ℕ, List, [], ◌∷◌, take, Option, Some, None, IsSome}
-use Rattle.std.specs.FinMap.{empty}
-use Rattle.sh_map.specs.declared.log.Change.{Change}
-use Rattle.sh_map.specs.declared.log.Change.TheVariants.{Put, Del}
-use Rattle.sh_map.specs.declared.log.Entry.{Entry}
-use Rattle.sh_map.specs.Map.{Map, get, put, del}
+use Rattle.std.specs.{Prelude.{◌≡◌, ℕ, List, [], ◌∷◌, take, Option, Some, None, IsSome}, FinMap.{empty}}
+use Rattle.sh_map.specs.{declared.log.{Change.{Change, TheVariants.{Put, Del}}, Entry.{Entry}}, Map.{Map, get, put, del}}
 
 abbrev pub change_key : Change → ℕ
 change_key (Put key value) = key

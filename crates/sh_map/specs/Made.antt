@@ -1,12 +1,8 @@
 -- The entry that an answered call makes.
 use Rattle.std.specs.Prelude.{ℕ, List, [], ◌∷◌, Some, None}
-use Rattle.sh_map.specs.declared.call.Call.{Call}
-use Rattle.sh_map.specs.declared.call.Call.TheVariants.{Put, Del}
-use Rattle.sh_map.specs.declared.call.Reply.{Reply}
+use Rattle.sh_map.specs.{declared.{call.{Call.{Call, TheVariants.{Put, Del}}, Reply.{Reply}}, log.Entry.{Entry}}, Book.{made_entry}}
 use Rattle.sh_map.specs.declared.call.Reply.TheVariants as reply
 use Rattle.sh_map.specs.declared.log.Change.TheVariants as change
-use Rattle.sh_map.specs.declared.log.Entry.{Entry}
-use Rattle.sh_map.specs.Book.{made_entry}
 
 -- a put that wasn't refused and a delete that removed something make one, and every other call none
 abbrev pub entries_by : ℕ → Call → Reply → List Entry

@@ -1,7 +1,5 @@
 -- The ordered map from keys to values: a list of pairs with rising keys. A value is the list of its words.
-use Rattle.std.specs.Prelude.{ℕ, List, Option}
-use Rattle.std.specs.Ordering.{nat_cmp}
-use Rattle.std.specs.FinMap.{FinMap, insert, remove}
+use Rattle.std.specs.{Prelude.{ℕ, List, Option}, Ordering.{nat_cmp}, FinMap.{FinMap, insert, remove}}
 use Rattle.std.specs.FinMap as map
 use Rattle.sh_map.specs.declared.book.Row.{Row}
 

@@ -1,13 +1,7 @@
 -- The point of a reply: the least one at which it is right, or the place of its entry.
-use Rattle.std.specs.Prelude.{◌≡◌, ◌≢◌, ℕ, zero, suc, ◌-◌, ◌<◌, ◌≤◌, if◌then◌else◌, Bool, true, false, List, length, Option, Some, None}
-use Rattle.std.specs.Str.{bytes_eq}
-use Rattle.sh_map.specs.declared.call.Call.{Call}
-use Rattle.sh_map.specs.declared.call.Call.TheVariants.{Get, Put, Del}
-use Rattle.sh_map.specs.declared.call.Reply.{Reply}
+use Rattle.std.specs.{Prelude.{◌≡◌, ◌≢◌, ℕ, zero, suc, ◌-◌, ◌<◌, ◌≤◌, if◌then◌else◌, Bool, true, false, List, length, Option, Some, None}, Str.{bytes_eq}}
+use Rattle.sh_map.specs.{declared.{call.{Call.{Call, TheVariants.{Get, Put, Del}}, Reply.{Reply}}, log.Entry.{Entry}}, Map.{get}, Log.{map_at}}
 use Rattle.sh_map.specs.declared.call.Reply.TheVariants as reply
-use Rattle.sh_map.specs.declared.log.Entry.{Entry}
-use Rattle.sh_map.specs.Map.{get}
-use Rattle.sh_map.specs.Log.{map_at}
 
 -- the least point from first on at which the map has this at the key
 pub record IsLeastPoint (log : List Entry) (first key : ℕ) (had : Option (List ℕ)) (p : ℕ) : Type 0 where

@@ -1,11 +1,6 @@
 -- A map as a list of rows with rising keys.
-use Rattle.std.specs.Prelude.{◌≡◌, ℕ, ◌<◌, ◌≤◌, List, [], length, map, slice_index_or, take, Option, T}
-use Rattle.std.specs.Ordering.{nat_cmp}
-use Rattle.std.specs.FinMap.{from_entries, from_sorted, is_sorted}
-use Rattle.sh_map.specs.declared.book.Row.{Row}
-use Rattle.sh_map.specs.declared.log.Entry.{Entry}
-use Rattle.sh_map.specs.Map.{Map, get, row_pair}
-use Rattle.sh_map.specs.Log.{map_from}
+use Rattle.std.specs.{Prelude.{◌≡◌, ℕ, ◌<◌, ◌≤◌, List, [], length, map, slice_index_or, take, Option, T}, Ordering.{nat_cmp}, FinMap.{from_entries, from_sorted, is_sorted}}
+use Rattle.sh_map.specs.{declared.{book.Row.{Row}, log.Entry.{Entry}}, Map.{Map, get, row_pair}, Log.{map_from}}
 
 -- each row's key is below the next one's
 abbrev pub IsRising : List Row → Type 0

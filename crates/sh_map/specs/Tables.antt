@@ -1,16 +1,8 @@
 -- Tables that are kept beside a log and its calls, so that each of them is judged quickly.
 use Rattle.std.specs.Prelude.{◌≡◌, ◌≢◌, ◌↔◌, ◌⊎◌, ℕ, ◌+◌, ◌<◌, ◌≤◌, Bool, true, List, length, take, map, slice_get, slice_index_or, All, Any, IsTrue, Option, Some, MatchOption, unwrap_or}
-use Rattle.std.specs.Ordering.{nat_cmp}
-use Rattle.std.specs.FinMap.{from_entries}
+use Rattle.std.specs.{Ordering.{nat_cmp}, FinMap.{from_entries}, BTreeMap.{BTreeMap}, BTreeSet.{BTreeSet, contains}}
 use Rattle.std.specs.BTreeMap as tree
-use Rattle.std.specs.BTreeMap.{BTreeMap}
-use Rattle.std.specs.BTreeSet.{BTreeSet, contains}
-use Rattle.sh_map.specs.declared.log.Entry.{Entry}
-use Rattle.sh_map.specs.declared.book.Row.{Row}
-use Rattle.sh_map.specs.declared.book.Done.{Done}
-use Rattle.sh_map.specs.Map.{Map, get, row_pair}
-use Rattle.sh_map.specs.Log.{change_key, left_value}
-use Rattle.sh_map.specs.Book.{IsOwn, made}
+use Rattle.sh_map.specs.{declared.{log.Entry.{Entry}, book.{Row.{Row}, Done.{Done}}}, Map.{Map, get, row_pair}, Log.{change_key, left_value}, Book.{IsOwn, made}}
 
 -- whether each finished call keeps a rule
 pub record AreKept (Fits : List Done → Done → Type 0) (dones : List Done) (kept : List Bool) : Type 0 where

@@ -1,8 +1,6 @@
 // Whether an entry of a log fits what stands before it, and whose it is.
 ghost use Rattle.std.specs.Prelude.{IsTrue, ◌↔◌, ◌≡◌, ◌<◌, ◌⊎◌, IfOk, MatchOption, ◌≢◌, length, All, Any, ℕ};
-ghost use Rattle.sh_map.specs.Log.{HasOld};
-ghost use Rattle.sh_map.specs.Judge.{AllEntriesFit, FitsEntry};
-ghost use Rattle.sh_map.specs.Book.{made};
+ghost use Rattle.sh_map.specs.{Log.{HasOld}, Judge.{AllEntriesFit, FitsEntry}, Book.{made}};
 
 use crate::owners::{has_owner, last_places, owned_places};
 use crate::tree_map::TreeMap;

@@ -3,14 +3,8 @@ ghost use Rattle.std.specs.Prelude.{◌≡◌, ◌≤◌, ◌<◌, ◌++◌, ◌
 ghost use Rattle.sh_map.specs.declared.call.Call.TheVariants as call;
 ghost use Rattle.sh_map.specs.declared.call.Reply.TheVariants as reply;
 ghost use Rattle.sh_map.specs.declared.log.Change.TheVariants as change;
-ghost use Rattle.sh_map.specs.declared.log.Entry.{Entry};
-ghost use Rattle.sh_map.specs.declared.book.Done.{Done};
-ghost use Rattle.sh_map.specs.declared.misfit.Misfit.{Misfit};
-ghost use Rattle.sh_map.specs.Map.{get};
-ghost use Rattle.sh_map.specs.Log.{IsLegal, IsNext, left_value, map_of};
-ghost use Rattle.sh_map.specs.Book.{Answers, IsClosed, IsLater, IsLawful, IsOwn};
-ghost use Rattle.sh_map.specs.Judge.{IsFirstMisfit};
-ghost use Rattle.sh_map.specs.Laws.{HasNoEntry, IsLastOfKey, places_of, updates_of};
+ghost use Rattle.sh_map.specs.{declared.{log.Entry.{Entry}, book.Done.{Done}, misfit.Misfit.{Misfit}}, Map.{get}, Log.{IsLegal, IsNext, left_value, map_of}};
+ghost use Rattle.sh_map.specs.{Book.{Answers, IsClosed, IsLater, IsLawful, IsOwn}, Judge.{IsFirstMisfit}, Laws.{HasNoEntry, IsLastOfKey, places_of, updates_of}};
 
 /// A legal log is legal up to every point. What its map has at a key comes from the key's last entry alone.
 pub fn log_laws()

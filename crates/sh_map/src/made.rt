@@ -1,9 +1,7 @@
 // The entry that an answered call makes.
-ghost use Rattle.std.specs.Prelude.{◌≡◌, ◌∷◌, ◌++◌, ◌<◌, [], vec_len};
-ghost use Rattle.std.specs.Vec.{vec_capacity};
+ghost use Rattle.std.specs.{Prelude.{◌≡◌, ◌∷◌, ◌++◌, ◌<◌, [], vec_len}, Vec.{vec_capacity}};
 ghost use Rattle.sh_map.specs.declared.call.Call.TheVariants as call;
-ghost use Rattle.sh_map.specs.Book.{made_entry};
-ghost use Rattle.sh_map.specs.Made.{entries_by};
+ghost use Rattle.sh_map.specs.{Book.{made_entry}, Made.{entries_by}};
 
 use crate::{Call, Change, Entry, Log, Reply};
 use sh_base::Value;

@@ -1,8 +1,6 @@
 // What is wrong with a book.
 ghost use Rattle.std.specs.Prelude.{IsTrue, ◌↔◌, ◌≡◌, IfOk, MatchOption, min};
-ghost use Rattle.sh_map.specs.Book.{IsLawful};
-ghost use Rattle.sh_map.specs.Judge.{AllFit, FitsRule, IsFirstMisfit, IsLeastUnfit};
-ghost use Rattle.sh_map.specs.Tables.{AreKept};
+ghost use Rattle.sh_map.specs.{Book.{IsLawful}, Judge.{AllFit, FitsRule, IsFirstMisfit, IsLeastUnfit}, Tables.{AreKept}};
 
 use crate::entries::first_unfit_entry;
 use crate::order::are_in_order;

@@ -1,8 +1,6 @@
 // Whether finished calls keep their order.
 ghost use Rattle.std.specs.Prelude.{IsTrue, ◌↔◌, ◌≡◌, ◌≤◌, ◌+◌, IfOk};
-ghost use Rattle.sh_map.specs.Book.{made};
-ghost use Rattle.sh_map.specs.Judge.{FitsOrder};
-ghost use Rattle.sh_map.specs.Tables.{AreKept};
+ghost use Rattle.sh_map.specs.{Book.{made}, Judge.{FitsOrder}, Tables.{AreKept}};
 
 use crate::Done;
 use crate::entries::made;

@@ -1,7 +1,6 @@
 // Whose an entry of a log is.
 ghost use Rattle.std.specs.Prelude.{IsTrue, ◌↔◌, ◌⊎◌, ◌≡◌, ◌<◌, IfOk, length, Any};
-ghost use Rattle.sh_map.specs.Book.{IsOwn, IsLastOfSeat, made};
-ghost use Rattle.sh_map.specs.Tables.{AreLastPlaces, AreOwned};
+ghost use Rattle.sh_map.specs.{Book.{IsOwn, IsLastOfSeat, made}, Tables.{AreLastPlaces, AreOwned}};
 
 use crate::entries::made;
 use crate::{Done, Entry};

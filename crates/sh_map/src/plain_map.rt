@@ -1,8 +1,6 @@
 // A map from keys to values, kept plainly.
-ghost use Rattle.std.specs.Prelude.{◌≡◌, IfOk, IfErr, OnOk, OnErr, map};
-ghost use Rattle.std.specs.FinMap.{empty, entries, from_entries};
-ghost use Rattle.sh_map.specs.Map.{get, put, del, row_pair};
-ghost use Rattle.sh_map.specs.Rows.{IsRowAt, IsGapFor, IsRising};
+ghost use Rattle.std.specs.{Prelude.{◌≡◌, IfOk, IfErr, OnOk, OnErr, map}, FinMap.{empty, entries, from_entries}};
+ghost use Rattle.sh_map.specs.{Map.{get, put, del, row_pair}, Rows.{IsRowAt, IsGapFor, IsRising}};
 
 use crate::{Row, Rows};
 use sh_base::Value;
@@ -17,11 +15,8 @@ pub struct PlainMap {
 }
 
 impl Model for PlainMap {
-    ghost use Rattle.std.specs.Ordering.{nat_cmp};
-    ghost use Rattle.std.specs.Coded.{coded_list, coded_ℕ};
-    ghost use Rattle.std.specs.FinMap.{code};
-    ghost use Rattle.sh_map.specs.Map.{Map};
-    ghost use Rattle.sh_map.specs.Rows.{IsRising, map_of_rows};
+    ghost use Rattle.std.specs.{Ordering.{nat_cmp}, Coded.{coded_list, coded_ℕ}, FinMap.{code}};
+    ghost use Rattle.sh_map.specs.{Map.{Map}, Rows.{IsRising, map_of_rows}};
 
     ghost Value = { Map };
 

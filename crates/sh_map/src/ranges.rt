@@ -1,10 +1,6 @@
 // Whether the rows of a range answer it.
 ghost use Rattle.std.specs.Prelude.{ℕ, IsTrue, ◌↔◌, ◌≡◌, ◌<◌, ◌≤◌, length, All, AllPairs, IfOk};
-ghost use Rattle.sh_map.specs.Log.{map_at};
-ghost use Rattle.sh_map.specs.Book.{AnswersRange};
-ghost use Rattle.sh_map.specs.Judge.{RowsAnswer};
-ghost use Rattle.sh_map.specs.Rows.{RowHasPoint, IsRising};
-ghost use Rattle.sh_map.specs.Tables.{AreMet, IsGivenValue};
+ghost use Rattle.sh_map.specs.{Log.{map_at}, Book.{AnswersRange}, Judge.{RowsAnswer}, Rows.{RowHasPoint, IsRising}, Tables.{AreMet, IsGivenValue}};
 
 use crate::entries::same;
 use crate::plain_map::value_in;

@@ -1,9 +1,6 @@
 // Whether a reply is the one of its point.
 ghost use Rattle.std.specs.Prelude.{IsTrue, ◌↔◌, ◌≡◌, ◌≤◌, length, slice_get};
-ghost use Rattle.sh_map.specs.Map.{get};
-ghost use Rattle.sh_map.specs.Log.{map_at};
-ghost use Rattle.sh_map.specs.Book.{made_entry};
-ghost use Rattle.sh_map.specs.Judge.{AnswersAside};
+ghost use Rattle.sh_map.specs.{Map.{get}, Log.{map_at}, Book.{made_entry}, Judge.{AnswersAside}};
 
 use crate::entries::same;
 use crate::tree_map::TreeMap;

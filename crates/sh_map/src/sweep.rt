@@ -1,9 +1,6 @@
 // Judges finished calls by the maps of their points, in the order of these.
 ghost use Rattle.std.specs.Prelude.{IsTrue, false, ◌↔◌, ◌≡◌, ◌⊎◌, ◌<◌, ◌≤◌, ℕ, All, Any, IfOk, length, min, slice_get};
-ghost use Rattle.sh_map.specs.Log.{map_at};
-ghost use Rattle.sh_map.specs.declared.book.Done.{Done};
-ghost use Rattle.sh_map.specs.Judge.{AsksNothing, FitsPart, point_for};
-ghost use Rattle.sh_map.specs.Tables.{AreKept};
+ghost use Rattle.sh_map.specs.{Log.{map_at}, declared.book.Done.{Done}, Judge.{AsksNothing, FitsPart, point_for}, Tables.{AreKept}};
 
 use crate::ranges::do_rows_answer;
 use crate::replies::is_answered;

@@ -1,9 +1,6 @@
 // A map from keys to values, kept as a tree.
-ghost use Rattle.std.specs.Prelude.{◌≡◌, ◌<◌, ◌≤◌, ℕ, IsTrue, IfOk, OnOk, OnErr, IsSome, length, slice_get, All, Contains};
-ghost use Rattle.std.specs.FinMap.{empty};
-ghost use Rattle.sh_map.specs.Map.{get, pair_row};
-ghost use Rattle.sh_map.specs.Log.{changed, change_key, map_at, map_from};
-ghost use Rattle.sh_map.specs.Tables.{given_value};
+ghost use Rattle.std.specs.{Prelude.{◌≡◌, ◌<◌, ◌≤◌, ℕ, IsTrue, IfOk, OnOk, OnErr, IsSome, length, slice_get, All, Contains}, FinMap.{empty}};
+ghost use Rattle.sh_map.specs.{Map.{get, pair_row}, Log.{changed, change_key, map_at, map_from}, Tables.{given_value}};
 
 use crate::{Change, Entry, Row};
 use sh_base::Value;
@@ -18,9 +15,7 @@ pub(crate) struct TreeMap {
 }
 
 impl Model for TreeMap {
-    ghost use Rattle.std.specs.Ordering.{nat_cmp};
-    ghost use Rattle.std.specs.Coded.{coded_list, coded_ℕ};
-    ghost use Rattle.std.specs.FinMap.{code, from_entries};
+    ghost use Rattle.std.specs.{Ordering.{nat_cmp}, Coded.{coded_list, coded_ℕ}, FinMap.{code, from_entries}};
     ghost use Rattle.sh_map.specs.Map.{Map};
 
     ghost Value = { Map };

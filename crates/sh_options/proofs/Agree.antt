@@ -1,18 +1,10 @@
 -- clap finds no fault exactly where the words make uses, each at most once.
 use Rattle.std.proofs.Common.{◌≡◌, Bool, true, false, not, ◌==◌, ℕ, List, [], ◌∷◌, ◌++◌, map, Option, Some, None, refl, ap, ap₂, sym, ◌∙◌, append-nil, append_assoc}
-use Rattle.std.specs.Prelude.{fold, slice_get, unwrap_or}
-use Rattle.clap.proofs.WalkLemmas.{both}
-use Rattle.std.specs.List.{list_all}
-use Rattle.std.specs.Option.{option_map_or}
-use Rattle.std.specs.Str.{chars}
-use Rattle.std.proofs.lemmas.List.{map-append}
-use Rattle.clap.specs.Faults.{repeat_fault, settle_fault, turn_fault, walk_fault}
-use Rattle.clap.specs.Kinds.{Kinds, or_else}
-use Rattle.clap.specs.Lexer.{long_of, short_of}
+use Rattle.std.{specs.{Prelude.{fold, slice_get, unwrap_or}, List.{list_all}, Option.{option_map_or}, Str.{chars}}, proofs.lemmas.List.{map-append}}
+use Rattle.clap.{proofs.WalkLemmas.{both}, specs.{Faults.{repeat_fault, settle_fault, turn_fault, walk_fault}, Kinds.{Kinds, or_else}, Lexer.{long_of, short_of}}}
 use Rattle.clap.specs.Walk.{Row, Rule, Walk, arg_by_id, has_row, settled, settled_rows, used, walked}
 use Rattle.sh_logic.proofs.Tests.{or_false}
-use Rattle.sh_options.specs.Command.{has_end, is_end}
-use Rattle.sh_options.specs.Uses.{Names, Said, Text, Use, after_word, gives, asks, has_use, is_among, is_once_after, said_of, spelled, strange, uses_from, with_use}
+use Rattle.sh_options.specs.{Command.{has_end, is_end}, Uses.{Names, Said, Text, Use, after_word, gives, asks, has_use, is_among, is_once_after, said_of, spelled, strange, uses_from, with_use}}
 use Rattle.sh_options.proofs.Rows.{Word, bare, flag, flag_used, flag_value, has_row_is, joined, option_used, row_for, stray, unknown, word_is}
 use Rattle.sh_options.proofs.Steps.{bare_fault, bare_walked, between, flag_fault, flag_value_fault, flag_walked, held, joined_fault, joined_walked, option_built, or_else_nil, shape_with, stray_refused, unknown_fault, wait_char, wait_flag, wait_flag_value, wait_no_char, wait_none, wait_option, wait_plain, wait_unknown, within}
 use Rattle.sh_options.proofs.Tables.{bytes_eq_self, end_fault, end_is, id_option, long_flag, long_none, long_option, no_place, no_short, rules_built}

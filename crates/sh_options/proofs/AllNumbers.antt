@@ -1,19 +1,11 @@
 -- Each option's value is a number just where each value of the uses is.
-use Rattle.std.proofs.Common.{◌≡◌, Bool, true, false, not, ◌&&◌, List, [], ◌∷◌, ◌++◌, Option, Some, None, refl, ap, ap₂, sym, ◌∙◌, append_assoc}
-use Rattle.std.specs.Prelude.{option_and_then, if◌then◌else◌}
-use Rattle.std.specs.List.{list_all}
-use Rattle.std.specs.Option.{option_map_or}
-use Rattle.std.specs.Str.{bytes_eq}
-use Rattle.clap.specs.Words.{first_value, found_of}
-use Rattle.clap.specs.declared.parser.matches.ArgMatches.{ArgMatches}
-use Rattle.clap.proofs.WalkLemmas.{both}
+use Rattle.std.{proofs.Common.{◌≡◌, Bool, true, false, not, ◌&&◌, List, [], ◌∷◌, ◌++◌, Option, Some, None, refl, ap, ap₂, sym, ◌∙◌, append_assoc}, specs.Prelude.{option_and_then, if◌then◌else◌}}
+use Rattle.std.specs.{List.{list_all}, Option.{option_map_or}, Str.{bytes_eq}}
+use Rattle.clap.{specs.{Words.{first_value, found_of}, declared.parser.matches.ArgMatches.{ArgMatches}}, proofs.WalkLemmas.{both}}
 use Rattle.sh_logic.proofs.Tests.{or_false}
-use Rattle.sh_options.specs.Holds.{Holds, Told}
+use Rattle.sh_options.{specs.{Holds.{Holds, Told}, Uses.{Names, Text, Use, all_numbers, has_use, is_among, is_lawful, is_once_after, told_by, told_if, option_value}}, proofs.Agree.{not_true}}
+use Rattle.sh_options.proofs.{Tables.{bytes_eq_self, same_text}, Values.{is_fit, uses_fit}}
 use Rattle.sh_sheet.specs.Number.{is_number}
-use Rattle.sh_options.specs.Uses.{Names, Text, Use, all_numbers, has_use, is_among, is_lawful, is_once_after, told_by, told_if, option_value}
-use Rattle.sh_options.proofs.Agree.{not_true}
-use Rattle.sh_options.proofs.Tables.{bytes_eq_self, same_text}
-use Rattle.sh_options.proofs.Values.{is_fit, uses_fit}
 
 abbrev pub is_right : Option Text → Bool
 is_right v = option_map_or is_number v true

@@ -1,7 +1,5 @@
 -- One more rule in the command.
-use Rattle.std.proofs.Common.{◌≡◌, ◌<◌, ◌+◌, ◌++◌, [], ◌∷◌, ℕ, List, map, take, get_or, ap, ◌∙◌, length, sym}
-use Rattle.std.specs.Borrow.{Bor}
-use Rattle.std.proofs.lemmas.List.{map-append, append_assoc, take_more}
+use Rattle.std.{proofs.{Common.{◌≡◌, ◌<◌, ◌+◌, ◌++◌, [], ◌∷◌, ℕ, List, map, take, get_or, ap, ◌∙◌, length, sym}, lemmas.List.{map-append, append_assoc, take_more}}, specs.Borrow.{Bor}}
 use Rattle.clap.specs.Words.{App, Rule, with_rule}
 use Rattle.sh_options.specs.Command.{app_with}
 

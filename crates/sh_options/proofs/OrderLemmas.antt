@@ -1,23 +1,11 @@
 -- The order, by what the parse tells.
-use Rattle.std.proofs.Common.{◌≡◌, ◌<◌, ◌-◌, ◌^◌, ℕ, Bool, List, [], ◌∷◌, Option, Some, None, true, false, refl, ap, ap₂, sym, subst, ◌∙◌, arith}
-use Rattle.std.specs.Prelude.{option_and_then, codes}
-use Rattle.std.specs.Str.{bytes_eq}
-use Rattle.std.proofs.lemmas.Bool.Decides.{nat_tests}
-use Rattle.clap.specs.Words.{found_of}
-use Rattle.clap.specs.declared.parser.matches.ArgMatches.{ArgMatches}
-use Rattle.clap.specs.declared.parser.matches.Found.{Found}
+use Rattle.std.{proofs.Common.{◌≡◌, ◌<◌, ◌-◌, ◌^◌, ℕ, Bool, List, [], ◌∷◌, Option, Some, None, true, false, refl, ap, ap₂, sym, subst, ◌∙◌, arith}, specs.Prelude.{option_and_then, codes}}
+use Rattle.std.{specs.Str.{bytes_eq}, proofs.lemmas.Bool.Decides.{nat_tests}}
+use Rattle.clap.specs.{Words.{found_of}, declared.parser.matches.{ArgMatches.{ArgMatches}, Found.{Found}}}
 use Rattle.sh_logic.proofs.Tests.{or_false}
-use Rattle.sh_base.specs.Faults.{fault_of, first_outside, outside}
-use Rattle.sh_base.specs.Setting.{pool_words}
-use Rattle.sh_base.specs.declared.config.ConfigFault.{ConfigFault}
-use Rattle.sh_base.specs.declared.config.ConfigFault.TheVariants.{TooLarge}
-use Rattle.sh_base.specs.declared.config.ConfigParts.{ConfigParts}
-use Rattle.sh_sheet.specs.declared.item.Mode.{Mode}
-use Rattle.sh_sheet.specs.declared.item.Mode.TheVariants.{Run, Replay}
-use Rattle.sh_options.specs.Holds.{ReadsUses, Told}
-use Rattle.sh_options.specs.Narrow.{narrow, narrow_parts, narrowed}
-use Rattle.sh_options.specs.Order.{ReadsAs, asked_if, given_in, names_for, order_of}
-use Rattle.sh_options.specs.declared.order.Given.{Given}
+use Rattle.sh_base.specs.{Faults.{fault_of, first_outside, outside}, Setting.{pool_words}, declared.config.{ConfigFault.{ConfigFault, TheVariants.{TooLarge}}, ConfigParts.{ConfigParts}}}
+use Rattle.sh_sheet.specs.declared.item.Mode.{Mode, TheVariants.{Run, Replay}}
+use Rattle.sh_options.specs.{Holds.{ReadsUses, Told}, Narrow.{narrow, narrow_parts, narrowed}, Order.{ReadsAs, asked_if, given_in, names_for, order_of}, declared.order.Given.{Given}}
 use Rattle.sh_options.specs.Uses.{Names, Text, Use, is_among, told_by}
 
 -- ---- the programs' own options

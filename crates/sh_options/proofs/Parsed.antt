@@ -1,29 +1,18 @@
 -- What a parse of the command says of the words, in our own terms.
 use Rattle.std.proofs.Common.{◌≡◌, Bool, true, false, not, ◌&&◌, ◌||◌, List, [], ◌∷◌, Option, Some, None, refl, ap, ap₂, sym, ◌∙◌, inl, inr, subst, arith}
-use Rattle.std.specs.Prelude.{fold, if◌then◌else◌, nat_le, nat_lt, unwrap_or, length}
-use Rattle.std.specs.List.{list_all, list_any, count_by}
-use Rattle.std.specs.Option.{option_map_or}
-use Rattle.std.specs.Str.{bytes_eq}
+use Rattle.std.specs.{Prelude.{fold, if◌then◌else◌, nat_le, nat_lt, unwrap_or, length}, List.{list_all, list_any, count_by}, Option.{option_map_or}, Str.{bytes_eq}}
 use Rattle.std.proofs.lemmas.Bool.Decides.{nat_tests}
-use Rattle.clap.specs.Faults.{built_fault, fault_of, is_free_app, is_simple_and_free}
-use Rattle.clap.specs.Kinds.{HasKind, Kinds}
+use Rattle.clap.specs.{Faults.{built_fault, fault_of, is_free_app, is_simple_and_free}, Kinds.{HasKind, Kinds}}
 use Rattle.clap.specs.Simple.{App, HasMatchesOf, built, is_buildable, is_ready, is_ready_leaf, is_simple, matches_of}
-use Rattle.clap.specs.Walk.{first_of, is_early_multiple, nothing_held, one_of, with_default, rows_after}
-use Rattle.clap.specs.Words.{found_of, kind_of}
-use Rattle.clap.specs.declared.error.Error.{Error}
-use Rattle.clap.specs.declared.error.kind.ErrorKind.TheVariants.{OutOfMemory}
-use Rattle.clap.specs.declared.parser.matches.ArgMatches.{ArgMatches}
-use Rattle.clap.proofs.FaultLemmas.{leaf_fault}
+use Rattle.clap.specs.{Walk.{first_of, is_early_multiple, nothing_held, one_of, with_default, rows_after}, Words.{found_of, kind_of}, declared.error.Error.{Error}}
+use Rattle.clap.{specs.declared.{error.kind.ErrorKind.TheVariants.{OutOfMemory}, parser.matches.ArgMatches.{ArgMatches}}, proofs.FaultLemmas.{leaf_fault}}
 use Rattle.clap.proofs.WalkLemmas.{both, first_value-rows, one_text-rows}
 use Rattle.sh_logic.proofs.Tests.{false_right}
-use Rattle.sh_options.specs.Command.{app_for, app_with, flag_rule, has_end, is_end, option_rule}
-use Rattle.sh_sheet.specs.Number.{is_number}
-use Rattle.sh_options.specs.Holds.{Holds}
+use Rattle.sh_options.specs.{Command.{app_for, app_with, flag_rule, has_end, is_end, option_rule}, Holds.{Holds}}
 use Rattle.sh_options.specs.Uses.{Names, Said, Text, Use, after_word, all_numbers, asks, gives, is_among, is_lawful, is_once, said_of, spelled, strange, told_by, told_if, uses_from, uses_of, with_use}
-use Rattle.sh_options.proofs.Agree.{all_plain, is_plain, not_true, read_both, rest_fault, rows_end, taken_both}
-use Rattle.sh_options.proofs.Steps.{between, flag_built, option_built, shape_with}
-use Rattle.sh_options.proofs.Tables.{all_rules, any_rules, built_is, end_fault, rules_built, same_text}
-use Rattle.sh_options.proofs.Values.{flag_is, uses_fit, value_is}
+use Rattle.sh_options.proofs.{Agree.{all_plain, is_plain, not_true, read_both, rest_fault, rows_end, taken_both}, Steps.{between, flag_built, option_built, shape_with}}
+use Rattle.sh_options.proofs.{Tables.{all_rules, any_rules, built_is, end_fault, rules_built, same_text}, Values.{flag_is, uses_fit, value_is}}
+use Rattle.sh_sheet.specs.Number.{is_number}
 
 -- ---- the command is simple
 

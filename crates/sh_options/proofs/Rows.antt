@@ -1,16 +1,9 @@
 -- The rows of clap that uses make, and how a word is read on both sides.
-use Rattle.std.proofs.Common.{◌≡◌, Bool, true, false, ◌||◌, ◌==◌, List, [], ◌∷◌, ◌++◌, map, Option, Some, None, codes, refl, ap, sym, ◌∙◌, append-nil}
-use Rattle.std.specs.Prelude.{unwrap_or}
-use Rattle.std.specs.Str.{bytes_eq}
-use Rattle.clap.specs.Lexer.{long_of}
-use Rattle.clap.specs.Walk.{Row, at_row, has_row, more_values, reading_by, used, with_values, without}
-use Rattle.clap.specs.declared.builder.value_parser.Reading.TheVariants.{AsWritten}
-use Rattle.clap.specs.declared.parser.matches.ValueSource.TheVariants.{CommandLine}
-use Rattle.clap.proofs.WalkLemmas.{list_any-map}
+use Rattle.std.{proofs.Common.{◌≡◌, Bool, true, false, ◌||◌, ◌==◌, List, [], ◌∷◌, ◌++◌, map, Option, Some, None, codes, refl, ap, sym, ◌∙◌, append-nil}, specs.{Prelude.{unwrap_or}, Str.{bytes_eq}}}
+use Rattle.clap.specs.{Lexer.{long_of}, Walk.{Row, at_row, has_row, more_values, reading_by, used, with_values, without}, declared.builder.value_parser.Reading.TheVariants.{AsWritten}}
+use Rattle.clap.{specs.declared.parser.matches.ValueSource.TheVariants.{CommandLine}, proofs.WalkLemmas.{list_any-map}}
 use Rattle.sh_logic.proofs.Tests.{or_false}
-use Rattle.sh_options.specs.Command.{is_end}
-use Rattle.sh_options.specs.Uses.{Names, Text, Use, asks, gives, has_use, is_among, said_of, spelled, strange}
-use Rattle.sh_options.proofs.Steps.{flag_built, option_built}
+use Rattle.sh_options.{specs.{Command.{is_end}, Uses.{Names, Text, Use, asks, gives, has_use, is_among, said_of, spelled, strange}}, proofs.Steps.{flag_built, option_built}}
 
 -- what clap keeps of a use
 abbrev pub row_for : Use → Row

@@ -1,12 +1,7 @@
 -- What clap makes of one word, where it stands between two options or waits for a value.
-use Rattle.std.proofs.Common.{◌≡◌, true, false, ℕ, List, [], ◌∷◌, Option, Some, None, codes, refl, ap, ◌∙◌}
-use Rattle.std.specs.Prelude.{slice_get}
-use Rattle.std.specs.Str.{bytes_eq, chars}
-use Rattle.clap.specs.Faults.{flags_fault, repeat_fault, settle_fault, turn_fault}
-use Rattle.clap.specs.Kinds.{Kinds, or_else}
-use Rattle.clap.specs.Lexer.{long_of, short_of}
-use Rattle.clap.specs.declared.error.kind.ErrorKind.TheVariants.{InvalidValue, TooManyValues, UnknownArgument}
-use Rattle.clap.specs.Simple.{Shape, filled, new_shape, with_index}
+use Rattle.std.{proofs.Common.{◌≡◌, true, false, ℕ, List, [], ◌∷◌, Option, Some, None, codes, refl, ap, ◌∙◌}, specs.{Prelude.{slice_get}, Str.{bytes_eq, chars}}}
+use Rattle.clap.specs.{Faults.{flags_fault, repeat_fault, settle_fault, turn_fault}, Kinds.{Kinds, or_else}, Lexer.{long_of, short_of}}
+use Rattle.clap.specs.{declared.error.kind.ErrorKind.TheVariants.{InvalidValue, TooManyValues, UnknownArgument}, Simple.{Shape, filled, new_shape, with_index}}
 use Rattle.clap.specs.Walk.{Held, Row, Rule, Text, Walk, arg_by_id, arg_by_index, arg_by_long, arg_by_short, bundle_met, idle, option, settled_rows, used, walked}
 use Rattle.sh_options.specs.Command.{bare, flag_rule, is_end, option_rule}
 

@@ -1,16 +1,9 @@
 -- What clap finds in the rules of a list of options and a list of flags.
-use Rattle.std.proofs.Common.{◌≡◌, Bool, true, false, not, ◌&&◌, ◌||◌, ℕ, List, [], ◌∷◌, ◌++◌, map, Option, Some, None, refl, ap, ap₂, ◌∙◌}
-use Rattle.std.specs.Prelude.{if◌then◌else◌}
-use Rattle.std.specs.List.{list_all, list_any, find}
-use Rattle.std.specs.Str.{bytes_eq}
-use Rattle.std.proofs.lemmas.Slice.Eq.{bytes_eq-Decides}
-use Rattle.clap.specs.Faults.{check_fault, default_fault, defaults_fault, settle_fault}
-use Rattle.clap.specs.Kinds.{Kinds, or_else}
-use Rattle.clap.specs.Simple.{built, filled_from}
+use Rattle.std.{proofs.Common.{◌≡◌, Bool, true, false, not, ◌&&◌, ◌||◌, ℕ, List, [], ◌∷◌, ◌++◌, map, Option, Some, None, refl, ap, ap₂, ◌∙◌}, specs.Prelude.{if◌then◌else◌}}
+use Rattle.std.{specs.{List.{list_all, list_any, find}, Str.{bytes_eq}}, proofs.lemmas.Slice.Eq.{bytes_eq-Decides}}
+use Rattle.clap.specs.{Faults.{check_fault, default_fault, defaults_fault, settle_fault}, Kinds.{Kinds, or_else}, Simple.{built, filled_from}}
 use Rattle.clap.specs.Walk.{Held, Row, Rule, arg_by_id, arg_by_index, arg_by_long, arg_by_short, finished, has_row, settled}
-use Rattle.sh_options.specs.Uses.{Names, Text, is_among}
-use Rattle.sh_options.specs.Command.{app_for, app_with, flag_rule, option_rule}
-use Rattle.sh_options.proofs.Steps.{flag_built, option_built, or_else_nil, shape_with}
+use Rattle.sh_options.{specs.{Uses.{Names, Text, is_among}, Command.{app_for, app_with, flag_rule, option_rule}}, proofs.Steps.{flag_built, option_built, or_else_nil, shape_with}}
 
 abbrev pub rules_built : Names → List Rule
 rules_built n = map option_built n.options ++ map flag_built n.flags

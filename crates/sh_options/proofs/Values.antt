@@ -1,17 +1,10 @@
 -- What the getters read after the parse, by the uses.
 use Rattle.std.proofs.Common.{◌≡◌, Bool, true, false, ◌&&◌, List, [], ◌∷◌, ◌++◌, map, Option, Some, None, codes, refl, ap, ap₂, sym, ◌∙◌, option_map}
-use Rattle.std.specs.Prelude.{fold, if◌then◌else◌, slice_get, unwrap_or, option_and_then, find, is_some}
-use Rattle.std.specs.List.{list_all}
-use Rattle.std.specs.Str.{bytes_eq}
-use Rattle.clap.specs.Walk.{Row, first_of, has_row, more_values, one_of, row_text, with_default}
-use Rattle.clap.specs.declared.builder.value_parser.Reading.TheVariants.{AsWritten}
-use Rattle.clap.specs.declared.parser.matches.ValueSource.TheVariants.{DefaultValue}
-use Rattle.clap.proofs.WalkLemmas.{both, find-map}
-use Rattle.sh_options.specs.Holds.{flag_text}
-use Rattle.sh_options.specs.Uses.{Names, Text, Use, after_word, has_use, is_among, said_by, said_of, spelled, uses_from, option_value, with_use}
-use Rattle.sh_options.proofs.Rows.{at_row_none, row_for}
-use Rattle.sh_options.proofs.Steps.{flag_built, option_built}
-use Rattle.sh_options.proofs.Tables.{rules_built, same_text}
+use Rattle.std.specs.{Prelude.{fold, if◌then◌else◌, slice_get, unwrap_or, option_and_then, find, is_some}, List.{list_all}, Str.{bytes_eq}}
+use Rattle.clap.specs.{Walk.{Row, first_of, has_row, more_values, one_of, row_text, with_default}, declared.builder.value_parser.Reading.TheVariants.{AsWritten}}
+use Rattle.clap.{specs.declared.parser.matches.ValueSource.TheVariants.{DefaultValue}, proofs.WalkLemmas.{both, find-map}}
+use Rattle.sh_options.specs.{Holds.{flag_text}, Uses.{Names, Text, Use, after_word, has_use, is_among, said_by, said_of, spelled, uses_from, option_value, with_use}}
+use Rattle.sh_options.proofs.{Rows.{at_row_none, row_for}, Steps.{flag_built, option_built}, Tables.{rules_built, same_text}}
 
 -- ---- defaults
 

@@ -1,10 +1,6 @@
 -- The command that parses the words, as the parser sees it. No public contract names it.
-use Rattle.std.specs.Prelude.{ℕ, Bool, List, [], ◌∷◌, Some, true, codes, map, ◌++◌}
-use Rattle.std.specs.List.{list_any}
-use Rattle.std.specs.Str.{bytes_eq}
-use Rattle.clap.specs.Words.{App, Rule, Shape, new_app, new_rule}
-use Rattle.clap.specs.Simple.{on_top}
-use Rattle.clap.specs.declared.builder.ArgAction.TheVariants.{SetTrue}
+use Rattle.std.specs.{Prelude.{ℕ, Bool, List, [], ◌∷◌, Some, true, codes, map, ◌++◌}, List.{list_any}, Str.{bytes_eq}}
+use Rattle.clap.specs.{Words.{App, Rule, Shape, new_app, new_rule}, Simple.{on_top}, declared.builder.ArgAction.TheVariants.{SetTrue}}
 use Rattle.sh_options.specs.Uses.{Names}
 
 -- an option with a value, by its long name

@@ -1,9 +1,6 @@
 -- What the matches of a parse hold, by the uses that the words make. No public contract names it.
-use Rattle.std.specs.Prelude.{◌≡◌, Bool, true, false, List, Option, Some, None, codes, map, if◌then◌else◌}
-use Rattle.std.specs.Borrow.{Bor}
-use Rattle.clap.specs.Words.{first_value, found_of, one_text}
-use Rattle.clap.specs.declared.parser.matches.Found.{Found}
-use Rattle.clap.specs.declared.parser.matches.ArgMatches.{ArgMatches}
+use Rattle.std.specs.{Prelude.{◌≡◌, Bool, true, false, List, Option, Some, None, codes, map, if◌then◌else◌}, Borrow.{Bor}}
+use Rattle.clap.specs.{Words.{first_value, found_of, one_text}, declared.parser.matches.{Found.{Found}, ArgMatches.{ArgMatches}}}
 use Rattle.sh_options.specs.Uses.{Names, Text, Use, has_use, is_among, is_once, told_by, uses_of, option_value}
 
 abbrev pub names_of : List (Bor Text) → List (Bor Text) → Names

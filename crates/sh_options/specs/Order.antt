@@ -1,18 +1,10 @@
 -- What the words of a program ask for.
 use Rattle.std.specs.Prelude.{◌≡◌, ℕ, Bool, true, false, List, [], ◌∷◌, ◌++◌, Option, Some, None, codes, if◌then◌else◌, option_and_then, unwrap_or, is_some, is_none, ◌&&◌, ◌||◌, nat_le}
 use Rattle.std.specs.Option.{option_map_or}
-use Rattle.clap.specs.Words.{first_value, one_text}
-use Rattle.clap.specs.declared.parser.matches.Found.{Found}
-use Rattle.sh_base.specs.declared.config.ConfigParts.{ConfigParts}
-use Rattle.sh_base.specs.Faults.{fault_of}
-use Rattle.sh_base.specs.Parts.{parts_of}
-use Rattle.sh_base.specs.Setting.{default_parts}
-use Rattle.sh_sheet.specs.declared.item.Mode.{Mode}
-use Rattle.sh_sheet.specs.declared.item.Mode.TheVariants.{Run, Replay}
-use Rattle.sh_options.specs.Holds.{flag_text}
-use Rattle.sh_options.specs.Uses.{Names, Text, Use, has_use, is_among, option_number, told_by, option_value}
-use Rattle.sh_options.specs.declared.order.Given.{Given}
-use Rattle.sh_options.specs.declared.order.Order.{Order}
+use Rattle.clap.specs.{Words.{first_value, one_text}, declared.parser.matches.Found.{Found}}
+use Rattle.sh_base.specs.{declared.config.ConfigParts.{ConfigParts}, Faults.{fault_of}, Parts.{parts_of}, Setting.{default_parts}}
+use Rattle.sh_sheet.specs.declared.item.Mode.{Mode, TheVariants.{Run, Replay}}
+use Rattle.sh_options.specs.{Holds.{flag_text}, Uses.{Names, Text, Use, has_use, is_among, option_number, told_by, option_value}, declared.order.{Given.{Given}, Order.{Order}}}
 
 -- the options of a setting's numbers
 abbrev pub setting_options : List Text

@@ -1,8 +1,6 @@
 -- What the words of a command line say, by the names of the program's own options.
 use Rattle.std.specs.Prelude.{ℕ, Bool, true, ◌==◌, ◌&&◌, not, List, [], ◌∷◌, ◌++◌, Option, Some, None, if◌then◌else◌, option_map, option_and_then, find}
-use Rattle.std.specs.List.{list_all, list_any, before_first, after_first}
-use Rattle.std.specs.Option.{option_map_or}
-use Rattle.std.specs.Str.{bytes_eq}
+use Rattle.std.specs.{List.{list_all, list_any, before_first, after_first}, Option.{option_map_or}, Str.{bytes_eq}}
 use Rattle.sh_sheet.specs.Number.{is_number, number_of}
 
 abbrev pub Text : Type 0

@@ -2,8 +2,7 @@
 ghost use Rattle.std.specs.Prelude.{List, ℕ, ◌≡◌, ◌∷◌, ◌++◌, [], codes, Some, None, option_map, true, false};
 ghost use Rattle.sh_base.specs.Setting.{default_parts};
 ghost use Rattle.sh_sheet.specs.declared.item.Mode.TheVariants.{Run, Replay};
-ghost use Rattle.sh_options.specs.Order.{names_for, order_of};
-ghost use Rattle.sh_options.specs.Uses.{option_use, flag_use, spelled, uses_of};
+ghost use Rattle.sh_options.specs.{Order.{names_for, order_of}, Uses.{option_use, flag_use, spelled, uses_of}};
 
 /// The uses that some words make, for each value and for each rest.
 pub fn known_uses()

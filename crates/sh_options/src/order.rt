@@ -1,11 +1,8 @@
 // What the words of a program ask for.
-ghost use Rattle.std.specs.Prelude.{◌≡◌, ◌&&◌, List, map, Some, None, IfOk, IsErrOf, nat_le, option_and_then, true, unwrap_or};
-ghost use Rattle.std.specs.Option.{option_map_or};
+ghost use Rattle.std.specs.{Prelude.{◌≡◌, ◌&&◌, List, map, Some, None, IfOk, IsErrOf, nat_le, option_and_then, true, unwrap_or}, Option.{option_map_or}};
 ghost use Rattle.clap.specs.Words.{first_value, found_of};
 ghost use Rattle.sh_sheet.specs.Number.{number_of};
-ghost use Rattle.sh_options.specs.Narrow.{narrow, narrow_parts, narrowed};
-ghost use Rattle.sh_options.specs.Order.{ReadsAs, asked_if, asked_of, given_in, order_of, parts_in};
-ghost use Rattle.sh_options.specs.Uses.{Use};
+ghost use Rattle.sh_options.specs.{Narrow.{narrow, narrow_parts, narrowed}, Order.{ReadsAs, asked_if, asked_of, given_in, order_of, parts_in}, Uses.{Use}};
 ghost use Rattle.sh_options.specs.declared.order.WordFault.TheVariants.{NoMemory};
 
 use crate::names::{flags_for, options_for};

@@ -1,9 +1,7 @@
 // The words, read by clap.
 ghost use Rattle.std.specs.Prelude.{◌≡◌, ◌≢◌, true, map, None, IfOk, IsErrOf};
 ghost use Rattle.clap.specs.Words.{app_of, kind_of, with_rule};
-ghost use Rattle.sh_options.specs.Command.{app_for, flag_rule, has_end, option_rule};
-ghost use Rattle.sh_options.specs.Holds.{Holds, names_of};
-ghost use Rattle.sh_options.specs.Uses.{is_lawful, told_by};
+ghost use Rattle.sh_options.specs.{Command.{app_for, flag_rule, has_end, option_rule}, Holds.{Holds, names_of}, Uses.{is_lawful, told_by}};
 
 use crate::WordFault;
 use clap::error::ErrorKind;

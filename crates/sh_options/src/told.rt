@@ -1,11 +1,8 @@
 // The matches of the words, and what they read as.
-ghost use Rattle.std.specs.Prelude.{◌≡◌, Bool, map, IfOk, IsErrOf, None, true, option_and_then};
-ghost use Rattle.std.specs.List.{list_all};
-ghost use Rattle.std.specs.Option.{option_map_or};
+ghost use Rattle.std.specs.{Prelude.{◌≡◌, Bool, map, IfOk, IsErrOf, None, true, option_and_then}, List.{list_all}, Option.{option_map_or}};
 ghost use Rattle.clap.specs.Words.{first_value, found_of, one_text};
 ghost use Rattle.sh_sheet.specs.Number.{is_number, number_of};
-ghost use Rattle.sh_options.specs.Holds.{Told, flag_text, names_of};
-ghost use Rattle.sh_options.specs.Uses.{is_lawful, told_by};
+ghost use Rattle.sh_options.specs.{Holds.{Told, flag_text, names_of}, Uses.{is_lawful, told_by}};
 
 use crate::WordFault;
 use crate::parsing::parse;

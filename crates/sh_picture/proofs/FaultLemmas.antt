@@ -1,18 +1,11 @@
 -- A place among the levels is one of the pool, and a place of the pool is one of the bytes.
-use Rattle.std.specs.Prelude.{slice_index, MatchOption}
-use Rattle.std.proofs.Common.{◌≡◌, ◌∙◌, ◌<◌, ◌^◌, ℕ, List, Option, Some, None, length, map, drop, sym, ap, subst}
-use Rattle.std.specs.FinMap.{entries}
-use Rattle.sh_base.specs.Setting.{pool_words, IsSetting}
-use Rattle.sh_map.specs.Map.{row_pair}
-use Rattle.sh_map.specs.declared.book.Row.{Row}
+use Rattle.std.{specs.{Prelude.{slice_index, MatchOption}, FinMap.{entries}}, proofs.Common.{◌≡◌, ◌∙◌, ◌<◌, ◌^◌, ℕ, List, Option, Some, None, length, map, drop, sym, ap, subst}}
+use Rattle.sh_base.specs.{Setting.{pool_words, IsSetting}, declared.config.ConfigParts.{ConfigParts}}
+use Rattle.sh_map.specs.{Map.{row_pair}, declared.book.Row.{Row}}
 use Rattle.sh_tree.specs.Tree.{map_in, IsTree}
-use Rattle.sh_base.specs.declared.config.ConfigParts.{ConfigParts}
-use Rattle.sh_picture.specs.Picture.{numbers_from, parts_in, picture_of, words_in}
-use Rattle.sh_picture.specs.Verdict.{IsGoodPool, IsLawful}
-use Rattle.sh_picture.proofs.PictureLemmas.{numbers_long, picture_back, words_is, words_small, AreBytes}
-use Rattle.sh_picture.specs.Fault.{HasWords, IsFirstPlace, IsIdle, IsNoTree, IsPoolFault}
-use Rattle.sh_picture.specs.declared.place.FirstPlace.{FirstPlace}
-use Rattle.sh_picture.specs.declared.place.FirstPlace.TheVariants.{Short, Magic, Setting, Length, Zero, Lock, Root, Chain, Pair, Twice}
+use Rattle.sh_picture.specs.{Picture.{numbers_from, parts_in, picture_of, words_in}, Verdict.{IsGoodPool, IsLawful}}
+use Rattle.sh_picture.{proofs.PictureLemmas.{numbers_long, picture_back, words_is, words_small, AreBytes}, specs.Fault.{HasWords, IsFirstPlace, IsIdle, IsNoTree, IsPoolFault}}
+use Rattle.sh_picture.specs.declared.place.FirstPlace.{FirstPlace, TheVariants.{Short, Magic, Setting, Length, Zero, Lock, Root, Chain, Pair, Twice}}
 
 pub of_tree : (p : ConfigParts) (words : List ℕ) (place : FirstPlace) → IsIdle p words → IsNoTree p words place → IsPoolFault p words place
 of_tree p words Short idle h = absurd h

@@ -1,14 +1,8 @@
 -- The walk down the levels, as far as it has come.
-use Rattle.std.proofs.Common.{◌≡◌, ◌≢◌, ℕ, suc, ◌+◌, ◌-◌, ◌<◌, ◌≤◌, List, Vec, Global, [], ◌∷◌, ◌++◌, length, refl, sym, ap, subst, ◌∙◌, inl, inr, length-append, arith}
-use Rattle.std.proofs.lemmas.Bool.{cases_eq}
-use Rattle.sh_base.specs.declared.config.ConfigParts.{ConfigParts}
-use Rattle.sh_base.specs.Setting.{nodes, IsNode}
-use Rattle.sh_picture.specs.Walk.{child_at, level_at, root_of, IsAlong, IsDown, IsLevel, IsSound, IsSpelled, IsUnsound, IsWalked}
-use Rattle.sh_picture.specs.Walks.{LevelWalked, StopsAt}
-use Rattle.sh_picture.specs.declared.walked.LevelWalk.{LevelWalk}
-use Rattle.sh_picture.specs.declared.walked.LevelWalk.TheVariants.{Whole}
-use Rattle.sh_picture.proofs.NodeLemmas.{first_child}
-use Rattle.sh_picture.proofs.WalkLemmas.{down_more}
+use Rattle.std.proofs.{Common.{◌≡◌, ◌≢◌, ℕ, suc, ◌+◌, ◌-◌, ◌<◌, ◌≤◌, List, Vec, Global, [], ◌∷◌, ◌++◌, length, refl, sym, ap, subst, ◌∙◌, inl, inr, length-append, arith}, lemmas.Bool.{cases_eq}}
+use Rattle.sh_base.specs.{declared.config.ConfigParts.{ConfigParts}, Setting.{nodes, IsNode}}
+use Rattle.sh_picture.specs.{Walk.{child_at, level_at, root_of, IsAlong, IsDown, IsLevel, IsSound, IsSpelled, IsUnsound, IsWalked}, Walks.{LevelWalked, StopsAt}, declared.walked.LevelWalk.{LevelWalk}}
+use Rattle.sh_picture.{specs.declared.walked.LevelWalk.TheVariants.{Whole}, proofs.{NodeLemmas.{first_child}, WalkLemmas.{down_more}}}
 
 -- so many levels are walked, and `first` is the first number of the next one, if there is one
 pub record IsGoing (p : ConfigParts) (words : List ℕ) (top depth : ℕ) (above : List (List ℕ)) (first : ℕ) : Type 0 where

@@ -1,33 +1,16 @@
 -- A picture reads back; and of a tree's picture no place says that it isn't lawful.
 use Rattle.std.specs.Prelude.{slice_index}
 use Rattle.std.proofs.Common.{◌≡◌, ℕ, ◌+◌, ◌*◌, ◌^◌, ◌<◌, List, [], ◌∷◌, ◌++◌, None, Some, length, map, drop, refl, sym, ap, subst, ◌∙◌, length-append, append_assoc, arith}
-use Rattle.std.specs.List.{flat_map, AllByRecursion}
-use Rattle.std.specs.FinMap.{entries}
-use Rattle.std.proofs.lemmas.List.{append-nil, drop_at, get_or_append_left}
-use Rattle.byteorder.specs.Endian.{big_bytes, big_number}
-use Rattle.byteorder.specs.Numbers.{big_number-reads_back, length-bytes_high_first}
+use Rattle.std.{specs.{List.{flat_map, AllByRecursion}, FinMap.{entries}}, proofs.lemmas.List.{append-nil, drop_at, get_or_append_left}}
+use Rattle.byteorder.specs.{Endian.{big_bytes, big_number}, Numbers.{big_number-reads_back, length-bytes_high_first}}
 use Rattle.sh_logic.proofs.Lists.{from_each}
-use Rattle.sh_base.specs.declared.config.ConfigParts.{ConfigParts}
-use Rattle.sh_base.specs.Parts.{parts_of}
-use Rattle.sh_base.specs.Setting.{pool_words, IsRanged, IsSetting}
-use Rattle.sh_base.specs.Faults.{fault_of}
-use Rattle.sh_base.proofs.FaultLemmas.{size_decides}
-use Rattle.sh_map.specs.Map.{row_pair}
-use Rattle.sh_map.specs.declared.book.Row.{Row}
-use Rattle.sh_tree.specs.Tree.{leaves_of, map_in, IsTree}
-use Rattle.sh_tree.proofs.ChainLemmas.{trees_are_one}
-use Rattle.sh_picture.specs.declared.place.FirstPlace.{FirstPlace}
-use Rattle.sh_picture.specs.declared.place.FirstPlace.TheVariants.{Short, Magic, Setting, Length, Zero, Lock, Root, Chain, Pair, Twice}
-use Rattle.sh_picture.specs.declared.verdict.Verdict.{Verdict}
-use Rattle.sh_picture.specs.declared.verdict.Verdict.TheVariants.{Lawful, Refused}
-use Rattle.sh_picture.specs.Picture.{header_of, magic, number_in, numbers_from, numbers_of, parts_in, picture_of, words_in}
-use Rattle.sh_picture.specs.Walk.{IsWalked}
-use Rattle.sh_picture.specs.Tree.{AllLead, AllOnce, IsFirstAstray, IsFirstTwice}
-use Rattle.sh_picture.specs.Fault.{IsFirstPlace, IsIdle, IsPoolFault}
-use Rattle.sh_picture.specs.Verdict.{HasMapOf, IsLawful, VerdictOf}
-use Rattle.sh_picture.proofs.PictureLemmas.{header_long, words_long}
-use Rattle.sh_picture.proofs.WalkLemmas.{walked_one, walked_stops}
-use Rattle.sh_picture.proofs.TreeLemmas.{tree_walked, IsWalkedTree}
+use Rattle.sh_base.{specs.{declared.config.ConfigParts.{ConfigParts}, Parts.{parts_of}, Setting.{pool_words, IsRanged, IsSetting}, Faults.{fault_of}}, proofs.FaultLemmas.{size_decides}}
+use Rattle.sh_map.specs.{Map.{row_pair}, declared.book.Row.{Row}}
+use Rattle.sh_tree.{specs.Tree.{leaves_of, map_in, IsTree}, proofs.ChainLemmas.{trees_are_one}}
+use Rattle.sh_picture.specs.declared.{place.FirstPlace.{FirstPlace, TheVariants.{Short, Magic, Setting, Length, Zero, Lock, Root, Chain, Pair, Twice}}, verdict.Verdict.{Verdict}}
+use Rattle.sh_picture.specs.{declared.verdict.Verdict.TheVariants.{Lawful, Refused}, Picture.{header_of, magic, number_in, numbers_from, numbers_of, parts_in, picture_of, words_in}, Walk.{IsWalked}}
+use Rattle.sh_picture.specs.{Tree.{AllLead, AllOnce, IsFirstAstray, IsFirstTwice}, Fault.{IsFirstPlace, IsIdle, IsPoolFault}, Verdict.{HasMapOf, IsLawful, VerdictOf}}
+use Rattle.sh_picture.proofs.{PictureLemmas.{header_long, words_long}, WalkLemmas.{walked_one, walked_stops}, TreeLemmas.{tree_walked, IsWalkedTree}}
 
 -- ---- numbers that were written are read
 pub numbers_again : (width : ℕ) (numbers rest : List ℕ) → AllByRecursion (λ x. x < 256 ^ width) numbers → numbers_from width (length numbers) (flat_map (big_bytes width) numbers ++ rest) ≡ numbers

@@ -1,25 +1,14 @@
 -- What looking through levels, nodes and keys has found so far.
 use Rattle.std.specs.Prelude.{slice_get, slice_index}
 use Rattle.std.proofs.Common.{◌≡◌, ◌≢◌, ◌⊎◌, ℕ, zero, suc, ◌+◌, ◌<◌, true, List, Vec, Global, [], ◌∷◌, ◌++◌, Some, length, map, get_or, set, take, refl, sym, ap, subst, ◌∙◌, inl, inr, arith}
-use Rattle.std.proofs.lemmas.Bool.{cases_eq, cases_lt, eq-eqb}
-use Rattle.std.proofs.lemmas.List.{get_or-set_same, get_or-set_other, get_or-map, take_more}
-use Rattle.std.proofs.lemmas.Option.{get_or_from_slice_get}
+use Rattle.std.proofs.lemmas.{Bool.{cases_eq, cases_lt, eq-eqb}, List.{get_or-set_same, get_or-set_other, get_or-map, take_more}, Option.{get_or_from_slice_get}}
 use Rattle.sh_logic.proofs.Lists.{all_at}
-use Rattle.sh_base.specs.Setting.{IsNode}
-use Rattle.sh_image.specs.declared.inner.Pair.{Pair}
-use Rattle.sh_image.specs.Inner.{no_pair}
-use Rattle.sh_tree.specs.Tree.{leaves_of}
-use Rattle.sh_picture.specs.Walk.{child_at, IsDown}
-use Rattle.sh_picture.proofs.NodeLemmas.{spelled_inner, spelled_leaf}
-use Rattle.sh_picture.proofs.TreeLemmas.{along_on, IsOn}
-use Rattle.sh_base.specs.declared.config.ConfigParts.{ConfigParts}
-use Rattle.sh_image.specs.declared.leaf.LeafEntry.{LeafEntry}
-use Rattle.sh_image.specs.Entries.{keys_of}
+use Rattle.sh_base.specs.{Setting.{IsNode}, declared.config.ConfigParts.{ConfigParts}}
+use Rattle.sh_image.specs.{declared.{inner.Pair.{Pair}, leaf.LeafEntry.{LeafEntry}}, Inner.{no_pair}, Entries.{keys_of}}
+use Rattle.sh_tree.{specs.{Tree.{leaves_of}, Lists.{is_in}}, proofs.ListLemmas.{in_cases, in_front, in_head, in_more}}
+use Rattle.sh_picture.{specs.Walk.{child_at, IsDown}, proofs.{NodeLemmas.{spelled_inner, spelled_leaf}, TreeLemmas.{along_on, IsOn}}}
+use Rattle.sh_picture.specs.{Tree.{keys_at, level_nodes, AllLeadBelow, IsFirstAstray, IsFirstTwice, IsOnce, IsTwice, LevelLeads}, Marks.{AreInner, AreLeaves, AreMarked, AreUnder, IsAstrayIn, TwiceBy}}
 use Rattle.sh_edit.specs.Held.{key_at, HasKeysOnce}
-use Rattle.sh_tree.specs.Lists.{is_in}
-use Rattle.sh_tree.proofs.ListLemmas.{in_cases, in_front, in_head, in_more}
-use Rattle.sh_picture.specs.Tree.{keys_at, level_nodes, AllLeadBelow, IsFirstAstray, IsFirstTwice, IsOnce, IsTwice, LevelLeads}
-use Rattle.sh_picture.specs.Marks.{AreInner, AreLeaves, AreMarked, AreUnder, IsAstrayIn, TwiceBy}
 
 -- ---- one good number more
 pub good_more : (Good : ℕ → Type 0) (n : ℕ) → ((i : ℕ) → i < n → Good i) → Good n → (i : ℕ) → i < n + 1 → Good i

@@ -1,18 +1,9 @@
 -- A node that spells an image: what its words say then.
 use Rattle.std.proofs.Common.{◌≡◌, ◌≢◌, ◌↔◌, ℕ, ◌-◌, ◌^◌, ◌<◌, ◌≤◌, List, get_or, drop, sym, ap, subst, arith}
-use Rattle.sh_base.specs.declared.config.ConfigParts.{ConfigParts}
-use Rattle.sh_base.specs.Setting.{nodes, IsNode}
-use Rattle.sh_base.specs.Layout.{node_part}
-use Rattle.sh_image.specs.declared.inner.Image.{Image}
-use Rattle.sh_image.specs.declared.inner.Image.TheVariants.{Leaf as LeafImage, Inner as InnerImage}
-use Rattle.sh_image.specs.declared.read.Seen.{Seen}
-use Rattle.sh_image.specs.declared.read.Seen.TheVariants.{Leaf as LeafSeen, Inner as InnerSeen}
-use Rattle.sh_image.specs.Seen.{SeenBy}
-use Rattle.sh_image.specs.Leaf.{Leaf, leaf_in, IsLeaf, Spells}
-use Rattle.sh_image.specs.Inner.{Inner, SpellsInner}
-use Rattle.sh_image.proofs.InnerLemmas.{child_of, inner_spelled, inner_spelled_one, length-pairs_in}
-use Rattle.sh_image.proofs.LeafLemmas.{spelled_one}
-use Rattle.sh_image.proofs.UntornLemmas.{seen_spelled, seen_inner}
+use Rattle.sh_base.specs.{declared.config.ConfigParts.{ConfigParts}, Setting.{nodes, IsNode}, Layout.{node_part}}
+use Rattle.sh_image.specs.{declared.{inner.Image.{Image, TheVariants.{Leaf as LeafImage, Inner as InnerImage}}, read.Seen.{Seen, TheVariants.{Leaf as LeafSeen, Inner as InnerSeen}}}, Seen.{SeenBy}}
+use Rattle.sh_image.{specs.{Leaf.{Leaf, leaf_in, IsLeaf, Spells}, Inner.{Inner, SpellsInner}}, proofs.InnerLemmas.{child_of, inner_spelled, inner_spelled_one, length-pairs_in}}
+use Rattle.sh_image.proofs.{LeafLemmas.{spelled_one}, UntornLemmas.{seen_spelled, seen_inner}}
 use Rattle.sh_tree.specs.Nodes.{NodeIn, leaf_at, inner_at, low_at, high_at, next_at}
 use Rattle.sh_picture.specs.Walk.{child_at, level_at, IsSpelled}
 

@@ -1,18 +1,11 @@
 -- Of some bytes there is one first place at most.
-use Rattle.std.specs.Prelude.{slice_index}
-use Rattle.std.proofs.Common.{◌≡◌, ℕ, zero, suc, ◌+◌, ◌-◌, ◌<◌, ◌≤◌, List, Some, None, length, refl, sym, ap, subst, ◌∙◌, inl, inr, arith}
-use Rattle.std.proofs.lemmas.Bool.{cases_lt}
-use Rattle.sh_base.specs.declared.config.ConfigParts.{ConfigParts}
-use Rattle.sh_base.specs.declared.config.ConfigFault.{ConfigFault}
-use Rattle.sh_base.specs.declared.config.ConfigFault.TheVariants.{Servers}
+use Rattle.std.{specs.Prelude.{slice_index}, proofs.{Common.{◌≡◌, ℕ, zero, suc, ◌+◌, ◌-◌, ◌<◌, ◌≤◌, List, Some, None, length, refl, sym, ap, subst, ◌∙◌, inl, inr, arith}, lemmas.Bool.{cases_lt}}}
+use Rattle.sh_base.specs.declared.config.{ConfigParts.{ConfigParts}, ConfigFault.{ConfigFault, TheVariants.{Servers}}}
 use Rattle.sh_tree.specs.Tree.{leaves_of}
-use Rattle.sh_picture.specs.Picture.{parts_in, words_in}
-use Rattle.sh_picture.specs.Walk.{root_of, IsSpelled, IsWalked}
+use Rattle.sh_picture.specs.{Picture.{parts_in, words_in}, Walk.{root_of, IsSpelled, IsWalked}}
 use Rattle.sh_picture.specs.Tree.{keys_at, level_nodes, pair_count, AllLead, IsFirstAstray, IsFirstBad, IsFirstTwice, IsLeastTwice, IsOnce, LeadsBelow, LevelLeads, NodeLeads}
-use Rattle.sh_picture.specs.Fault.{HasMagic, HasSetting, HasWords, IsFirstPlace, IsIdle, IsMagicAt}
-use Rattle.sh_picture.specs.declared.place.FirstPlace.{FirstPlace}
-use Rattle.sh_picture.specs.declared.place.FirstPlace.TheVariants.{Short, Magic, Setting, Length, Zero, Lock, Root, Chain, Pair, Twice}
-use Rattle.sh_picture.proofs.WalkLemmas.{unsound_one, walked_one, walked_stops}
+use Rattle.sh_picture.specs.{Fault.{HasMagic, HasSetting, HasWords, IsFirstPlace, IsIdle, IsMagicAt}, declared.place.FirstPlace.{FirstPlace}}
+use Rattle.sh_picture.{specs.declared.place.FirstPlace.TheVariants.{Short, Magic, Setting, Length, Zero, Lock, Root, Chain, Pair, Twice}, proofs.WalkLemmas.{unsound_one, walked_one, walked_stops}}
 
 pub first_one : (Good : ℕ → Type 0) (count a b : ℕ) → IsFirstBad Good count a → IsFirstBad Good count b → a ≡ b
 first_one Good count a b h k = elim (cases_lt a b) [

@@ -1,13 +1,9 @@
 -- A picture that is written piece by piece.
-use Rattle.std.proofs.Common.{◌≡◌, ℕ, ◌+◌, ◌-◌, ◌≤◌, List, ◌++◌, Option, take, drop, sym, ap, subst, ◌∙◌, append_assoc, arith}
-use Rattle.std.specs.List.{flat_map}
-use Rattle.std.specs.Io.KnownBytes.{Appends}
-use Rattle.std.proofs.Math.Seq.{take-add}
-use Rattle.std.proofs.lemmas.List.Concat.{flat_map-append}
+use Rattle.std.{proofs.Common.{◌≡◌, ℕ, ◌+◌, ◌-◌, ◌≤◌, List, ◌++◌, Option, take, drop, sym, ap, subst, ◌∙◌, append_assoc, arith}, specs.{List.{flat_map}, Io.KnownBytes.{Appends}}}
+use Rattle.std.proofs.{Math.Seq.{take-add}, lemmas.List.Concat.{flat_map-append}}
 use Rattle.byteorder.specs.Endian.{big_bytes}
 use Rattle.sh_base.specs.declared.config.ConfigParts.{ConfigParts}
-use Rattle.sh_port.specs.Port.{AppendsFront}
-use Rattle.sh_port.proofs.Bytes.{appends_more}
+use Rattle.sh_port.{specs.Port.{AppendsFront}, proofs.Bytes.{appends_more}}
 use Rattle.sh_text.proofs.Fronts.{front_more, parts_at}
 use Rattle.sh_picture.specs.Picture.{header_of, picture_of}
 

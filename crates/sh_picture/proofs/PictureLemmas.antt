@@ -1,19 +1,13 @@
 -- Numbers as bytes and back, and the parts of a picture.
 use Rattle.std.specs.Prelude.{slice_index}
 use Rattle.std.proofs.Common.{◌≡◌, ℕ, zero, suc, ◌+◌, ◌*◌, ◌/◌, ◌^◌, ◌<◌, ◌≤◌, List, [], ◌∷◌, ◌++◌, length, get_or, take, drop, refl, sym, ap, ◌∙◌, inl, inr, length-append, length-drop, append_assoc, ◌-◌, arith}
-use Rattle.std.specs.List.{flat_map}
-use Rattle.std.proofs.Math.Nat.{add-mul, mod-lt, mul-le-mul_right, one-le-pow}
-use Rattle.std.proofs.lemmas.Bool.{cases_lt}
+use Rattle.std.{specs.List.{flat_map}, proofs.{Math.Nat.{add-mul, mod-lt, mul-le-mul_right, one-le-pow}, lemmas.Bool.{cases_lt}}}
 use Rattle.std.proofs.lemmas.List.{append-nil, drop_all, take_at, drop_at, take_rest, take-append-drop, drop-drop, get_or-drop, get_or-take, ext_get_or, length-take-le}
 use borrow.Rule.Slice.PartMut.{put_mid}
 use Rattle.std.specs.Int.{byte_at}
-use Rattle.byteorder.specs.Endian.{big_bytes, big_number, IsRead}
-use Rattle.byteorder.specs.Numbers.{big_from-cons, big_from-lt, big_from-take, big_number-reads_back, length-bytes_high_first}
-use Rattle.sh_base.specs.declared.config.ConfigParts.{ConfigParts}
-use Rattle.sh_base.specs.Setting.{all_locks, pool_words}
-use Rattle.sh_base.specs.Layout.{lock_word}
-use Rattle.sh_picture.specs.Picture.{header_of, magic, number_in, numbers_of, numbers_from, parts_in, picture_of, words_in}
-use Rattle.sh_picture.specs.Fault.{HasWords}
+use Rattle.byteorder.specs.{Endian.{big_bytes, big_number, IsRead}, Numbers.{big_from-cons, big_from-lt, big_from-take, big_number-reads_back, length-bytes_high_first}}
+use Rattle.sh_base.specs.{declared.config.ConfigParts.{ConfigParts}, Setting.{all_locks, pool_words}, Layout.{lock_word}}
+use Rattle.sh_picture.specs.{Picture.{header_of, magic, number_in, numbers_of, numbers_from, parts_in, picture_of, words_in}, Fault.{HasWords}}
 
 pub has_lock : (p : ConfigParts) (lock : ℕ) → lock < all_locks p → lock_word p lock < pool_words p
 unfolding pool_words

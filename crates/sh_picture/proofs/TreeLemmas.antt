@@ -1,22 +1,16 @@
 -- Levels that are walked, whose pairs all lead below and whose leaves have each key once, are a tree; and a tree's are
 -- like that.
 use Rattle.std.proofs.Common.{◌≡◌, ◌≢◌, ℕ, zero, suc, ◌+◌, ◌-◌, ◌^◌, ◌<◌, ◌≤◌, true, false, List, [], ◌∷◌, ◌++◌, length, refl, sym, ap, subst, ◌∙◌, inl, inr, arith}
-use Rattle.std.specs.List.{concat, AllByRecursion}
-use Rattle.std.proofs.lemmas.Bool.{cases_eq, eq-eqb}
+use Rattle.std.{specs.List.{concat, AllByRecursion}, proofs.lemmas.Bool.{cases_eq, eq-eqb}}
 use Rattle.sh_logic.proofs.Lists.{all_at, all_join, from_each}
 use Rattle.sh_base.specs.declared.config.ConfigParts.{ConfigParts}
-use Rattle.sh_image.specs.declared.inner.Image.TheVariants.{Leaf, Inner}
-use Rattle.sh_image.specs.Inner.{no_pair}
+use Rattle.sh_image.specs.{declared.inner.Image.TheVariants.{Leaf, Inner}, Inner.{no_pair}}
 use Rattle.sh_edit.specs.Held.{HasKeysOnce}
-use Rattle.sh_tree.specs.Lists.{first_of, is_in, AreDifferent}
-use Rattle.sh_tree.specs.Nodes.{inner_at, leaf_at, low_at, high_at, next_at}
-use Rattle.sh_tree.specs.Tree.{top_of, leaves_of, AreLevels, IsChain, IsChildIn, IsInnerOf, IsLeafOf, IsTree}
-use Rattle.sh_tree.proofs.ListLemmas.{in_tail}
+use Rattle.sh_tree.specs.{Lists.{first_of, is_in, AreDifferent}, Nodes.{inner_at, leaf_at, low_at, high_at, next_at}}
+use Rattle.sh_tree.{specs.Tree.{top_of, leaves_of, AreLevels, IsChain, IsChildIn, IsInnerOf, IsLeafOf, IsTree}, proofs.ListLemmas.{in_tail}}
 use Rattle.sh_tree.proofs.ChainLemmas.{inner_first, leaf_level, rising_differ, AreRising, IsFenced}
-use Rattle.sh_picture.specs.Walk.{child_at, level_at, root_of, IsAlong, IsDown, IsLevel, IsSpelled, IsWalked}
-use Rattle.sh_picture.specs.Tree.{level_nodes, AllLead, AllOnce, LevelLeads}
-use Rattle.sh_picture.proofs.NodeLemmas.{first_child, spelled_fit, spelled_inner, spelled_leaf}
-use Rattle.sh_picture.proofs.GoingLemmas.{level_first}
+use Rattle.sh_picture.specs.{Walk.{child_at, level_at, root_of, IsAlong, IsDown, IsLevel, IsSpelled, IsWalked}, Tree.{level_nodes, AllLead, AllOnce, LevelLeads}}
+use Rattle.sh_picture.proofs.{NodeLemmas.{first_child, spelled_fit, spelled_inner, spelled_leaf}, GoingLemmas.{level_first}}
 
 module _ (p : ConfigParts) (words : List ℕ) where
   -- a node that spells an image of this level

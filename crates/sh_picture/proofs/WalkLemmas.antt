@@ -2,8 +2,7 @@
 use Rattle.std.proofs.Common.{◌≡◌, ◌⊎◌, ℕ, suc, ◌+◌, List, [], ◌∷◌, ◌++◌, length, refl, sym, ap, subst, ◌∙◌, inl, inr, length-append, arith}
 use Rattle.sh_base.specs.declared.config.ConfigParts.{ConfigParts}
 use Rattle.sh_tree.specs.Nodes.{high_at, next_at}
-use Rattle.sh_picture.specs.Walk.{child_at, root_of, IsAlong, IsDown, IsLevel, IsSound, IsUnsound, IsWalked}
-use Rattle.sh_picture.specs.Walks.{StopsAt}
+use Rattle.sh_picture.specs.{Walk.{child_at, root_of, IsAlong, IsDown, IsLevel, IsSound, IsUnsound, IsWalked}, Walks.{StopsAt}}
 
 module _ (p : ConfigParts) (words : List ℕ) where
   -- ---- one node more, and one level more

@@ -1,16 +1,10 @@
 -- The first place where some bytes aren't the picture of a lawful tree. Each place takes for granted that none of those
 -- before it holds, so of one list of bytes there is one place at most.
 use Rattle.std.specs.Prelude.{◌≡◌, ◌≢◌, ℕ, ◌<◌, ◌≤◌, List, length, slice_index, Some, None}
-use Rattle.sh_base.specs.declared.config.ConfigParts.{ConfigParts}
-use Rattle.sh_base.specs.Setting.{all_locks}
-use Rattle.sh_base.specs.Layout.{lock_word}
-use Rattle.sh_base.specs.Faults.{fault_of}
+use Rattle.sh_base.specs.{declared.config.ConfigParts.{ConfigParts}, Setting.{all_locks}, Layout.{lock_word}, Faults.{fault_of}}
 use Rattle.sh_tree.specs.Tree.{leaves_of}
-use Rattle.sh_picture.specs.Picture.{magic, parts_in, picture_length, words_in}
-use Rattle.sh_picture.specs.Walk.{root_of, IsSpelled, IsUnsound, IsWalked}
-use Rattle.sh_picture.specs.Tree.{AllLead, IsFirstAstray, IsFirstBad, IsFirstTwice}
-use Rattle.sh_picture.specs.declared.place.FirstPlace.{FirstPlace}
-use Rattle.sh_picture.specs.declared.place.FirstPlace.TheVariants.{Short, Magic, Setting, Length, Zero, Lock, Root, Chain, Pair, Twice}
+use Rattle.sh_picture.specs.{Picture.{magic, parts_in, picture_length, words_in}, Walk.{root_of, IsSpelled, IsUnsound, IsWalked}, Tree.{AllLead, IsFirstAstray, IsFirstBad, IsFirstTwice}}
+use Rattle.sh_picture.specs.declared.place.FirstPlace.{FirstPlace, TheVariants.{Short, Magic, Setting, Length, Zero, Lock, Root, Chain, Pair, Twice}}
 
 -- a byte of the magic is there
 abbrev pub IsMagicAt : List ℕ → ℕ → Type 0

@@ -1,13 +1,8 @@
 -- What the code keeps while it looks for the first pair that is astray and for keys that stand twice.
 use Rattle.std.specs.Prelude.{◌≡◌, ◌≢◌, ℕ, ◌<◌, ◌≤◌, true, List, length, slice_index, slice_index_or}
-use Rattle.sh_base.specs.declared.config.ConfigParts.{ConfigParts}
-use Rattle.sh_base.specs.Setting.{IsNode}
-use Rattle.sh_image.specs.declared.inner.Image.TheVariants.{Leaf, Inner}
-use Rattle.sh_image.specs.declared.inner.Pair.{Pair}
-use Rattle.sh_image.specs.Inner.{no_pair}
-use Rattle.sh_tree.specs.Lists.{is_in}
-use Rattle.sh_tree.specs.Nodes.{leaf_at, inner_at, NodeIn}
-use Rattle.sh_tree.specs.Tree.{IsChildIn}
+use Rattle.sh_base.specs.{declared.config.ConfigParts.{ConfigParts}, Setting.{IsNode}}
+use Rattle.sh_image.specs.{declared.inner.{Image.TheVariants.{Leaf, Inner}, Pair.{Pair}}, Inner.{no_pair}}
+use Rattle.sh_tree.specs.{Lists.{is_in}, Nodes.{leaf_at, inner_at, NodeIn}, Tree.{IsChildIn}}
 use Rattle.sh_picture.specs.Tree.{pair_count, AllLeadBelow, IsFirstBad, IsLeastTwice, IsTwice, LeadsBelow}
 
 -- just these nodes bear this mark

@@ -1,12 +1,8 @@
 -- The lines of a verdict. Each ends with a line feed; numbers are decimal, without leading zeros.
-use Rattle.std.specs.Prelude.{ℕ, Bool, List, [], ◌++◌, codes, length, sum, if◌then◌else◌}
-use Rattle.std.specs.Fmt.{decimal}
-use Rattle.std.specs.List.{flat_map, sum_by}
+use Rattle.std.specs.{Prelude.{ℕ, Bool, List, [], ◌++◌, codes, length, sum, if◌then◌else◌}, Fmt.{decimal}, List.{flat_map, sum_by}}
 use Rattle.sh_map.specs.declared.book.Row.{Row}
 use Rattle.sh_text.specs.Text.{map_line}
-use Rattle.sh_picture.specs.declared.place.FirstPlace.{FirstPlace}
-use Rattle.sh_picture.specs.declared.place.FirstPlace.TheVariants.{Short, Magic, Setting, Length, Zero, Lock, Root, Chain, Pair, Twice}
-use Rattle.sh_picture.specs.declared.verdict.Verdict.{Verdict}
+use Rattle.sh_picture.specs.declared.{place.FirstPlace.{FirstPlace, TheVariants.{Short, Magic, Setting, Length, Zero, Lock, Root, Chain, Pair, Twice}}, verdict.Verdict.{Verdict}}
 use Rattle.sh_picture.specs.declared.verdict.Verdict.TheVariants.{Lawful, Refused}
 
 -- the line of a place

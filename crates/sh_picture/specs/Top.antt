@@ -1,21 +1,14 @@
 -- What the check of an input leaves, by how it ended.
-use Rattle.std.specs.Prelude.{ℕ, ◌≡◌, ◌≢◌, ◌<◌, ◌-◌, ◌^◌, ◌⊎◌, Bool, true, false, List, [], ◌∷◌, length, Option, Some, None, bytes_eq, codes, if◌then◌else◌}
-use Rattle.std.specs.Io.KnownBytes.{Appends}
+use Rattle.std.specs.{Prelude.{ℕ, ◌≡◌, ◌≢◌, ◌<◌, ◌-◌, ◌^◌, ◌⊎◌, Bool, true, false, List, [], ◌∷◌, length, Option, Some, None, bytes_eq, codes, if◌then◌else◌}, Io.KnownBytes.{Appends}}
 use Rattle.sh_base.specs.declared.config.Config.{Config}
 use Rattle.sh_map.specs.declared.book.Row.{Row}
-use Rattle.sh_port.specs.Port.{HasRisen, AppendsFront}
-use Rattle.sh_port.specs.Intake.{TookUpTo, TookSomeUpTo, TookMoreThan}
+use Rattle.sh_port.specs.{Port.{HasRisen, AppendsFront}, Intake.{TookUpTo, TookSomeUpTo, TookMoreThan}}
 use Rattle.sh_sheet.specs.declared.status.Status.TheVariants as status
 use Rattle.sh_sheet.specs.Status.{status_code}
-use Rattle.sh_picture.specs.declared.place.FirstPlace.{FirstPlace}
-use Rattle.sh_picture.specs.declared.verdict.Verdict.{Verdict}
-use Rattle.sh_picture.specs.declared.verdict.Verdict.TheVariants.{Lawful, Refused}
-use Rattle.sh_picture.specs.declared.ending.PictureStatus.{PictureStatus}
-use Rattle.sh_picture.specs.declared.ending.PictureStatus.TheVariants.{Served, NotLawful}
+use Rattle.sh_picture.specs.declared.{place.FirstPlace.{FirstPlace}, verdict.Verdict.{Verdict, TheVariants.{Lawful, Refused}}, ending.PictureStatus.{PictureStatus, TheVariants.{Served, NotLawful}}}
+use Rattle.sh_picture.specs.{Text.{verdict_text}, Verdict.{VerdictOf}}
 use Rattle.sh_text.specs.declared.write.WriteError.{WriteError}
 use Rattle.sh_text.specs.declared.write.WriteError.TheVariants as error
-use Rattle.sh_picture.specs.Text.{verdict_text}
-use Rattle.sh_picture.specs.Verdict.{VerdictOf}
 
 -- the code that a program ends with
 abbrev pub picture_code : PictureStatus → ℕ

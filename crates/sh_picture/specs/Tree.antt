@@ -2,11 +2,9 @@
 -- key twice.
 use Rattle.std.specs.Prelude.{◌≡◌, ◌≢◌, ℕ, suc, ◌-◌, ◌<◌, ◌≤◌, List, [], length, slice_index, slice_index_or}
 use Rattle.sh_base.specs.declared.config.ConfigParts.{ConfigParts}
-use Rattle.sh_image.specs.Inner.{no_pair}
-use Rattle.sh_image.specs.Entries.{keys_of}
+use Rattle.sh_image.specs.{Inner.{no_pair}, Entries.{keys_of}}
 use Rattle.sh_edit.specs.Held.{HasKeysOnce}
-use Rattle.sh_tree.specs.Nodes.{leaf_at, inner_at}
-use Rattle.sh_tree.specs.Tree.{IsChildIn}
+use Rattle.sh_tree.specs.{Nodes.{leaf_at, inner_at}, Tree.{IsChildIn}}
 
 -- the first of the numbers below count that isn't good
 pub record IsFirstBad (Good : ℕ → Type 0) (count n : ℕ) : Type 0 where

@@ -1,16 +1,9 @@
 -- What a picture's bytes are: lawful, with the map of their words, or not, by the first place that says so.
-use Rattle.std.specs.Prelude.{◌≡◌, ◌<◌, ◌^◌, ℕ, List, length, map, slice_index}
-use Rattle.std.specs.FinMap.{entries}
-use Rattle.sh_base.specs.declared.config.ConfigParts.{ConfigParts}
-use Rattle.sh_base.specs.Parts.{parts_of}
-use Rattle.sh_base.specs.Setting.{pool_words, IsSetting}
-use Rattle.sh_map.specs.Map.{row_pair}
-use Rattle.sh_map.specs.declared.book.Row.{Row}
+use Rattle.std.specs.{Prelude.{◌≡◌, ◌<◌, ◌^◌, ℕ, List, length, map, slice_index}, FinMap.{entries}}
+use Rattle.sh_base.specs.{declared.config.ConfigParts.{ConfigParts}, Parts.{parts_of}, Setting.{pool_words, IsSetting}}
+use Rattle.sh_map.specs.{Map.{row_pair}, declared.book.Row.{Row}}
 use Rattle.sh_tree.specs.Tree.{map_in, IsTree}
-use Rattle.sh_picture.specs.Picture.{picture_of}
-use Rattle.sh_picture.specs.Fault.{IsFirstPlace, IsIdle}
-use Rattle.sh_picture.specs.declared.verdict.Verdict.{Verdict}
-use Rattle.sh_picture.specs.declared.verdict.Verdict.TheVariants.{Lawful, Refused}
+use Rattle.sh_picture.specs.{Picture.{picture_of}, Fault.{IsFirstPlace, IsIdle}, declared.verdict.Verdict.{Verdict, TheVariants.{Lawful, Refused}}}
 
 -- The bytes are the picture of a lawful setting and of words that are a tree at rest: as many as the setting's pool has,
 -- each of 64 bits, with word 0 and all lock words 0. The rows are the pairs of the tree's map, rising.

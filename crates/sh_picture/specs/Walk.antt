@@ -1,8 +1,6 @@
 -- The walk along the levels of a tree, from the root down, by the words alone, whatever they are.
 use Rattle.std.specs.Prelude.{◌≡◌, ◌≢◌, ℕ, suc, ◌+◌, List, [], ◌∷◌, length, slice_index}
-use Rattle.sh_base.specs.declared.config.ConfigParts.{ConfigParts}
-use Rattle.sh_base.specs.Setting.{IsNode}
-use Rattle.sh_base.specs.Layout.{root_word, node_part}
+use Rattle.sh_base.specs.{declared.config.ConfigParts.{ConfigParts}, Setting.{IsNode}, Layout.{root_word, node_part}}
 use Rattle.sh_image.specs.declared.inner.Image.{Image}
 use Rattle.sh_tree.specs.Nodes.{NodeIn, low_at, high_at, next_at}
 

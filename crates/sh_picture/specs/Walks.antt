@@ -1,10 +1,8 @@
 -- What the walks of the code come to.
 use Rattle.std.specs.Prelude.{◌≢◌, ℕ, List, map}
 use Rattle.sh_base.specs.declared.config.ConfigParts.{ConfigParts}
-use Rattle.sh_picture.specs.Walk.{IsAlong, IsLevel, IsSound, IsUnsound, IsWalked}
-use Rattle.sh_picture.specs.declared.walked.LevelWalk.{LevelWalk}
+use Rattle.sh_picture.specs.{Walk.{IsAlong, IsLevel, IsSound, IsUnsound, IsWalked}, declared.walked.{LevelWalk.{LevelWalk}, Walk.{Walk}}}
 use Rattle.sh_picture.specs.declared.walked.LevelWalk.TheVariants as level_walk
-use Rattle.sh_picture.specs.declared.walked.Walk.{Walk}
 use Rattle.sh_picture.specs.declared.walked.Walk.TheVariants as whole_walk
 
 -- the walk along a level comes to this number, which is neither sound nor 0

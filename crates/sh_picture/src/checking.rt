@@ -1,10 +1,7 @@
 // What the bytes of a picture are.
 ghost use Rattle.std.specs.Prelude.{◌≡◌, length, map, IfOk, MatchOption};
-ghost use Rattle.sh_base.specs.Parts.{parts_of};
-ghost use Rattle.sh_base.specs.Setting.{pool_words};
-ghost use Rattle.sh_picture.specs.Fault.{IsNoTree, IsPoolFault};
-ghost use Rattle.sh_picture.specs.Walk.{root_of, IsSpelled, IsWalked};
-ghost use Rattle.sh_picture.specs.Verdict.{HoldTree, IsGoodPool, VerdictOf};
+ghost use Rattle.sh_base.specs.{Parts.{parts_of}, Setting.{pool_words}};
+ghost use Rattle.sh_picture.specs.{Fault.{IsNoTree, IsPoolFault}, Walk.{root_of, IsSpelled, IsWalked}, Verdict.{HoldTree, IsGoodPool, VerdictOf}};
 
 use crate::header::setting_of;
 use crate::keys::first_twice;

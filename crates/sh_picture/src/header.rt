@@ -1,9 +1,7 @@
 // What the first 56 bytes of a picture say.
 ghost use Rattle.std.specs.Prelude.{ℕ, ◌≡◌, ◌≤◌, ◌<◌, ◌+◌, ◌*◌, length, MatchOption, MatchResult, None, Some};
 ghost use Rattle.sh_base.specs.Parts.{parts_of};
-ghost use Rattle.sh_picture.specs.Picture.{number_in, parts_in};
-ghost use Rattle.sh_picture.specs.Fault.{HasMagic, HasWords, IsFirstPlace, IsMagicAt};
-ghost use Rattle.sh_picture.specs.Tree.{IsFirstBad};
+ghost use Rattle.sh_picture.specs.{Picture.{number_in, parts_in}, Fault.{HasMagic, HasWords, IsFirstPlace, IsMagicAt}, Tree.{IsFirstBad}};
 
 use crate::FirstPlace;
 use byteorder::{BigEndian, ByteOrder};

@@ -1,11 +1,9 @@
 // The keys of the leaves that were walked.
 ghost use Rattle.std.specs.Prelude.{◌≡◌, ◌≢◌, ◌↔◌, ◌≤◌, ◌<◌, ◌⊎◌, ℕ, length, slice_index, IsTrue, MatchOption};
-ghost use Rattle.sh_base.specs.Parts.{parts_of};
-ghost use Rattle.sh_base.specs.Setting.{pool_words, IsNode};
+ghost use Rattle.sh_base.specs.{Parts.{parts_of}, Setting.{pool_words, IsNode}};
 ghost use Rattle.sh_image.specs.declared.inner.Image.TheVariants.{Leaf};
 ghost use Rattle.sh_tree.specs.Nodes.{leaf_at, NodeIn};
-ghost use Rattle.sh_picture.specs.Tree.{keys_at, AllOnce, IsFirstTwice};
-ghost use Rattle.sh_picture.specs.Marks.{AreLeaves, Repeats, TwiceBy};
+ghost use Rattle.sh_picture.specs.{Tree.{keys_at, AllOnce, IsFirstTwice}, Marks.{AreLeaves, Repeats, TwiceBy}};
 
 use sh_base::Config;
 use sh_image::{Seen, read_image};

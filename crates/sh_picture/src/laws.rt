@@ -1,16 +1,10 @@
 // What the definitions of pictures mean.
 ghost use Rattle.std.specs.Prelude.{◌≡◌, ◌<◌, ◌^◌, ℕ, Bool, List, Option, length, slice_index};
-ghost use Rattle.sh_base.specs.declared.config.ConfigParts.{ConfigParts};
-ghost use Rattle.sh_base.specs.Setting.{pool_words, IsSetting};
+ghost use Rattle.sh_base.specs.{declared.config.ConfigParts.{ConfigParts}, Setting.{pool_words, IsSetting}};
 ghost use Rattle.sh_map.specs.declared.book.Row.{Row};
 ghost use Rattle.sh_tree.specs.Tree.{IsTree};
-ghost use Rattle.sh_picture.specs.declared.place.FirstPlace.{FirstPlace};
-ghost use Rattle.sh_picture.specs.declared.verdict.Verdict.{Verdict};
-ghost use Rattle.sh_picture.specs.declared.ending.PictureStatus.{PictureStatus};
-ghost use Rattle.sh_picture.specs.Top.{EndsWell, Headline, IsFree};
-ghost use Rattle.sh_picture.specs.Picture.{parts_in, picture_of, words_in};
-ghost use Rattle.sh_picture.specs.Fault.{IsFirstPlace, IsIdle};
-ghost use Rattle.sh_picture.specs.Verdict.{HasMapOf, IsLawful, VerdictOf};
+ghost use Rattle.sh_picture.specs.{declared.{place.FirstPlace.{FirstPlace}, verdict.Verdict.{Verdict}, ending.PictureStatus.{PictureStatus}}, Top.{EndsWell, Headline, IsFree}};
+ghost use Rattle.sh_picture.specs.{Picture.{parts_in, picture_of, words_in}, Fault.{IsFirstPlace, IsIdle}, Verdict.{HasMapOf, IsLawful, VerdictOf}};
 
 /// A picture says its setting and its words. Of a pool at rest that holds a tree the verdict on its picture is lawful,
 /// with the pool's setting and the tree's map; so is `check` of what `paint` wrote.

@@ -1,8 +1,6 @@
 // One node, by its words: whatever they are.
 ghost use Rattle.std.specs.Prelude.{◌≡◌, ◌≤◌, ◌<◌, ◌↔◌, IsTrue, length, slice_index};
-ghost use Rattle.sh_base.specs.Parts.{parts_of};
-ghost use Rattle.sh_base.specs.Setting.{nodes, node_size, pool_words, IsNode};
-ghost use Rattle.sh_base.specs.Layout.{node_part};
+ghost use Rattle.sh_base.specs.{Parts.{parts_of}, Setting.{nodes, node_size, pool_words, IsNode}, Layout.{node_part}};
 ghost use Rattle.sh_tree.specs.Nodes.{high_at, next_at};
 ghost use Rattle.sh_picture.specs.Walk.{child_at, IsSound, IsSpelled};
 

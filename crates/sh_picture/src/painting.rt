@@ -1,10 +1,8 @@
 // The bytes of a picture, written.
 ghost use Rattle.std.specs.Prelude.{◌≡◌, ◌≤◌, ◌+◌, ◌*◌, ◌++◌, drop, length, take, OnOk, OnErr};
-ghost use Rattle.std.specs.List.{flat_map};
-ghost use Rattle.std.specs.Io.KnownBytes.{Appends};
+ghost use Rattle.std.specs.{List.{flat_map}, Io.KnownBytes.{Appends}};
 ghost use Rattle.byteorder.specs.Endian.{big_bytes};
-ghost use Rattle.sh_base.specs.Parts.{parts_of};
-ghost use Rattle.sh_base.specs.Setting.{pool_words};
+ghost use Rattle.sh_base.specs.{Parts.{parts_of}, Setting.{pool_words}};
 ghost use Rattle.sh_port.specs.Port.{AppendsFront, HasFaultCause};
 ghost use Rattle.sh_picture.specs.Picture.{header_of, numbers_of, picture_of};
 

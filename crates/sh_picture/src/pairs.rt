@@ -1,15 +1,9 @@
 // The pairs of the levels that were walked.
-ghost use Rattle.std.specs.Prelude.{◌≡◌, ◌↔◌, ◌≤◌, ◌<◌, ◌+◌, ℕ, List, length, map, slice_index, IsTrue, MatchOption};
-ghost use Rattle.std.specs.List.{AllByRecursion};
-ghost use Rattle.sh_base.specs.Parts.{parts_of};
-ghost use Rattle.sh_base.specs.Setting.{nodes, pool_words, IsNode};
-ghost use Rattle.sh_image.specs.Inner.{HasChild};
-ghost use Rattle.sh_image.specs.declared.inner.Image.TheVariants.{Inner};
-ghost use Rattle.sh_tree.specs.Nodes.{inner_at, NodeIn};
-ghost use Rattle.sh_tree.specs.Tree.{IsChildIn};
-ghost use Rattle.sh_picture.specs.Walk.{IsWalked};
-ghost use Rattle.sh_picture.specs.Tree.{pair_count, AllLead, AllLeadBelow, IsFirstAstray, IsFirstBad, LeadsBelow};
-ghost use Rattle.sh_picture.specs.Marks.{AreInner, AreMarked, AreUnder, IsAstrayIn, PairLeads};
+ghost use Rattle.std.specs.{Prelude.{◌≡◌, ◌↔◌, ◌≤◌, ◌<◌, ◌+◌, ℕ, List, length, map, slice_index, IsTrue, MatchOption}, List.{AllByRecursion}};
+ghost use Rattle.sh_base.specs.{Parts.{parts_of}, Setting.{nodes, pool_words, IsNode}};
+ghost use Rattle.sh_image.specs.{Inner.{HasChild}, declared.inner.Image.TheVariants.{Inner}};
+ghost use Rattle.sh_tree.specs.{Nodes.{inner_at, NodeIn}, Tree.{IsChildIn}};
+ghost use Rattle.sh_picture.specs.{Walk.{IsWalked}, Tree.{pair_count, AllLead, AllLeadBelow, IsFirstAstray, IsFirstBad, LeadsBelow}, Marks.{AreInner, AreMarked, AreUnder, IsAstrayIn, PairLeads}};
 
 use crate::node::word_at;
 use sh_base::Config;

@@ -1,9 +1,7 @@
 // The walk along the levels of a tree.
 ghost use Rattle.std.specs.Prelude.{◌≡◌, ◌≤◌, ◌<◌, length, IfOk};
-ghost use Rattle.sh_base.specs.Parts.{parts_of};
-ghost use Rattle.sh_base.specs.Setting.{pool_words, IsNode};
-ghost use Rattle.sh_picture.specs.Walk.{root_of, IsSpelled};
-ghost use Rattle.sh_picture.specs.Walks.{LevelWalked, Walked};
+ghost use Rattle.sh_base.specs.{Parts.{parts_of}, Setting.{pool_words, IsNode}};
+ghost use Rattle.sh_picture.specs.{Walk.{root_of, IsSpelled}, Walks.{LevelWalked, Walked}};
 
 use crate::node::{child_of, high_of, is_sound, next_of, word_at};
 use crate::walked::{LevelWalk, Walk};

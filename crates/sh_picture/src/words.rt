@@ -1,10 +1,7 @@
 // The words of a picture.
 ghost use Rattle.std.specs.Prelude.{◌≡◌, ◌≢◌, ◌+◌, ◌*◌, ◌<◌, ℕ, drop, length, slice_index, IfOk, MatchOption};
-ghost use Rattle.sh_base.specs.Parts.{parts_of};
-ghost use Rattle.sh_base.specs.Setting.{all_locks, pool_words};
-ghost use Rattle.sh_picture.specs.Picture.{numbers_from};
-ghost use Rattle.sh_picture.specs.Fault.{IsFree};
-ghost use Rattle.sh_picture.specs.Tree.{IsFirstBad};
+ghost use Rattle.sh_base.specs.{Parts.{parts_of}, Setting.{all_locks, pool_words}};
+ghost use Rattle.sh_picture.specs.{Picture.{numbers_from}, Fault.{IsFree}, Tree.{IsFirstBad}};
 
 use byteorder::{BigEndian, ByteOrder};
 use sh_base::Config;

@@ -1,6 +1,5 @@
 // The lines of a verdict, written.
-ghost use Rattle.std.specs.Prelude.{◌≡◌, ◌≤◌, ◌^◌, ◌++◌, length, OnOk, OnErr};
-ghost use Rattle.std.specs.Io.KnownBytes.{Appends};
+ghost use Rattle.std.specs.{Prelude.{◌≡◌, ◌≤◌, ◌^◌, ◌++◌, length, OnOk, OnErr}, Io.KnownBytes.{Appends}};
 ghost use Rattle.sh_port.specs.Port.{AppendsFront};
 ghost use Rattle.sh_text.specs.Write.{HasWriteCause};
 ghost use Rattle.sh_picture.specs.Text.{lawful_line, place_line, rows_text, total_of, verdict_text};

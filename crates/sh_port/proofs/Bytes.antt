@@ -1,8 +1,6 @@
 -- Known bytes over several reads or writes.
-use Rattle.std.proofs.Common.{ℕ, ◌≡◌, ◌+◌, ◌-◌, List, [], ◌++◌, Option, Some, None, length, take, drop, sym, ap, ◌∙◌, append_assoc}
-use Rattle.std.proofs.lemmas.List.{append-nil, take_rest, take-append-drop, drop-drop}
-use Rattle.std.proofs.Math.Seq.{take-add}
-use Rattle.std.specs.Io.KnownBytes.{Appends, Keeps}
+use Rattle.std.proofs.{Common.{ℕ, ◌≡◌, ◌+◌, ◌-◌, List, [], ◌++◌, Option, Some, None, length, take, drop, sym, ap, ◌∙◌, append_assoc}, lemmas.List.{append-nil, take_rest, take-append-drop, drop-drop}}
+use Rattle.std.{proofs.Math.Seq.{take-add}, specs.Io.KnownBytes.{Appends, Keeps}}
 
 -- the bytes from a place on are n of them, and those after
 pub drop_front : (bytes into : List ℕ) (at n : ℕ) → take n into ≡ take n (take (length bytes - at) (drop at bytes)) → drop at bytes ≡ take n into ++ drop (at + n) bytes

@@ -1,9 +1,6 @@
 -- What reading a whole input gives: the bytes, or why not.
-use Rattle.std.specs.Prelude.{ℕ, ◌≡◌, ◌<◌, ◌+◌, List, length, Option}
-use Rattle.std.specs.Io.KnownBytes.{Consumes, IsAtEnd}
-use Rattle.sh_port.specs.Port.{HasRisen}
-use Rattle.sh_port.specs.declared.loops.Intake.{Intake}
-use Rattle.sh_port.specs.declared.loops.Intake.TheVariants.{Fault, TooLong, NoMemory}
+use Rattle.std.specs.{Prelude.{ℕ, ◌≡◌, ◌<◌, ◌+◌, List, length, Option}, Io.KnownBytes.{Consumes, IsAtEnd}}
+use Rattle.sh_port.specs.{Port.{HasRisen}, declared.loops.Intake.{Intake, TheVariants.{Fault, TooLong, NoMemory}}}
 
 -- these are all the bytes that were left, at most `most` of them, and no call failed
 pub record TookUpTo (most : ℕ) (left rest : Option (List ℕ)) (before now : ℕ) (bytes : List ℕ) : Type 0 where

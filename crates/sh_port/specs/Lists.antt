@@ -1,6 +1,5 @@
 -- A source and a sink in memory: what they are seen as, and what a call leaves.
-use Rattle.std.specs.Prelude.{ℕ, ◌≤◌, ◌<◌, ◌+◌, ◌-◌, ◌^◌, ◌⊎◌, List, ◌++◌, take, drop, length, min}
-use Rattle.std.specs.List.{Contains}
+use Rattle.std.specs.{Prelude.{ℕ, ◌≤◌, ◌<◌, ◌+◌, ◌-◌, ◌^◌, ◌⊎◌, List, ◌++◌, take, drop, length, min}, List.{Contains}}
 
 -- one more, and 2^64-1 once that is reached
 abbrev pub counted_up : ℕ → ℕ

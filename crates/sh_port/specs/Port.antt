@@ -1,6 +1,5 @@
 -- What the calls of sources and sinks say of their faults and their bytes.
-use Rattle.std.specs.Prelude.{ℕ, ◌≡◌, ◌≤◌, ◌<◌, ◌-◌, ◌^◌, ◌⊎◌, List, Option, Result, OnOk, OnErr, ◌++◌}
-use Rattle.std.specs.Io.KnownBytes.{Appends}
+use Rattle.std.specs.{Prelude.{ℕ, ◌≡◌, ◌≤◌, ◌<◌, ◌-◌, ◌^◌, ◌⊎◌, List, Option, Result, OnOk, OnErr, ◌++◌}, Io.KnownBytes.{Appends}}
 
 -- the count of faults has risen, or stands at its last value
 abbrev pub HasRisen : ℕ → ℕ → Type 0

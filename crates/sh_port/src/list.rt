@@ -1,10 +1,7 @@
 // A source and a sink in memory.
-ghost use Rattle.std.specs.Prelude.{◌≡◌, ◌≤◌, ◌<◌, ◌+◌, ◌↔◌, [], ◌++◌, drop, take, length, min, vec_len, Some, IfOk, OnErr, IsErr, IsTrue};
-ghost use Rattle.std.specs.Vec.{vec_capacity};
-ghost use Rattle.std.specs.List.{Contains};
+ghost use Rattle.std.specs.{Prelude.{◌≡◌, ◌≤◌, ◌<◌, ◌+◌, ◌↔◌, [], ◌++◌, drop, take, length, min, vec_len, Some, IfOk, OnErr, IsErr, IsTrue}, Vec.{vec_capacity}, List.{Contains}};
 ghost use Rattle.std.specs.Io.KnownBytes.{ReadConsumes, WriteAppends};
-ghost use Rattle.sh_port.specs.Port.{HasFaultCause};
-ghost use Rattle.sh_port.specs.Lists.{FailsRead, FailsWrite, counted_up, read_count, read_failed, read_on, write_count, write_failed, written_on};
+ghost use Rattle.sh_port.specs.{Port.{HasFaultCause}, Lists.{FailsRead, FailsWrite, counted_up, read_count, read_failed, read_on, write_count, write_failed, written_on}};
 
 use crate::{Failed, Sink, Source};
 use std::alloc::{AllocError, Global};
@@ -112,8 +109,7 @@ pub struct ListSink {
 }
 
 impl Model for ListSink {
-    ghost use Rattle.std.specs.Prelude.{◌≤◌, ◌<◌, ◌≡◌, vec_len};
-    ghost use Rattle.std.specs.Vec.{vec_capacity};
+    ghost use Rattle.std.specs.{Prelude.{◌≤◌, ◌<◌, ◌≡◌, vec_len}, Vec.{vec_capacity}};
     ghost use Rattle.sh_port.specs.Lists.{Writes};
 
     ghost Value = { Writes };

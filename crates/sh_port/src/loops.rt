@@ -1,8 +1,6 @@
 // A whole input read, and a whole text written.
-ghost use Rattle.std.specs.Prelude.{◌≡◌, ◌≤◌, ◌^◌, OnOk, OnErr, MatchResult};
-ghost use Rattle.std.specs.Io.KnownBytes.{Appends};
-ghost use Rattle.sh_port.specs.Port.{HasFaultCause, AppendsFront};
-ghost use Rattle.sh_port.specs.Intake.{TookAll, TookUpTo, StoppedBy, StoppedUpTo};
+ghost use Rattle.std.specs.{Prelude.{◌≡◌, ◌≤◌, ◌^◌, OnOk, OnErr, MatchResult}, Io.KnownBytes.{Appends}};
+ghost use Rattle.sh_port.specs.{Port.{HasFaultCause, AppendsFront}, Intake.{TookAll, TookUpTo, StoppedBy, StoppedUpTo}};
 
 use crate::{Failed, Sink, Source};
 use std::alloc::Global;

@@ -1,6 +1,5 @@
 // Where bytes come from, and where they go.
-ghost use Rattle.std.specs.Prelude.{ℕ, List, Option, ◌≤◌, ◌<◌, length, IfOk};
-ghost use Rattle.std.specs.Io.KnownBytes.{ReadConsumes, WriteAppends};
+ghost use Rattle.std.specs.{Prelude.{ℕ, List, Option, ◌≤◌, ◌<◌, length, IfOk}, Io.KnownBytes.{ReadConsumes, WriteAppends}};
 ghost use Rattle.sh_port.specs.Port.{HasFaultCause};
 
 /// A call of a source or of a sink failed.

@@ -1,6 +1,5 @@
 // A source and a sink that never fail.
-ghost use Rattle.std.specs.Prelude.{◌≡◌, ◌≤◌, ◌<◌, ◌+◌, ◌-◌, ◌^◌, [], drop, length, min, None, Some, IfOk};
-ghost use Rattle.std.specs.Io.KnownBytes.{ReadConsumes, WriteAppends};
+ghost use Rattle.std.specs.{Prelude.{◌≡◌, ◌≤◌, ◌<◌, ◌+◌, ◌-◌, ◌^◌, [], drop, length, min, None, Some, IfOk}, Io.KnownBytes.{ReadConsumes, WriteAppends}};
 ghost use Rattle.sh_port.specs.Port.{HasFaultCause};
 
 use crate::list::copy_piece;

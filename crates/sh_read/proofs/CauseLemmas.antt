@@ -1,21 +1,12 @@
 -- A READ's answers by their causes.
-use Rattle.std.proofs.Common.{◌≡◌, ℕ, ◌≤◌, Bool, true, false, List, length, refl, ap, subst, sym, inl, inr, arith}
-use Rattle.std.specs.Prelude.{nat_lt, if◌then◌else◌, Option, Some, None}
+use Rattle.std.{proofs.Common.{◌≡◌, ℕ, ◌≤◌, Bool, true, false, List, length, refl, ap, subst, sym, inl, inr, arith}, specs.Prelude.{nat_lt, if◌then◌else◌, Option, Some, None}}
 use mathlib.Core.Bool.{false≢true}
 use Rattle.std.proofs.lemmas.Bool.Decides.{nat_tests}
 use Rattle.sh_logic.proofs.Tests.{not_less_test}
-use Rattle.sh_base.specs.declared.config.ConfigParts.{ConfigParts}
-use Rattle.sh_base.specs.Setting.{node_size}
-use Rattle.sh_image.specs.declared.inner.Image.{Image}
-use Rattle.sh_image.specs.declared.inner.Image.TheVariants.{Leaf as LeafImage, Inner as InnerImage}
-use Rattle.sh_image.specs.declared.read.Seen.{Seen}
-use Rattle.sh_image.specs.declared.read.Seen.TheVariants.{Leaf as LeafSeen, Inner as InnerSeen, Torn, TornEntry, Odd as OddSeen}
-use Rattle.sh_image.specs.Seen.{SeenBy}
-use Rattle.sh_read.specs.declared.state.Progress.TheVariants.{More}
-use Rattle.sh_read.specs.Judging.{seen_of}
-use Rattle.sh_read.specs.Reads.{Reads, accepted, answer_to, image_in, progress_with}
-use Rattle.sh_image.specs.Node.{seen_as}
-use Rattle.sh_read.specs.Causes.{AnsweredBy}
+use Rattle.sh_base.specs.{declared.config.ConfigParts.{ConfigParts}, Setting.{node_size}}
+use Rattle.sh_image.specs.declared.{inner.Image.{Image, TheVariants.{Leaf as LeafImage, Inner as InnerImage}}, read.Seen.{Seen}}
+use Rattle.sh_image.specs.{declared.read.Seen.TheVariants.{Leaf as LeafSeen, Inner as InnerSeen, Torn, TornEntry, Odd as OddSeen}, Seen.{SeenBy}, Node.{seen_as}}
+use Rattle.sh_read.specs.{declared.state.Progress.TheVariants.{More}, Judging.{seen_of}, Reads.{Reads, accepted, answer_to, image_in, progress_with}, Causes.{AnsweredBy}}
 use Rattle.sh_read.proofs.JudgingLemmas.{judged_by}
 
 module _ (p : ConfigParts) (words : List ℕ) where

@@ -1,20 +1,11 @@
 -- An entry that a READ loaded whole meets the rules between the fences that stand now.
-use Rattle.std.proofs.Common.{◌≡◌, ℕ, zero, suc, ◌+◌, ◌-◌, ◌<◌, ◌≤◌, List, [], ◌∷◌, length, take, drop, get_or, min, refl, sym, ap, subst, ◌∙◌, length-drop, arith}
-use Rattle.std.specs.Prelude.{slice_index}
-use Rattle.std.specs.List.{AllByRecursion}
-use Rattle.std.proofs.lemmas.List.{ext_get_or, get_or-drop, get_or-take, length-take}
+use Rattle.std.{proofs.Common.{◌≡◌, ℕ, zero, suc, ◌+◌, ◌-◌, ◌<◌, ◌≤◌, List, [], ◌∷◌, length, take, drop, get_or, min, refl, sym, ap, subst, ◌∙◌, length-drop, arith}, specs.Prelude.{slice_index}}
+use Rattle.std.{specs.List.{AllByRecursion}, proofs.lemmas.List.{ext_get_or, get_or-drop, get_or-take, length-take}}
 use Rattle.sh_logic.proofs.Lists.{all_at}
-use Rattle.sh_base.specs.declared.config.ConfigParts.{ConfigParts}
-use Rattle.sh_base.specs.Setting.{entry_size, node_size}
-use Rattle.sh_base.specs.Layout.{entry_at, entry_rear_at}
-use Rattle.sh_base.proofs.LayoutLemmas.{entry_size_is}
-use Rattle.sh_image.specs.Entries.{entries_in}
-use Rattle.sh_image.specs.Leaf.{Leaf, IsEntry, leaf_in, empty_entry}
-use Rattle.sh_image.proofs.EntriesLemmas.{length-entries_in}
-use Rattle.sh_image.proofs.LeafLemmas.{length-leaf_words, spelled_one, values_of}
+use Rattle.sh_base.{specs.{declared.config.ConfigParts.{ConfigParts}, Setting.{entry_size, node_size}, Layout.{entry_at, entry_rear_at}}, proofs.LayoutLemmas.{entry_size_is}}
+use Rattle.sh_image.{specs.{Entries.{entries_in}, Leaf.{Leaf, IsEntry, leaf_in, empty_entry}}, proofs.{EntriesLemmas.{length-entries_in}, LeafLemmas.{length-leaf_words, spelled_one, values_of}}}
 use Rattle.sh_image.proofs.ReadLemmas.{entry_read}
-use Rattle.sh_read.specs.Moments.{Writing}
-use Rattle.sh_read.specs.Reading.{IsEntryWord, IsCalm, IsLeafNode, StoodIn, StoodWith, read_entry, FitsRead, IsGoodEntry}
+use Rattle.sh_read.specs.{Moments.{Writing}, Reading.{IsEntryWord, IsCalm, IsLeafNode, StoodIn, StoodWith, read_entry, FitsRead, IsGoodEntry}}
 
 module _ (p : ConfigParts) where
   -- the words of a value

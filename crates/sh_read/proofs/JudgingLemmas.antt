@@ -1,27 +1,14 @@
 -- What is judged of a node's words by tests is what a reader answers, each by its cause.
 use Rattle.std.proofs.Common.{◌≡◌, ◌≢◌, ℕ, zero, suc, ◌+◌, ◌*◌, ◌<◌, ◌≤◌, Bool, true, false, List, [], ◌∷◌, length, take, drop, refl, sym, ap, subst, ◌∙◌, inl, inr, arith}
-use Rattle.std.specs.Prelude.{◌==◌, ◌&&◌, ◌↔◌, nat_lt, nat_le, if◌then◌else◌, replicate, slice_index, Option, Some, None}
-use Rattle.std.specs.List.{AllByRecursion}
+use Rattle.std.specs.{Prelude.{◌==◌, ◌&&◌, ◌↔◌, nat_lt, nat_le, if◌then◌else◌, replicate, slice_index, Option, Some, None}, List.{AllByRecursion}}
 use mathlib.Core.Bool.{false≢true}
-use Rattle.std.proofs.lemmas.Bool.{cases_eq, cases_lt}
-use Rattle.std.proofs.lemmas.Bool.Decides.{nat_tests}
-use Rattle.std.proofs.lemmas.List.{length-drop, length-take-le}
-use Rattle.sh_logic.proofs.Options.{some_none}
-use Rattle.sh_logic.proofs.Tests.{less_test, at_most_test, same_test, differ_test, and_true, true_and}
-use Rattle.sh_base.proofs.LayoutLemmas.{node_size_is}
-use Rattle.sh_base.specs.declared.config.ConfigParts.{ConfigParts}
-use Rattle.sh_base.specs.Setting.{nodes, node_size, last_version, last_entry_version}
-use Rattle.sh_image.specs.declared.leaf.LeafEntry.{LeafEntry}
-use Rattle.sh_image.specs.declared.inner.Pair.{Pair}
-use Rattle.sh_image.specs.Leaf.{Leaf, leaf_in, HaveWords, IsEntry, IsLeaf}
-use Rattle.sh_image.specs.Inner.{Inner, inner_in, separator_at, words_behind, HasChild, IsInner}
-use Rattle.sh_image.specs.Seen.{front_of, rear_of, entry_front, entry_rear, HasWholeEntries, IsTornAt, SeenBy}
-use Rattle.sh_image.specs.declared.read.Seen.{Seen}
-use Rattle.sh_image.specs.declared.read.Seen.TheVariants.{Leaf as LeafSeen, Inner as InnerSeen, Torn, TornEntry, Odd}
-use Rattle.sh_image.proofs.EntriesLemmas.{length-entries_in}
-use Rattle.sh_image.proofs.LeafLemmas.{spelled_one}
-use Rattle.sh_image.proofs.InnerLemmas.{inner_spelled, inner_passed, zeros_spelled, length-pairs_in}
-use Rattle.sh_image.proofs.ReadLemmas.{words_from_untorn, entries_in_have_words, header_spelled}
+use Rattle.std.proofs.lemmas.{Bool.{cases_eq, cases_lt, Decides.{nat_tests}}, List.{length-drop, length-take-le}}
+use Rattle.sh_logic.proofs.{Options.{some_none}, Tests.{less_test, at_most_test, same_test, differ_test, and_true, true_and}}
+use Rattle.sh_base.{proofs.LayoutLemmas.{node_size_is}, specs.{declared.config.ConfigParts.{ConfigParts}, Setting.{nodes, node_size, last_version, last_entry_version}}}
+use Rattle.sh_image.specs.{declared.{leaf.LeafEntry.{LeafEntry}, inner.Pair.{Pair}}, Leaf.{Leaf, leaf_in, HaveWords, IsEntry, IsLeaf}}
+use Rattle.sh_image.specs.{Inner.{Inner, inner_in, separator_at, words_behind, HasChild, IsInner}, Seen.{front_of, rear_of, entry_front, entry_rear, HasWholeEntries, IsTornAt, SeenBy}}
+use Rattle.sh_image.{specs.declared.read.Seen.{Seen, TheVariants.{Leaf as LeafSeen, Inner as InnerSeen, Torn, TornEntry, Odd}}, proofs.{EntriesLemmas.{length-entries_in}, LeafLemmas.{spelled_one}}}
+use Rattle.sh_image.proofs.{InnerLemmas.{inner_spelled, inner_passed, zeros_spelled, length-pairs_in}, ReadLemmas.{words_from_untorn, entries_in_have_words, header_spelled}}
 use Rattle.sh_image.proofs.UntornLemmas.{seen_spelled, seen_inner}
 use Rattle.sh_read.specs.Judging.{are_zeros, fits_end, fits_entry, fit_entries, fits_leaf, fit_pairs, begins_at, fits_inner, first_torn, leaf_seen, has_zeros_behind, inner_seen, untorn_seen, seen_of}
 

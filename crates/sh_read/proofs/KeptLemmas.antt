@@ -1,25 +1,13 @@
 -- The words that a READ keeps, as they are loaded.
 use Rattle.std.proofs.Common.{◌≡◌, ◌≢◌, ℕ, zero, suc, ◌+◌, ◌-◌, ◌<◌, ◌≤◌, Bool, true, false, List, [], ◌∷◌, length, take, drop, set, refl, sym, ap, subst, ◌∙◌, length-drop, arith}
-use Rattle.std.specs.Prelude.{nat_lt, slice_index, Some, None}
-use Rattle.std.proofs.lemmas.Bool.Decides.{nat_tests}
-use Rattle.std.proofs.lemmas.List.{drop_all, get_or-take, length-set, length-take-le}
+use Rattle.std.{specs.Prelude.{nat_lt, slice_index, Some, None}, proofs.lemmas.{Bool.Decides.{nat_tests}, List.{drop_all, get_or-take, length-set, length-take-le}}}
 use Rattle.sh_logic.proofs.Tests.{less_test, not_less_test}
-use Rattle.sh_base.specs.declared.config.ConfigParts.{ConfigParts}
-use Rattle.sh_base.specs.Setting.{node_size, IsNode, IsSetting}
-use Rattle.sh_base.specs.Layout.{node_word}
+use Rattle.sh_base.specs.{declared.config.ConfigParts.{ConfigParts}, Setting.{node_size, IsNode, IsSetting}, Layout.{node_word}}
 use Rattle.sh_base.proofs.LayoutLemmas.{node_size_is, node_word_high, rear_at_low, rear_at_small, take_set_in}
-use Rattle.sh_image.specs.declared.read.Seen.{Seen}
-use Rattle.sh_image.specs.declared.read.Seen.TheVariants.{Leaf as LeafSeen, Inner as InnerSeen, Torn, TornEntry, Odd as OddSeen}
-use Rattle.sh_image.specs.declared.inner.Image.{Image}
-use Rattle.sh_image.specs.declared.inner.Image.TheVariants.{Leaf, Inner}
-use Rattle.sh_image.specs.declared.read.Found.{Found}
-use Rattle.sh_image.specs.declared.read.Found.TheVariants.{Node, Torn as FoundTorn, TornEntry as FoundTornEntry, Odd as FoundOdd}
-use Rattle.sh_image.specs.Node.{seen_with}
-use Rattle.sh_read.specs.declared.state.Progress.{Progress}
-use Rattle.sh_read.specs.declared.state.Progress.TheVariants.{More, Accepted, Again, Odd}
-use Rattle.sh_read.specs.Judging.{seen_of}
-use Rattle.sh_read.specs.Reads.{reads_with, answer_to, read_fed, image_in, reads_left, progress_of, wanted}
-use Rattle.sh_read.specs.Kept.{kept_answer, image_at, loaded_in, left_after, reader_of, IsKeptRead, KeepsImage}
+use Rattle.sh_image.specs.declared.{read.Seen.{Seen, TheVariants.{Leaf as LeafSeen, Inner as InnerSeen, Torn, TornEntry, Odd as OddSeen}}, inner.Image.{Image, TheVariants.{Leaf, Inner}}}
+use Rattle.sh_image.specs.{declared.read.Found.{Found, TheVariants.{Node, Torn as FoundTorn, TornEntry as FoundTornEntry, Odd as FoundOdd}}, Node.{seen_with}}
+use Rattle.sh_read.specs.{declared.state.Progress.{Progress, TheVariants.{More, Accepted, Again, Odd}}, Judging.{seen_of}}
+use Rattle.sh_read.specs.{Reads.{reads_with, answer_to, read_fed, image_in, reads_left, progress_of, wanted}, Kept.{kept_answer, image_at, loaded_in, left_after, reader_of, IsKeptRead, KeepsImage}}
 use Rattle.sh_read.specs.Loads.{IsInside, IsNext}
 
 -- the words behind a word that is set

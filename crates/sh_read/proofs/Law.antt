@@ -1,14 +1,9 @@
 -- The law of reads.
-use Rattle.std.proofs.Common.{◌≡◌, ℕ, zero, suc, ◌+◌, ◌-◌, ◌<◌, ◌≤◌, List, length, get_or, refl, sym, ap, ◌∙◌, subst, inl, inr, arith}
-use Rattle.std.proofs.lemmas.Bool.{cases_eq}
-use Rattle.sh_base.specs.declared.config.ConfigParts.{ConfigParts}
-use Rattle.sh_base.specs.Layout.{entry_at, rear_at, entry_rear_at}
-use Rattle.sh_base.proofs.LayoutLemmas.{entry_size_is}
+use Rattle.std.proofs.{Common.{◌≡◌, ℕ, zero, suc, ◌+◌, ◌-◌, ◌<◌, ◌≤◌, List, length, get_or, refl, sym, ap, ◌∙◌, subst, inl, inr, arith}, lemmas.Bool.{cases_eq}}
+use Rattle.sh_base.{specs.{declared.config.ConfigParts.{ConfigParts}, Layout.{entry_at, rear_at, entry_rear_at}}, proofs.LayoutLemmas.{entry_size_is}}
 use Rattle.sh_read.specs.Moments.{Writing, Idle, Whole, One, word, IsNodeMoment, Next, still, begin_whole, more_whole, end_whole, begin_one, more_one, end_one}
-use Rattle.sh_read.specs.Reading.{IsHead, IsEntryWord, NotWhole}
-use Rattle.sh_read.specs.ReadLaw.{Moment, nowhere, word_at, IsCourse, IsQuiet}
-use Rattle.sh_read.proofs.Words.{word_head, word_other, word_rear, word_front, word_first, rear_below, ended_head, ended_other}
-use Rattle.sh_read.proofs.Quiet.{Touch, stays, begins, goes_on, quiet}
+use Rattle.sh_read.specs.{Reading.{IsHead, IsEntryWord, NotWhole}, ReadLaw.{Moment, nowhere, word_at, IsCourse, IsQuiet}}
+use Rattle.sh_read.proofs.{Words.{word_head, word_other, word_rear, word_front, word_first, rear_below, ended_head, ended_other}, Quiet.{Touch, stays, begins, goes_on, quiet}}
 
 -- what an event does to a part of a node that has a front and a rear version
 data Change (p : ConfigParts) (Part : ℕ → Type 0) (front rear : ℕ) (s : List ℕ) (w : Writing) (t : List ℕ) (v : Writing) : Type 0 where

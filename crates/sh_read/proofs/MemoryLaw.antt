@@ -1,13 +1,9 @@
 -- The law of reads, over the words in memory.
 use Rattle.std.proofs.Common.{◌≡◌, ℕ, ◌<◌, List, length, sym, ◌∙◌, inl, inr, arith}
-use Rattle.sh_base.specs.declared.config.ConfigParts.{ConfigParts}
-use Rattle.sh_base.specs.Setting.{node_size}
-use Rattle.sh_base.specs.Layout.{entry_at, rear_at, entry_rear_at}
+use Rattle.sh_base.specs.{declared.config.ConfigParts.{ConfigParts}, Setting.{node_size}, Layout.{entry_at, rear_at, entry_rear_at}}
 use Rattle.sh_base.proofs.LayoutLemmas.{entry_high, entry_within, node_size_is, rear_at_low}
 use Rattle.sh_read.specs.Moments.{}
-use Rattle.sh_read.specs.Reading.{IsHead, IsEntryWord}
-use Rattle.sh_read.specs.ReadLaw.{Moment, word_at, load_at, IsHistory, HasMemoryLaw}
-use Rattle.sh_read.proofs.Law.{node_law, entry_law}
+use Rattle.sh_read.{specs.{Reading.{IsHead, IsEntryWord}, ReadLaw.{Moment, word_at, load_at, IsHistory, HasMemoryLaw}}, proofs.Law.{node_law, entry_law}}
 
 module _ (p : ConfigParts) (level n : ℕ) (memories : List (List ℕ)) (moments : List Moment) (h : IsHistory p level n memories moments) where
   found : (t o : ℕ) → t < length memories → o < node_size p → load_at p memories n t o ≡ word_at p moments t o

@@ -1,16 +1,8 @@
 -- The words that a READ was fed, in their places in the node.
-use Rattle.std.proofs.Common.{◌≡◌, ℕ, zero, suc, ◌+◌, List, [], ◌∷◌, ◌++◌, length, set, refl, sym, ap, subst, ◌∙◌, append-nil, arith}
-use Rattle.std.specs.Prelude.{replicate}
-use Rattle.std.proofs.lemmas.List.{length-replicate}
+use Rattle.std.{proofs.{Common.{◌≡◌, ℕ, zero, suc, ◌+◌, List, [], ◌∷◌, ◌++◌, length, set, refl, sym, ap, subst, ◌∙◌, append-nil, arith}, lemmas.List.{length-replicate}}, specs.Prelude.{replicate}}
 use Rattle.sh_logic.proofs.Lists.{set_last}
-use Rattle.sh_base.specs.declared.config.ConfigParts.{ConfigParts}
-use Rattle.sh_base.specs.Setting.{node_size}
-use Rattle.sh_base.specs.Layout.{rear_at}
-use Rattle.sh_base.proofs.LayoutLemmas.{node_size_is}
-use Rattle.sh_read.specs.Moments.{Writing, word, IsNodeMoment}
-use Rattle.sh_read.specs.Reading.{StoodIn, StoodWith, FitsRead}
-use Rattle.sh_read.specs.Reads.{in_place, left_in}
-use Rattle.sh_read.proofs.Read.{FitsRead-begin, stood-load}
+use Rattle.sh_base.{specs.{declared.config.ConfigParts.{ConfigParts}, Setting.{node_size}, Layout.{rear_at}}, proofs.LayoutLemmas.{node_size_is}}
+use Rattle.sh_read.{specs.{Moments.{Writing, word, IsNodeMoment}, Reading.{StoodIn, StoodWith, FitsRead}, Reads.{in_place, left_in}}, proofs.Read.{FitsRead-begin, stood-load}}
 
 module _ (p : ConfigParts) where
   one_more : (x at : ℕ) (loaded : List ℕ) → left_in p loaded ≡ at + 1 → set (in_place p loaded) at x ≡ in_place p (x ∷ loaded)

@@ -1,14 +1,9 @@
 -- What a WRITE under way leaves of a node's words.
-use Rattle.std.proofs.Common.{◌≡◌, ◌≢◌, ◌⊎◌, ℕ, ◌+◌, ◌-◌, ◌<◌, ◌≤◌, cond, ltb, leb, List, get_or, refl, ap, ◌∙◌, inl, inr, arith}
-use Rattle.std.specs.Prelude.{◌&&◌}
-use Rattle.std.proofs.lemmas.Bool.Decides.{nat_tests}
+use Rattle.std.{proofs.{Common.{◌≡◌, ◌≢◌, ◌⊎◌, ℕ, ◌+◌, ◌-◌, ◌<◌, ◌≤◌, cond, ltb, leb, List, get_or, refl, ap, ◌∙◌, inl, inr, arith}, lemmas.Bool.Decides.{nat_tests}}, specs.Prelude.{◌&&◌}}
 use Rattle.std.proofs.lemmas.Bool.{cases_lt, cases_eq}
-use Rattle.sh_base.specs.declared.config.ConfigParts.{ConfigParts}
-use Rattle.sh_base.specs.Setting.{entry_size}
-use Rattle.sh_base.specs.Layout.{entry_at, rear_at, entry_rear_at}
+use Rattle.sh_base.specs.{declared.config.ConfigParts.{ConfigParts}, Setting.{entry_size}, Layout.{entry_at, rear_at, entry_rear_at}}
 use Rattle.sh_base.proofs.LayoutLemmas.{entry_low, entry_apart, entry_within, entry_size_is}
-use Rattle.sh_read.specs.Moments.{Writing, Idle, Whole, One, word, IsWriting, IsNodeMoment}
-use Rattle.sh_read.specs.Reading.{IsHead, IsEntryWord, NotWhole, NotOne}
+use Rattle.sh_read.specs.{Moments.{Writing, Idle, Whole, One, word, IsWriting, IsNodeMoment}, Reading.{IsHead, IsEntryWord, NotWhole, NotOne}}
 
 pub stored : (n o x y : ℕ) → o < n → cond (ltb o n) x y ≡ x
 stored n o x y h = grind (arith, nat_tests)

@@ -1,14 +1,8 @@
 -- What a reader judges of a node's words, by tests.
 use Rattle.std.specs.Prelude.{ℕ, zero, suc, ◌+◌, ◌-◌, ◌*◌, ◌^◌, ◌==◌, ◌&&◌, not, if◌then◌else◌, nat_lt, nat_le, Bool, true, false, List, [], ◌∷◌, take, drop, slice_index, Option, Some, None}
-use Rattle.sh_base.specs.declared.config.ConfigParts.{ConfigParts}
-use Rattle.sh_base.specs.Setting.{nodes, last_version, last_entry_version}
-use Rattle.sh_image.specs.declared.leaf.LeafEntry.{LeafEntry}
-use Rattle.sh_image.specs.declared.inner.Pair.{Pair}
-use Rattle.sh_image.specs.Leaf.{Leaf, leaf_in}
-use Rattle.sh_image.specs.Inner.{Inner, inner_in, words_behind}
-use Rattle.sh_image.specs.Seen.{front_of, rear_of, entry_front, entry_rear}
-use Rattle.sh_image.specs.declared.read.Seen.{Seen}
-use Rattle.sh_image.specs.declared.read.Seen.TheVariants.{Leaf as LeafSeen, Inner as InnerSeen, Torn, TornEntry, Odd}
+use Rattle.sh_base.specs.{declared.config.ConfigParts.{ConfigParts}, Setting.{nodes, last_version, last_entry_version}}
+use Rattle.sh_image.specs.{declared.{leaf.LeafEntry.{LeafEntry}, inner.Pair.{Pair}}, Leaf.{Leaf, leaf_in}, Inner.{Inner, inner_in, words_behind}, Seen.{front_of, rear_of, entry_front, entry_rear}}
+use Rattle.sh_image.specs.declared.read.Seen.{Seen, TheVariants.{Leaf as LeafSeen, Inner as InnerSeen, Torn, TornEntry, Odd}}
 
 -- all words are 0
 abbrev pub are_zeros : List ℕ → Bool

@@ -1,14 +1,8 @@
 -- What a READ keeps of its words.
 use Rattle.std.specs.Prelude.{◌≡◌, ℕ, ◌≤◌, ◌==◌, if◌then◌else◌, List, take, drop, length, slice_index, Option, Some, None}
-use Rattle.sh_base.specs.declared.config.ConfigParts.{ConfigParts}
-use Rattle.sh_base.specs.Setting.{node_size, IsNode}
-use Rattle.sh_base.specs.Layout.{node_word}
-use Rattle.sh_image.specs.declared.inner.Image.{Image}
-use Rattle.sh_image.specs.declared.read.Found.{Found}
-use Rattle.sh_image.specs.declared.read.Found.TheVariants.{Node, Torn, TornEntry, Odd as FoundOdd}
-use Rattle.sh_read.specs.declared.state.Progress.{Progress}
-use Rattle.sh_read.specs.declared.state.Progress.TheVariants.{More, Accepted, Again, Odd}
-use Rattle.sh_read.specs.Reads.{Reader, reads_with, accepted}
+use Rattle.sh_base.specs.{declared.config.ConfigParts.{ConfigParts}, Setting.{node_size, IsNode}, Layout.{node_word}}
+use Rattle.sh_image.specs.declared.{inner.Image.{Image}, read.Found.{Found, TheVariants.{Node, Torn, TornEntry, Odd as FoundOdd}}}
+use Rattle.sh_read.specs.{declared.state.Progress.{Progress, TheVariants.{More, Accepted, Again, Odd}}, Reads.{Reader, reads_with, accepted}}
 
 -- the node's words behind the first ones, which are left to load
 abbrev pub loaded_in : ConfigParts → (left : ℕ) → List ℕ → List ℕ

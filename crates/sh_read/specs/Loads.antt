@@ -1,8 +1,7 @@
 -- A load of a READ that isn't its last one.
 use Rattle.std.specs.Prelude.{◌≡◌, ◌≢◌, ℕ, ◌+◌, ◌<◌, ◌≤◌, length, Option, Some, None}
 use Rattle.sh_base.specs.Setting.{node_size, pool_words}
-use Rattle.sh_read.specs.declared.state.Progress.TheVariants.{More}
-use Rattle.sh_read.specs.Reads.{Reader, read_fed, progress_of, wanted}
+use Rattle.sh_read.specs.{declared.state.Progress.TheVariants.{More}, Reads.{Reader, read_fed, progress_of, wanted}}
 
 -- the address of the wanted word, which isn't the last one
 pub record IsNext (r : Reader) (at : ℕ) : Type 0 where

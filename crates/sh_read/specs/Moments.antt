@@ -1,8 +1,6 @@
 -- One node through time: its standing words, and the WRITE that is under way on it.
 use Rattle.std.specs.Prelude.{◌≡◌, ℕ, ◌+◌, ◌-◌, ◌<◌, ◌≤◌, if◌then◌else◌, nat_lt, nat_le, ◌&&◌, List, slice_index}
-use Rattle.sh_base.specs.declared.config.ConfigParts.{ConfigParts}
-use Rattle.sh_base.specs.Setting.{node_size}
-use Rattle.sh_base.specs.Layout.{entry_at, entry_rear_at, rear_at}
+use Rattle.sh_base.specs.{declared.config.ConfigParts.{ConfigParts}, Setting.{node_size}, Layout.{entry_at, entry_rear_at, rear_at}}
 
 -- of a WRITE: the words that it stores, and how many of them are stored
 pub data Writing : Type 0 where

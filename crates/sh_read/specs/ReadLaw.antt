@@ -1,9 +1,7 @@
 -- The law of reads, over a list of a node's moments.
 use Rattle.std.specs.Prelude.{◌≡◌, ℕ, ◌+◌, ◌<◌, ◌≤◌, List, [], length, slice_index, slice_index_or}
-use Rattle.sh_base.specs.declared.config.ConfigParts.{ConfigParts}
-use Rattle.sh_base.specs.Layout.{entry_at, rear_at, node_part, entry_rear_at}
-use Rattle.sh_read.specs.Moments.{Writing, Idle, word, IsNodeMoment, Next, Agrees}
-use Rattle.sh_read.specs.Reading.{IsHead, IsEntryWord}
+use Rattle.sh_base.specs.{declared.config.ConfigParts.{ConfigParts}, Layout.{entry_at, rear_at, node_part, entry_rear_at}}
+use Rattle.sh_read.specs.{Moments.{Writing, Idle, word, IsNodeMoment, Next, Agrees}, Reading.{IsHead, IsEntryWord}}
 
 pub record Moment : Type 0 where
   pub standing : List ℕ

@@ -1,11 +1,7 @@
 -- What a READ of a node under way knows, at each moment.
 use Rattle.std.specs.Prelude.{◌≡◌, ◌≢◌, ◌⊎◌, ℕ, ◌+◌, ◌<◌, ◌≤◌, List, length, drop, slice_index, slice_index_or, Any}
-use Rattle.sh_base.specs.declared.config.ConfigParts.{ConfigParts}
-use Rattle.sh_base.specs.Setting.{entry_size, node_size}
-use Rattle.sh_base.specs.Layout.{entry_at, rear_at, entry_rear_at}
-use Rattle.sh_image.specs.declared.leaf.LeafEntry.{LeafEntry}
-use Rattle.sh_image.specs.Entries.{entries_in}
-use Rattle.sh_image.specs.Leaf.{Leaf, IsEntry, Spells, empty_entry}
+use Rattle.sh_base.specs.{declared.config.ConfigParts.{ConfigParts}, Setting.{entry_size, node_size}, Layout.{entry_at, rear_at, entry_rear_at}}
+use Rattle.sh_image.specs.{declared.leaf.LeafEntry.{LeafEntry}, Entries.{entries_in}, Leaf.{Leaf, IsEntry, Spells, empty_entry}}
 use Rattle.sh_read.specs.Moments.{Writing, Idle, Whole, One}
 
 -- the words that only node WRITEs store: of an inner node all

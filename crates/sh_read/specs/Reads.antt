@@ -1,15 +1,9 @@
 -- A READ of a node, fed its words one at a time from the last to the first.
 use Rattle.std.specs.Prelude.{ℕ, ◌+◌, ◌-◌, if◌then◌else◌, nat_lt, List, [], ◌∷◌, ◌++◌, length, replicate, Option, Some, None}
-use Rattle.sh_base.specs.declared.config.ConfigParts.{ConfigParts}
-use Rattle.sh_base.specs.Setting.{node_size}
-use Rattle.sh_base.specs.Layout.{node_word}
-use Rattle.sh_image.specs.declared.inner.Image.{Image}
-use Rattle.sh_image.specs.declared.inner.Image.TheVariants.{Leaf as LeafImage, Inner as InnerImage}
-use Rattle.sh_image.specs.declared.read.Seen.{Seen}
+use Rattle.sh_base.specs.{declared.config.ConfigParts.{ConfigParts}, Setting.{node_size}, Layout.{node_word}}
+use Rattle.sh_image.specs.declared.{inner.Image.{Image, TheVariants.{Leaf as LeafImage, Inner as InnerImage}}, read.Seen.{Seen}}
 use Rattle.sh_image.specs.declared.read.Seen.TheVariants.{Leaf as LeafSeen, Inner as InnerSeen, Torn, TornEntry, Odd as OddSeen}
-use Rattle.sh_read.specs.declared.state.Progress.{Progress}
-use Rattle.sh_read.specs.declared.state.Progress.TheVariants.{More, Accepted, Again, Odd}
-use Rattle.sh_read.specs.Judging.{seen_of}
+use Rattle.sh_read.specs.{declared.state.Progress.{Progress, TheVariants.{More, Accepted, Again, Odd}}, Judging.{seen_of}}
 
 -- the node that is read, and its last words that are loaded, in their order
 pub record Reads : Type 0 where

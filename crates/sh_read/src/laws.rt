@@ -1,18 +1,9 @@
 // The law of reads, what a READ under way knows, and why it answers as it does.
 ghost use Rattle.std.specs.Prelude.{◌≡◌, ℕ, ◌+◌, ◌<◌, ◌≤◌, List, [], ◌∷◌, length, slice_index, slice_set, Some};
-ghost use Rattle.sh_base.specs.Parts.{parts_of};
-ghost use Rattle.sh_base.specs.Setting.{node_size};
-ghost use Rattle.sh_base.specs.Layout.{entry_at, entry_rear_at, rear_at};
-ghost use Rattle.sh_image.specs.Seen.{SeenBy};
-ghost use Rattle.sh_image.specs.declared.inner.Image.{Image};
-ghost use Rattle.sh_image.specs.declared.read.Seen.{Seen};
-ghost use Rattle.sh_read.specs.Judging.{seen_of};
-ghost use Rattle.sh_read.specs.Reads.{accepted, in_place, left_in, progress_with, Reads};
-ghost use Rattle.sh_image.specs.Node.{seen_as};
-ghost use Rattle.sh_read.specs.Causes.{AnsweredBy};
-ghost use Rattle.sh_read.specs.Moments.{Writing, word, IsNodeMoment, Next};
-ghost use Rattle.sh_read.specs.Reading.{StoodIn, StoodWith, FitsRead, IsCalm, IsLeafNode, IsGoodEntry};
-ghost use Rattle.sh_read.specs.ReadLaw.{Moment, IsHistory, HasMemoryLaw};
+ghost use Rattle.sh_base.specs.{Parts.{parts_of}, Setting.{node_size}, Layout.{entry_at, entry_rear_at, rear_at}};
+ghost use Rattle.sh_image.specs.{Seen.{SeenBy}, declared.{inner.Image.{Image}, read.Seen.{Seen}}, Node.{seen_as}};
+ghost use Rattle.sh_read.specs.{Judging.{seen_of}, Reads.{accepted, in_place, left_in, progress_with, Reads}, Causes.{AnsweredBy}, Moments.{Writing, word, IsNodeMoment, Next}};
+ghost use Rattle.sh_read.specs.{Reading.{StoodIn, StoodWith, FitsRead, IsCalm, IsLeafNode, IsGoodEntry}, ReadLaw.{Moment, IsHistory, HasMemoryLaw}};
 
 use sh_base::Config;
 

@@ -1,12 +1,8 @@
 // A READ that is fed its words one at a time.
 ghost use Rattle.std.specs.Prelude.{◌≡◌, ◌≢◌, ◌+◌, ◌<◌, ◌≤◌, IfSome, length, slice_index, None, Some};
-ghost use Rattle.sh_base.specs.Parts.{parts_of};
-ghost use Rattle.sh_base.specs.Setting.{node_size, pool_words, IsNode, IsSetting};
-ghost use Rattle.sh_read.specs.declared.state.Progress.TheVariants.{Accepted};
-ghost use Rattle.sh_read.specs.Judging.{seen_of};
-ghost use Rattle.sh_read.specs.Reads.{accepted, answer_to, read_fed, image_in, progress_of, reads_start, wanted};
-ghost use Rattle.sh_read.specs.Kept.{kept_answer, image_at, left_after, KeepsImage};
-ghost use Rattle.sh_read.specs.Loads.{HasNext, IsInside};
+ghost use Rattle.sh_base.specs.{Parts.{parts_of}, Setting.{node_size, pool_words, IsNode, IsSetting}};
+ghost use Rattle.sh_read.specs.{declared.state.Progress.TheVariants.{Accepted}, Judging.{seen_of}, Reads.{accepted, answer_to, read_fed, image_in, progress_of, reads_start, wanted}};
+ghost use Rattle.sh_read.specs.{Kept.{kept_answer, image_at, left_after, KeepsImage}, Loads.{HasNext, IsInside}};
 
 use crate::{Progress, Reading};
 use sh_base::{Config, Value};

@@ -34,8 +34,7 @@ pub struct Reading {
 }
 
 impl Model for Reading {
-    ghost use Rattle.sh_read.specs.Reads.{Reader};
-    ghost use Rattle.sh_read.specs.Kept.{reader_of, IsKeptRead};
+    ghost use Rattle.sh_read.specs.{Reads.{Reader}, Kept.{reader_of, IsKeptRead}};
 
     ghost Value = { Reader };
 

@@ -1,19 +1,11 @@
 -- What a READ knows, by the words that it was fed.
-use Rattle.std.proofs.Common.{◌≡◌, ℕ, zero, suc, ◌+◌, ◌≤◌, List, [], ◌∷◌, ◌++◌, length, get_or, set, refl, sym, ap, ◌∙◌, subst, append-nil, arith}
-use Rattle.std.specs.Prelude.{replicate}
+use Rattle.std.{proofs.Common.{◌≡◌, ℕ, zero, suc, ◌+◌, ◌≤◌, List, [], ◌∷◌, ◌++◌, length, get_or, set, refl, sym, ap, ◌∙◌, subst, append-nil, arith}, specs.Prelude.{replicate}}
 use Rattle.std.proofs.lemmas.List.{length-replicate}
 use Rattle.sh_logic.proofs.Lists.{set_last}
-use Rattle.sh_base.specs.declared.config.ConfigParts.{ConfigParts}
-use Rattle.sh_base.specs.Setting.{node_size, IsSetting}
-use Rattle.sh_base.specs.Layout.{node_word, rear_at}
-use Rattle.sh_base.proofs.LayoutLemmas.{node_size_is}
-use Rattle.sh_image.specs.Seen.{IsUntorn, SeenBy}
-use Rattle.sh_image.specs.declared.read.Seen.TheVariants.{Odd}
-use Rattle.sh_state.specs.TreeState.{Linked, TreeState, writing}
-use Rattle.sh_state.specs.Ground.{Ground}
-use Rattle.sh_readers.specs.Points.{IsReadLeaf}
-use Rattle.sh_readers.specs.Knows.{IsKnown, fed_from, fed_words, IsFed}
-use Rattle.sh_readers.proofs.Known.{known_begin, known_load, known_leaf, known_inner, known_node}
+use Rattle.sh_base.{specs.{declared.config.ConfigParts.{ConfigParts}, Setting.{node_size, IsSetting}, Layout.{node_word, rear_at}}, proofs.LayoutLemmas.{node_size_is}}
+use Rattle.sh_image.specs.{Seen.{IsUntorn, SeenBy}, declared.read.Seen.TheVariants.{Odd}}
+use Rattle.sh_state.specs.{TreeState.{Linked, TreeState, writing}, Ground.{Ground}}
+use Rattle.sh_readers.{specs.{Points.{IsReadLeaf}, Knows.{IsKnown, fed_from, fed_words, IsFed}}, proofs.Known.{known_begin, known_load, known_leaf, known_inner, known_node}}
 
 one_more : (p : ConfigParts) (x at : ℕ) (fed : List ℕ) → fed_from p fed ≡ at + 1 → set (fed_words p fed) at x ≡ fed_words p (x ∷ fed)
 one_more p x at fed e =

@@ -1,32 +1,16 @@
 -- What a range has gathered grows with the log and leaf by leaf, and answers it at its end.
 use Rattle.std.proofs.Common.{◌≡◌, ◌≢◌, ◌⊎◌, ℕ, zero, suc, ◌+◌, ◌-◌, ◌<◌, ◌≤◌, cond, List, [], ◌∷◌, ◌++◌, length, length-append, append_assoc, append-nil, get_or, map, Option, Some, None, refl, sym, ap, ◌∙◌, subst, inl, inr, arith}
-use Rattle.std.specs.Option.{unwrap_or}
-use Rattle.std.specs.Ordering.{nat_cmp}
-use Rattle.std.specs.Cmp.{nat_cmp_total}
-use Rattle.std.specs.FinMap.{find, from_entries, get-from_entries}
-use Rattle.std.proofs.lemmas.Bool.{cases_lt, cases_eq}
-use Rattle.std.proofs.lemmas.List.{map-append, take-append-le}
-use Rattle.std.proofs.lemmas.List.Elements.{All-push}
-use Rattle.std.proofs.lemmas.List.Quantifiers.{all_pairs_push}
-use Rattle.sh_logic.proofs.Tests.{less_test, not_less_test}
-use Rattle.sh_logic.proofs.Lookups.{find_past, find_before}
+use Rattle.std.{specs.{Option.{unwrap_or}, Ordering.{nat_cmp}, Cmp.{nat_cmp_total}, FinMap.{find, from_entries, get-from_entries}}, proofs.lemmas.Bool.{cases_lt, cases_eq}}
+use Rattle.std.proofs.lemmas.List.{map-append, take-append-le, Elements.{All-push}, Quantifiers.{all_pairs_push}}
+use Rattle.sh_logic.proofs.{Tests.{less_test, not_less_test}, Lookups.{find_past, find_before}}
 use Rattle.sh_base.specs.declared.config.ConfigParts.{ConfigParts}
-use Rattle.sh_map.specs.declared.log.Entry.{Entry}
-use Rattle.sh_map.specs.declared.book.Row.{Row}
-use Rattle.sh_map.specs.Map.{get, row_pair, pair_row}
-use Rattle.sh_map.specs.Log.{map_of}
-use Rattle.sh_map.specs.Book.{AnswersRange}
-use Rattle.sh_map.specs.Rows.{nothing}
-use Rattle.sh_map.proofs.MapLemmas.{apart_test, same_test}
+use Rattle.sh_map.{specs.{declared.{log.Entry.{Entry}, book.Row.{Row}}, Map.{get, row_pair, pair_row}, Log.{map_of}, Book.{AnswersRange}, Rows.{nothing}}, proofs.MapLemmas.{apart_test, same_test}}
 use Rattle.sh_map.proofs.RowsLemmas.{missed_in}
 use Rattle.sh_image.specs.declared.leaf.LeafEntry.{LeafEntry}
-use Rattle.sh_edit.specs.Held.{held}
-use Rattle.sh_edit.specs.Ranging.{end_in, least_key, last_key, row_of, taken, upto_of}
+use Rattle.sh_edit.specs.{Held.{held}, Ranging.{end_in, least_key, last_key, row_of, taken, upto_of}}
 use Rattle.sh_edit.proofs.RangeLemmas.{least_is, none_from, taken_end, taken_past, taken_next, last_key-push, upto_full, upto_short}
 use Rattle.sh_state.specs.Nodes.{low_in, high_in, standing_entries}
-use Rattle.sh_readers.specs.Points.{HadSince, IsReadLeaf}
-use Rattle.sh_readers.specs.Ranges.{IsGathered, HeldSince, IsTaken, IsDone, IsBehind}
-use Rattle.sh_readers.proofs.PointLemmas.{HadAt-more}
+use Rattle.sh_readers.{specs.{Points.{HadSince, IsReadLeaf}, Ranges.{IsGathered, HeldSince, IsTaken, IsDone, IsBehind}}, proofs.PointLemmas.{HadAt-more}}
 
 found_in_rows : (rows : List Row) (q : ℕ) → get (from_entries (map row_pair rows)) q ≡ find nat_cmp q (map row_pair rows)
 found_in_rows rows q = get-from_entries nat_cmp_total (map row_pair rows) q

@@ -1,25 +1,12 @@
 -- Images that were accepted, and where their hops lead.
 use Rattle.std.proofs.Common.{◌≡◌, ◌≢◌, ◌⊎◌, ℕ, zero, suc, ◌<◌, ◌≤◌, Bool, true, false, List, refl, ap, sym, ◌∙◌, subst, ⊎_elim, inl, inr, arith}
-use Rattle.std.specs.Prelude.{◌-◌, ◌^◌, ◌||◌, ◌==◌, if◌then◌else◌, nat_le, nat_lt}
-use Rattle.std.proofs.lemmas.Bool.Decides.{nat_tests}
-use Rattle.sh_logic.proofs.Lists.{all_at}
-use Rattle.sh_logic.proofs.Tests.{is_le, not_le, is_eq, not_eq}
+use Rattle.std.{specs.Prelude.{◌-◌, ◌^◌, ◌||◌, ◌==◌, if◌then◌else◌, nat_le, nat_lt}, proofs.lemmas.Bool.Decides.{nat_tests}}
+use Rattle.sh_logic.proofs.{Lists.{all_at}, Tests.{is_le, not_le, is_eq, not_eq}}
 use Rattle.sh_base.specs.declared.config.ConfigParts.{ConfigParts}
-use Rattle.sh_image.specs.declared.inner.Image.{Image}
-use Rattle.sh_image.specs.declared.inner.Image.TheVariants.{Leaf as LeafImage, Inner as InnerImage}
-use Rattle.sh_image.specs.declared.inner.Pair.{Pair}
-use Rattle.sh_image.specs.Leaf.{leaf_in}
-use Rattle.sh_image.specs.Inner.{inner_in, no_pair, separator_at}
-use Rattle.sh_descend.specs.declared.Hop.TheVariants.{Here, Right, Down, Restart}
-use Rattle.sh_descend.specs.Descent.{level_of, low_of, high_of, next_of, image_pairs, child_of, hop_of}
-use Rattle.sh_descend.proofs.ChildLemmas.{down_covers}
-use Rattle.sh_state.specs.TreeState.{Linked, Owner, TreeState}
-use Rattle.sh_state.specs.Nodes.{LeadDown, LeadsRight}
-use Rattle.sh_state.specs.Ground.{Ground}
-use Rattle.sh_state.specs.Change.{ChangeFor}
-use Rattle.sh_state.proofs.Scenes.{follows_on, lead_on}
-use Rattle.sh_readers.specs.Points.{IsReadLeaf}
-use Rattle.sh_readers.specs.Hand.{IsNamed, IsImageOf}
+use Rattle.sh_image.specs.{declared.inner.{Image.{Image, TheVariants.{Leaf as LeafImage, Inner as InnerImage}}, Pair.{Pair}}, Leaf.{leaf_in}, Inner.{inner_in, no_pair, separator_at}}
+use Rattle.sh_descend.{specs.{declared.Hop.TheVariants.{Here, Right, Down, Restart}, Descent.{level_of, low_of, high_of, next_of, image_pairs, child_of, hop_of}}, proofs.ChildLemmas.{down_covers}}
+use Rattle.sh_state.{specs.{TreeState.{Linked, Owner, TreeState}, Nodes.{LeadDown, LeadsRight}, Ground.{Ground}, Change.{ChangeFor}}, proofs.Scenes.{follows_on, lead_on}}
+use Rattle.sh_readers.specs.{Points.{IsReadLeaf}, Hand.{IsNamed, IsImageOf}}
 
 -- ---- the four answers by their tests
 by_right : (a b c : Bool) (n d r : ℕ) → (if a then Restart else if b then Right n else if c then Here else Down d) ≡ Right r → (a ≡ false) × (b ≡ true) × (n ≡ r)

@@ -1,9 +1,7 @@
 -- What a READ knows of one key is kept, and grows.
-use Rattle.std.proofs.Common.{◌≡◌, ◌≢◌, ◌⊎◌, ℕ, zero, suc, ◌+◌, ◌<◌, ◌≤◌, List, length, sym, ap, ◌∙◌, inl, inr, arith}
-use Rattle.std.proofs.lemmas.Bool.{cases_lt, cases_eq}
+use Rattle.std.proofs.{Common.{◌≡◌, ◌≢◌, ◌⊎◌, ℕ, zero, suc, ◌+◌, ◌<◌, ◌≤◌, List, length, sym, ap, ◌∙◌, inl, inr, arith}, lemmas.Bool.{cases_lt, cases_eq}}
 use Rattle.sh_image.specs.declared.leaf.LeafEntry.{LeafEntry}
-use Rattle.sh_edit.specs.Held.{key_at, HasKeysOnce}
-use Rattle.sh_edit.specs.Placing.{IsFirstWith, LacksKey}
+use Rattle.sh_edit.specs.{Held.{key_at, HasKeysOnce}, Placing.{IsFirstWith, LacksKey}}
 use Rattle.sh_readers.specs.Points.{FitsKey}
 
 -- the first entry with a key, or none

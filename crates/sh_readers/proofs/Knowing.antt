@@ -1,29 +1,18 @@
 -- What a READ of a leaf knows begins with its first load, is kept by each event, and grows by each load.
-use Rattle.std.proofs.Common.{◌≡◌, ◌≢◌, ◌⊎◌, ℕ, zero, suc, ◌+◌, ◌<◌, ◌≤◌, List, ◌++◌, length, length-append, get_or, set, None, refl, sym, ap, ◌∙◌, subst, inl, inr, arith}
-use Rattle.std.proofs.lemmas.Bool.{cases_eq}
-use Rattle.std.proofs.lemmas.Grind.{same_number_lists}
-use Rattle.std.proofs.lemmas.List.{get_or-set_same, get_or-set_other}
+use Rattle.std.proofs.{Common.{◌≡◌, ◌≢◌, ◌⊎◌, ℕ, zero, suc, ◌+◌, ◌<◌, ◌≤◌, List, ◌++◌, length, length-append, get_or, set, None, refl, sym, ap, ◌∙◌, subst, inl, inr, arith}, lemmas.Bool.{cases_eq}}
+use Rattle.std.proofs.lemmas.{Grind.{same_number_lists}, List.{get_or-set_same, get_or-set_other}}
 use Rattle.sh_logic.proofs.Lists.{from_each}
-use Rattle.sh_base.specs.declared.config.ConfigParts.{ConfigParts}
-use Rattle.sh_base.specs.Setting.{node_size}
-use Rattle.sh_base.specs.Layout.{entry_at, entry_rear_at, rear_at}
+use Rattle.sh_base.specs.{declared.config.ConfigParts.{ConfigParts}, Setting.{node_size}, Layout.{entry_at, entry_rear_at, rear_at}}
 use Rattle.sh_base.proofs.LayoutLemmas.{entry_within, entry_apart, entry_size_is, node_size_is}
 use Rattle.sh_map.specs.declared.log.Entry.{Entry}
-use Rattle.sh_image.specs.declared.leaf.LeafEntry.{LeafEntry}
-use Rattle.sh_image.specs.Leaf.{IsEntry, IsLeaf, leaf_in}
-use Rattle.sh_image.specs.Seen.{IsUntorn}
-use Rattle.sh_image.proofs.ReadLemmas.{words_from_untorn, header_spelled}
+use Rattle.sh_image.{specs.{declared.leaf.LeafEntry.{LeafEntry}, Leaf.{IsEntry, IsLeaf, leaf_in}, Seen.{IsUntorn}}, proofs.ReadLemmas.{words_from_untorn, header_spelled}}
 use Rattle.sh_edit.specs.Held.{key_at, no_entry}
 use Rattle.sh_read.specs.Moments.{Writing, Idle, Whole, One, word, IsWriting, IsNodeMoment, Next, still, begin_whole, more_whole, end_whole, begin_one, more_one, end_one}
-use Rattle.sh_read.specs.Reading.{IsEntryWord, NotWhole, NotOne, IsCalm, FitsRead}
-use Rattle.sh_read.proofs.Words.{ended_head, ended_other, word_other, word_front}
+use Rattle.sh_read.{specs.Reading.{IsEntryWord, NotWhole, NotOne, IsCalm, FitsRead}, proofs.Words.{ended_head, ended_other, word_other, word_front}}
 use Rattle.sh_read.proofs.Read.{FitsRead-next, FitsRead-load, FitsRead-begin, accepted}
-use Rattle.sh_state.specs.Nodes.{low_in, high_in, next_in, standing_entries, IsStandingLeaf}
-use Rattle.sh_state.proofs.EntryWords.{same_entry, length-entries_of}
-use Rattle.sh_readers.specs.Points.{standing_entry, HadSince, IsEntrySince, IsGoodNode, FitsKey, LoadedFrom, IsReadLeaf}
-use Rattle.sh_readers.specs.Knows.{Knows}
-use Rattle.sh_readers.proofs.KeyLemmas.{key_weaker, key_begin, key_same, key_load, key_written, key_end}
-use Rattle.sh_readers.proofs.PointLemmas.{HadAt-more, good_on, good_now, absent_now, replied}
+use Rattle.sh_state.{specs.Nodes.{low_in, high_in, next_in, standing_entries, IsStandingLeaf}, proofs.EntryWords.{same_entry, length-entries_of}}
+use Rattle.sh_readers.specs.{Points.{standing_entry, HadSince, IsEntrySince, IsGoodNode, FitsKey, LoadedFrom, IsReadLeaf}, Knows.{Knows}}
+use Rattle.sh_readers.proofs.{KeyLemmas.{key_weaker, key_begin, key_same, key_load, key_written, key_end}, PointLemmas.{HadAt-more, good_on, good_now, absent_now, replied}}
 
 -- while no node WRITE has stored, what was may be said in other words
 calm_weaker : (p : ConfigParts) (level : ℕ) (Was Now : List ℕ → Type 0) (s : List ℕ) (w : Writing) (from : ℕ) (got : List ℕ) → (IsCalm p s w got → (b : List ℕ) → Was b → Now b) → FitsRead p level Was s w from got → FitsRead p level Now s w from got

@@ -1,25 +1,11 @@
 -- What a READ of a linked node knows, in a scene.
 use Rattle.std.proofs.Common.{◌≡◌, ℕ, zero, suc, ◌+◌, ◌<◌, ◌≤◌, List, length, get_or, set, sym, ◌∙◌, subst, arith}
-use Rattle.sh_base.specs.declared.config.ConfigParts.{ConfigParts}
-use Rattle.sh_base.specs.Setting.{node_size, IsSetting}
-use Rattle.sh_base.specs.Layout.{node_word, rear_at}
-use Rattle.sh_base.specs.Places.{Node}
-use Rattle.sh_base.proofs.LayoutLemmas.{node_size_is}
+use Rattle.sh_base.{specs.{declared.config.ConfigParts.{ConfigParts}, Setting.{node_size, IsSetting}, Layout.{node_word, rear_at}, Places.{Node}}, proofs.LayoutLemmas.{node_size_is}}
 use Rattle.sh_map.specs.declared.log.Entry.{Entry}
-use Rattle.sh_image.specs.Leaf.{leaf_in}
-use Rattle.sh_image.specs.Inner.{inner_in, SpellsInner}
-use Rattle.sh_image.specs.Seen.{IsUntorn, SeenBy}
-use Rattle.sh_image.specs.declared.read.Seen.TheVariants.{Odd}
-use Rattle.sh_read.specs.Moments.{Writing, word}
-use Rattle.sh_read.proofs.Read.{FitsRead-next, FitsRead-load, FitsRead-begin}
-use Rattle.sh_state.specs.TreeState.{Linked, Owner, TreeState, writing}
-use Rattle.sh_state.specs.Nodes.{IsStandingLeaf}
-use Rattle.sh_state.specs.Ground.{Ground}
-use Rattle.sh_state.specs.Change.{ChangeFor}
-use Rattle.sh_state.proofs.Scenes.{moment_of}
-use Rattle.sh_readers.specs.Points.{IsReadLeaf}
-use Rattle.sh_readers.specs.Knows.{Knows, Anything, IsKnown}
-use Rattle.sh_readers.proofs.Knowing.{knows_event, knows_begin, knows_load, knows_accepted, inner_accepted}
+use Rattle.sh_image.specs.{Leaf.{leaf_in}, Inner.{inner_in, SpellsInner}, Seen.{IsUntorn, SeenBy}, declared.read.Seen.TheVariants.{Odd}}
+use Rattle.sh_read.{specs.Moments.{Writing, word}, proofs.Read.{FitsRead-next, FitsRead-load, FitsRead-begin}}
+use Rattle.sh_state.{specs.{TreeState.{Linked, Owner, TreeState, writing}, Nodes.{IsStandingLeaf}, Ground.{Ground}, Change.{ChangeFor}}, proofs.Scenes.{moment_of}}
+use Rattle.sh_readers.{specs.{Points.{IsReadLeaf}, Knows.{Knows, Anything, IsKnown}}, proofs.Knowing.{knows_event, knows_begin, knows_load, knows_accepted, inner_accepted}}
 
 -- where the loads are
 pub loads_from : (p : ConfigParts) (log : List Entry) (first level : ℕ) (s : List ℕ) (w : Writing) (from : ℕ) (got : List ℕ) → IsKnown p log first level s w from got → from ≤ rear_at p

@@ -1,23 +1,13 @@
 -- The facts on points are true of what stands, and stay true as the log grows.
 use Rattle.std.proofs.Common.{◌≡◌, ◌≢◌, ℕ, zero, suc, ◌<◌, ◌≤◌, List, [], ◌∷◌, ◌++◌, length, length-append, get_or, Option, Some, None, refl, sym, ap, ◌∙◌, subst, inl, inr, arith}
-use Rattle.std.specs.List.{AllByRecursion}
-use Rattle.std.proofs.lemmas.List.{take-append-le}
+use Rattle.std.{specs.List.{AllByRecursion}, proofs.lemmas.List.{take-append-le}}
 use Rattle.sh_logic.proofs.Lists.{all_at}
-use Rattle.sh_base.specs.declared.config.ConfigParts.{ConfigParts}
-use Rattle.sh_base.specs.Setting.{node_size}
-use Rattle.sh_map.specs.declared.log.Entry.{Entry}
-use Rattle.sh_map.specs.Map.{Map, get}
-use Rattle.sh_map.specs.Log.{map_of, map_at}
-use Rattle.sh_map.proofs.LogLemmas.{map_at-length}
-use Rattle.sh_image.specs.declared.leaf.LeafEntry.{LeafEntry}
-use Rattle.sh_image.specs.Leaf.{IsEntry}
-use Rattle.sh_edit.specs.Held.{held, no_entry}
-use Rattle.sh_edit.specs.Placing.{LacksKey}
-use Rattle.sh_edit.proofs.HeldLemmas.{held_at, held_none}
-use Rattle.sh_state.specs.Nodes.{low_in, high_in, standing_entries, IsStandingLeaf}
-use Rattle.sh_state.proofs.EntryWords.{length-entries_of}
-use Rattle.sh_readers.specs.Points.{standing_entry, HadSince, IsEntrySince, IsGoodNode}
-use Rattle.sh_readers.proofs.KeyLemmas.{first_with, first_or_none}
+use Rattle.sh_base.specs.{declared.config.ConfigParts.{ConfigParts}, Setting.{node_size}}
+use Rattle.sh_map.{specs.{declared.log.Entry.{Entry}, Map.{Map, get}, Log.{map_of, map_at}}, proofs.LogLemmas.{map_at-length}}
+use Rattle.sh_image.specs.{declared.leaf.LeafEntry.{LeafEntry}, Leaf.{IsEntry}}
+use Rattle.sh_edit.{specs.{Held.{held, no_entry}, Placing.{LacksKey}}, proofs.HeldLemmas.{held_at, held_none}}
+use Rattle.sh_state.{specs.Nodes.{low_in, high_in, standing_entries, IsStandingLeaf}, proofs.EntryWords.{length-entries_of}}
+use Rattle.sh_readers.{specs.Points.{standing_entry, HadSince, IsEntrySince, IsGoodNode}, proofs.KeyLemmas.{first_with, first_or_none}}
 
 pub HadAt-more : (log more : List Entry) (first key : ℕ) (had : Option (List ℕ)) → HadSince log first key had → HadSince (log ++ more) first key had
 HadAt-more log more first key had h = (h.0, h.1, omega (arith, h.2, length-append log more), ap (λ (es : List Entry). get (map_of es) key) (take-append-le h.0 log more h.2) ∙ h.3)

@@ -1,16 +1,11 @@
 -- The rows of a cache, as images in hand.
-use Rattle.std.proofs.Common.{◌≡◌, ℕ, zero, suc, ◌<◌, ◌≤◌, Bool, true, false, List, [], ◌∷◌, ◌++◌, Some, length, drop, sym, subst, arith}
-use Rattle.std.specs.Prelude.{◌==◌, if◌then◌else◌, nat_lt, slice_get}
-use Rattle.std.specs.List.{AllByRecursion}
-use Rattle.std.proofs.lemmas.Bool.Decides.{nat_tests}
+use Rattle.std.{proofs.Common.{◌≡◌, ℕ, zero, suc, ◌<◌, ◌≤◌, Bool, true, false, List, [], ◌∷◌, ◌++◌, Some, length, drop, sym, subst, arith}, specs.Prelude.{◌==◌, if◌then◌else◌, nat_lt, slice_get}}
+use Rattle.std.{specs.List.{AllByRecursion}, proofs.lemmas.Bool.Decides.{nat_tests}}
 use Rattle.sh_base.specs.declared.config.ConfigParts.{ConfigParts}
-use Rattle.sh_image.specs.declared.inner.Image.TheVariants.{Inner as InnerImage}
-use Rattle.sh_image.specs.Inner.{Inner}
+use Rattle.sh_image.specs.{declared.inner.Image.TheVariants.{Inner as InnerImage}, Inner.{Inner}}
 use Rattle.sh_cache.specs.Cached.{has_low, replaced, added, kept, forgotten, covers, FoundBy}
-use Rattle.sh_state.specs.TreeState.{Linked, Owner, TreeState}
-use Rattle.sh_state.specs.Change.{ChangeFor}
-use Rattle.sh_readers.specs.Hand.{IsImageOf, AreRowsOf}
-use Rattle.sh_readers.proofs.HandLemmas.{image_linked}
+use Rattle.sh_state.specs.{TreeState.{Linked, Owner, TreeState}, Change.{ChangeFor}}
+use Rattle.sh_readers.{specs.Hand.{IsImageOf, AreRowsOf}, proofs.HandLemmas.{image_linked}}
 
 pub all_get : (P : Inner → Type 0) (xs : List Inner) (i : ℕ) (x : Inner) → AllByRecursion P xs → slice_get xs i ≡ Some x → P x
 all_get P [] i x h e = absurd (cc)

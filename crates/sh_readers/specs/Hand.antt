@@ -1,12 +1,8 @@
 -- What a client has in hand of the tree: nodes that it is on its way from, and their images.
-use Rattle.std.specs.Prelude.{◌≡◌, ℕ, suc, ◌-◌, ◌^◌, ◌<◌, ◌≤◌, List}
-use Rattle.std.specs.List.{AllByRecursion}
-use Rattle.sh_image.specs.declared.inner.Image.{Image}
-use Rattle.sh_image.specs.declared.inner.Image.TheVariants.{Inner as InnerImage}
-use Rattle.sh_image.specs.Inner.{Inner}
+use Rattle.std.specs.{Prelude.{◌≡◌, ℕ, suc, ◌-◌, ◌^◌, ◌<◌, ◌≤◌, List}, List.{AllByRecursion}}
+use Rattle.sh_image.specs.{declared.inner.Image.{Image, TheVariants.{Inner as InnerImage}}, Inner.{Inner}}
 use Rattle.sh_descend.specs.Descent.{level_of, low_of, high_of, next_of, image_pairs, HasSortedPairs}
-use Rattle.sh_state.specs.TreeState.{Linked, TreeState}
-use Rattle.sh_state.specs.Nodes.{LeadDown, LeadsRight}
+use Rattle.sh_state.specs.{TreeState.{Linked, TreeState}, Nodes.{LeadDown, LeadsRight}}
 
 -- a node of a level in hand, on the way to a key: it is linked there for good, and begins no later than the key
 pub record IsNamed (s : TreeState) (level n key : ℕ) : Type 0 where

@@ -1,11 +1,9 @@
 -- What a READ of a linked node knows while it is under way.
 use Rattle.std.specs.Prelude.{◌≢◌, ℕ, zero, suc, ◌-◌, ◌<◌, ◌≤◌, List, ◌++◌, length, replicate, None}
-use Rattle.sh_base.specs.declared.config.ConfigParts.{ConfigParts}
-use Rattle.sh_base.specs.Setting.{node_size}
+use Rattle.sh_base.specs.{declared.config.ConfigParts.{ConfigParts}, Setting.{node_size}}
 use Rattle.sh_map.specs.declared.log.Entry.{Entry}
 use Rattle.sh_edit.specs.Held.{key_at}
-use Rattle.sh_read.specs.Moments.{Writing}
-use Rattle.sh_read.specs.Reading.{IsCalm, FitsRead}
+use Rattle.sh_read.specs.{Moments.{Writing}, Reading.{IsCalm, FitsRead}}
 use Rattle.sh_state.specs.Nodes.{low_in, high_in, standing_entries}
 use Rattle.sh_readers.specs.Points.{HadSince, IsGoodNode, FitsKey, LoadedFrom, Agree}
 

@@ -1,30 +1,14 @@
 -- The laws of READs, hops and ranges: what a READ knows and has found, where hops lead, and what ranges gather.
 use Rattle.std.specs.Prelude.{◌≡◌, ◌≢◌, ◌+◌, ◌≤◌, ℕ, suc, List, [], ◌∷◌, ◌++◌, length, slice_index, slice_set, ◌-◌, ◌<◌, ◌^◌, Some}
-use Rattle.sh_base.specs.Setting.{node_size}
-use Rattle.sh_map.specs.declared.log.Entry.{Entry}
-use Rattle.sh_map.specs.declared.book.Row.{Row}
-use Rattle.sh_map.specs.Book.{AnswersRange}
-use Rattle.sh_image.specs.declared.leaf.LeafEntry.{LeafEntry}
+use Rattle.sh_base.specs.{Setting.{node_size}, Layout.{node_word, rear_at}, declared.config.ConfigParts.{ConfigParts}}
+use Rattle.sh_map.specs.{declared.{log.Entry.{Entry}, book.Row.{Row}}, Book.{AnswersRange}}
+use Rattle.sh_image.specs.{declared.{leaf.LeafEntry.{LeafEntry}, read.Seen.TheVariants.{Odd}, inner.Image.{Image, TheVariants.{Leaf as LeafImage, Inner as InnerImage}}}, Seen.{IsUntorn, SeenBy}}
+use Rattle.sh_image.specs.{Leaf.{leaf_in}, Inner.{Inner, inner_in}}
 use Rattle.sh_edit.specs.Ranging.{end_in, taken, upto_of}
-use Rattle.sh_state.specs.Nodes.{low_in, high_in}
-use Rattle.sh_base.specs.Layout.{node_word, rear_at}
-use Rattle.sh_image.specs.Seen.{IsUntorn, SeenBy}
-use Rattle.sh_image.specs.declared.read.Seen.TheVariants.{Odd}
-use Rattle.sh_state.specs.TreeState.{TreeState, Linked, Owner, writing}
-use Rattle.sh_state.specs.Ground.{Ground}
-use Rattle.sh_state.specs.Change.{Change, ChangeFor}
-use Rattle.sh_readers.specs.Points.{IsReadLeaf}
-use Rattle.sh_readers.specs.Knows.{fed_from, IsFed, IsKnown}
-use Rattle.sh_image.specs.declared.inner.Image.{Image}
-use Rattle.sh_image.specs.declared.inner.Image.TheVariants.{Leaf as LeafImage, Inner as InnerImage}
-use Rattle.sh_image.specs.Leaf.{leaf_in}
-use Rattle.sh_image.specs.Inner.{Inner, inner_in}
+use Rattle.sh_state.specs.{Nodes.{low_in, high_in}, TreeState.{TreeState, Linked, Owner, writing}, Ground.{Ground}, Change.{Change, ChangeFor}}
+use Rattle.sh_readers.specs.{Points.{IsReadLeaf}, Knows.{fed_from, IsFed, IsKnown}, Hand.{IsNamed, IsImageOf, AreRowsOf}, Ranges.{IsGathered, HeldSince, IsDone, IsBehind}}
 use Rattle.sh_cache.specs.Cached.{kept, forgotten, FoundBy}
-use Rattle.sh_descend.specs.declared.Hop.TheVariants.{Here, Right, Down, Restart}
-use Rattle.sh_descend.specs.Descent.{hop_of, high_of}
-use Rattle.sh_readers.specs.Hand.{IsNamed, IsImageOf, AreRowsOf}
-use Rattle.sh_readers.specs.Ranges.{IsGathered, HeldSince, IsDone, IsBehind}
-use Rattle.sh_base.specs.declared.config.ConfigParts.{ConfigParts}
+use Rattle.sh_descend.specs.{declared.Hop.TheVariants.{Here, Right, Down, Restart}, Descent.{hop_of, high_of}}
 
 -- ---- reads know
 abbrev pub ReadsBeginKnowing : ConfigParts → Type 0

@@ -1,13 +1,8 @@
 -- What a READ of a leaf found, as points of the log since it began.
 use Rattle.std.specs.Prelude.{◌≡◌, ◌≢◌, ◌⊎◌, ℕ, ◌<◌, ◌≤◌, List, length, slice_index, slice_index_or, Option, Some}
-use Rattle.sh_base.specs.declared.config.ConfigParts.{ConfigParts}
-use Rattle.sh_base.specs.Setting.{node_size}
-use Rattle.sh_base.specs.Layout.{entry_at, entry_rear_at}
-use Rattle.sh_map.specs.declared.log.Entry.{Entry}
-use Rattle.sh_map.specs.Map.{get}
-use Rattle.sh_map.specs.Log.{map_at}
-use Rattle.sh_image.specs.declared.leaf.LeafEntry.{LeafEntry}
-use Rattle.sh_image.specs.Leaf.{IsEntry, leaf_in, Spells}
+use Rattle.sh_base.specs.{declared.config.ConfigParts.{ConfigParts}, Setting.{node_size}, Layout.{entry_at, entry_rear_at}}
+use Rattle.sh_map.specs.{declared.log.Entry.{Entry}, Map.{get}, Log.{map_at}}
+use Rattle.sh_image.specs.{declared.leaf.LeafEntry.{LeafEntry}, Leaf.{IsEntry, leaf_in, Spells}}
 use Rattle.sh_edit.specs.Held.{held, key_at, no_entry}
 use Rattle.sh_state.specs.Nodes.{low_in, high_in, next_in, standing_entries}
 

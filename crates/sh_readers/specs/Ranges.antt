@@ -1,12 +1,8 @@
 -- What a range has gathered, leaf by leaf, and what it has behind a leaf.
-use Rattle.std.specs.Prelude.{◌≡◌, ◌⊎◌, ℕ, ◌+◌, ◌<◌, ◌≤◌, List, ◌++◌, length, map, All, AllPairs}
-use Rattle.std.specs.FinMap.{from_entries}
-use Rattle.sh_map.specs.declared.log.Entry.{Entry}
-use Rattle.sh_map.specs.declared.book.Row.{Row}
-use Rattle.sh_map.specs.Map.{get, row_pair}
+use Rattle.std.specs.{Prelude.{◌≡◌, ◌⊎◌, ℕ, ◌+◌, ◌<◌, ◌≤◌, List, ◌++◌, length, map, All, AllPairs}, FinMap.{from_entries}}
+use Rattle.sh_map.specs.{declared.{log.Entry.{Entry}, book.Row.{Row}}, Map.{get, row_pair}}
 use Rattle.sh_image.specs.declared.leaf.LeafEntry.{LeafEntry}
-use Rattle.sh_edit.specs.Held.{held}
-use Rattle.sh_edit.specs.Ranging.{last_key, upto_of}
+use Rattle.sh_edit.specs.{Held.{held}, Ranging.{last_key, upto_of}}
 use Rattle.sh_readers.specs.Points.{HadSince}
 
 -- A range from low on has reached a place: its rows rise and lie in low..place, and each key of low..place has its row's

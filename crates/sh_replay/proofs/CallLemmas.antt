@@ -1,36 +1,17 @@
 -- The calls of a world are those that it was given, whatever turns are made; and a map has no more keys than its log has
 -- entries.
 use Rattle.std.proofs.Common.{◌≡◌, ◌≤◌, ℕ, zero, suc, ◌+◌, ◌-◌, Bool, true, false, cond, List, [], ◌∷◌, ◌++◌, map, length, Option, Some, None, refl, sym, ap, ◌∙◌, append_assoc, inl, inr, arith}
-use Rattle.std.specs.Prelude.{All, filter, slice_get, if◌then◌else◌}
-use Rattle.std.specs.List.{fold, range_with_len}
-use Rattle.std.specs.FinMap.{contains_key, len-insert, len-remove}
-use Rattle.std.proofs.lemmas.List.{append-nil, map-append}
-use Rattle.std.proofs.lemmas.List.Elements.{All-head, All-tail, filter-append}
-use Rattle.std.specs.Cmp.{nat_cmp_total}
-use Rattle.sh_base.specs.declared.config.ConfigParts.{ConfigParts}
-use Rattle.sh_base.specs.Setting.{all_seats}
-use Rattle.sh_map.specs.declared.call.Call.{Call}
-use Rattle.sh_map.specs.declared.call.Reply.{Reply}
-use Rattle.sh_map.specs.declared.book.Row.{Row}
-use Rattle.sh_map.specs.declared.log.Change.{Change}
+use Rattle.std.{specs.{Prelude.{All, filter, slice_get, if◌then◌else◌}, List.{fold, range_with_len}, FinMap.{contains_key, len-insert, len-remove}}, proofs.lemmas.List.{append-nil, map-append}}
+use Rattle.std.{proofs.lemmas.List.Elements.{All-head, All-tail, filter-append}, specs.Cmp.{nat_cmp_total}}
+use Rattle.sh_base.specs.{declared.config.ConfigParts.{ConfigParts}, Setting.{all_seats}}
+use Rattle.sh_map.specs.{declared.{call.{Call.{Call}, Reply.{Reply}}, book.Row.{Row}, log.{Change.{Change}, Entry.{Entry}}}, Map.{Map, size}, Log.{changed, map_from}}
 use Rattle.sh_map.specs.declared.log.Change.TheVariants as change
-use Rattle.sh_map.specs.declared.log.Entry.{Entry}
-use Rattle.sh_map.specs.Map.{Map, size}
-use Rattle.sh_map.specs.Log.{changed, map_from}
-use Rattle.sh_client.specs.declared.state.Want.{Want}
+use Rattle.sh_client.specs.{declared.state.Want.{Want}, Wants.{want_of}}
 use Rattle.sh_client.specs.declared.state.Want.TheVariants as want
-use Rattle.sh_client.specs.Wants.{want_of}
-use Rattle.sh_sheet.specs.declared.item.Item.{Item}
-use Rattle.sh_sheet.specs.declared.item.Item.TheVariants.{Ask, Mark, After, Turn}
-use Rattle.sh_world.specs.States.{Given, Place, State, answered, fresh_call}
-use Rattle.sh_world.specs.Turning.{asked, give_at, took, turn_at, turn_of}
-use Rattle.sh_replay.specs.Course.{ask, given_by, last_round, round, rounds, turned_by, turns_by, Rounds}
-use Rattle.sh_replay.specs.Served.{is_call, item_of}
-use Rattle.sh_replay.specs.Serving.{IsServable}
-use Rattle.sh_replay.proofs.EndLemmas.{there_is}
-use Rattle.sh_replay.proofs.ItemLemmas.{given_keeps, turned_setting}
-use Rattle.sh_replay.proofs.TurnLemmas.{turn_setting}
-use Rattle.sh_replay.proofs.RoundLemmas.{asks}
+use Rattle.sh_sheet.specs.declared.item.Item.{Item, TheVariants.{Ask, Mark, After, Turn}}
+use Rattle.sh_world.specs.{States.{Given, Place, State, answered, fresh_call}, Turning.{asked, give_at, took, turn_at, turn_of}}
+use Rattle.sh_replay.{specs.{Course.{ask, given_by, last_round, round, rounds, turned_by, turns_by, Rounds}, Served.{is_call, item_of}, Serving.{IsServable}}, proofs.EndLemmas.{there_is}}
+use Rattle.sh_replay.proofs.{ItemLemmas.{given_keeps, turned_setting}, TurnLemmas.{turn_setting}, RoundLemmas.{asks}}
 
 abbrev pub items_of : State → List Item
 items_of s = map item_of s.calls

@@ -1,21 +1,12 @@
 -- All seats are idle exactly where every call has ended.
 use Rattle.std.proofs.Common.{◌≡◌, ◌≢◌, ◌≤◌, ◌<◌, ◌*◌, ℕ, zero, suc, ◌+◌, Bool, true, false, List, [], ◌∷◌, ◌++◌, length, Option, Some, None, refl, sym, ap, ◌∙◌, arith}
-use Rattle.std.proofs.lemmas.Bool.{and_parts, eqb-true}
-use Rattle.std.specs.Prelude.{◌==◌, ◌&&◌, is_some, slice_get}
-use Rattle.std.proofs.lemmas.Bool.Decides.{nat_tests}
-use Rattle.std.proofs.lemmas.Option.{slice_get_within}
-use Rattle.sh_base.specs.declared.config.ConfigParts.{ConfigParts}
-use Rattle.sh_base.specs.Setting.{all_seats, IsSetting}
-use Rattle.sh_map.specs.declared.call.Reply.{Reply}
-use Rattle.sh_map.specs.declared.book.Done.{Done}
-use Rattle.sh_client.specs.Rests.{is_resting}
-use Rattle.sh_client.specs.Wants.{want_in, want_of}
+use Rattle.std.{proofs.lemmas.{Bool.{and_parts, eqb-true, Decides.{nat_tests}}, Option.{slice_get_within}}, specs.Prelude.{◌==◌, ◌&&◌, is_some, slice_get}}
+use Rattle.sh_base.specs.{declared.config.ConfigParts.{ConfigParts}, Setting.{all_seats, IsSetting}}
+use Rattle.sh_map.specs.declared.{call.Reply.{Reply}, book.Done.{Done}}
+use Rattle.sh_client.specs.{Rests.{is_resting}, Wants.{want_in, want_of}}
 use Rattle.sh_core.specs.Actors.{Actor}
-use Rattle.sh_world.specs.States.{Given, HasActor, Place, State, done_in, dones_by, dones_from}
-use Rattle.sh_world.specs.Turning.{is_done, is_idle, is_idle_at}
-use Rattle.sh_world.specs.Running.{IsPlace, IsRunning, numbers_from}
-use Rattle.sh_replay.specs.Course.{have_ended}
-use Rattle.sh_replay.specs.Thinning.{AllIdle}
+use Rattle.sh_world.specs.{States.{Given, HasActor, Place, State, done_in, dones_by, dones_from}, Turning.{is_done, is_idle, is_idle_at}, Running.{IsPlace, IsRunning, numbers_from}}
+use Rattle.sh_replay.specs.{Course.{have_ended}, Thinning.{AllIdle}}
 
 abbrev one : Bool → ℕ
 one true = 1

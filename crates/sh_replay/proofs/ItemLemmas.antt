@@ -1,20 +1,11 @@
 -- The items of a sheet, one after another.
-use Rattle.std.proofs.Common.{◌≡◌, ◌≤◌, ◌<◌, ℕ, zero, suc, ◌+◌, ◌-◌, ◌^◌, List, [], ◌∷◌, ◌++◌, length, take, get_or, refl, sym, ap, subst, ◌∙◌, arith}
-use Rattle.std.specs.Prelude.{All, Option, Some, None}
-use Rattle.std.specs.List.{fold, sum_by}
-use Rattle.std.proofs.lemmas.List.{append-nil, length-append, take_more}
-use Rattle.std.proofs.lemmas.List.Sums.{fold_more, sum_by-cons}
+use Rattle.std.{proofs.Common.{◌≡◌, ◌≤◌, ◌<◌, ℕ, zero, suc, ◌+◌, ◌-◌, ◌^◌, List, [], ◌∷◌, ◌++◌, length, take, get_or, refl, sym, ap, subst, ◌∙◌, arith}, specs.Prelude.{All, Option, Some, None}}
+use Rattle.std.{specs.List.{fold, sum_by}, proofs.lemmas.List.{append-nil, length-append, take_more, Sums.{fold_more, sum_by-cons}}}
 use Rattle.sh_base.specs.declared.config.ConfigParts.{ConfigParts}
 use Rattle.sh_map.specs.declared.call.Call.{Call}
-use Rattle.sh_sheet.specs.declared.item.Item.{Item}
-use Rattle.sh_sheet.specs.declared.item.Item.TheVariants.{Ask, Mark, After, Turn}
-use Rattle.sh_sheet.specs.Sheet.{item_calls}
-use Rattle.sh_world.specs.States.{Place, State, fresh_call}
-use Rattle.sh_world.specs.Turning.{give_at}
-use Rattle.sh_replay.specs.declared.turns.TurnRow.{TurnRow}
-use Rattle.sh_replay.specs.Course.{given_by, turned_by, turns_by}
-use Rattle.sh_replay.specs.TurnRows.{made_by, turn_rows}
-use Rattle.sh_replay.specs.Serving.{IsServable}
+use Rattle.sh_sheet.specs.{declared.item.Item.{Item, TheVariants.{Ask, Mark, After, Turn}}, Sheet.{item_calls}}
+use Rattle.sh_world.specs.{States.{Place, State, fresh_call}, Turning.{give_at}}
+use Rattle.sh_replay.specs.{declared.turns.TurnRow.{TurnRow}, Course.{given_by, turned_by, turns_by}, TurnRows.{made_by, turn_rows}, Serving.{IsServable}}
 use Rattle.sh_replay.proofs.TurnLemmas.{give_seats, give_setting, turns_seats, turns_setting}
 
 -- one item more

@@ -1,25 +1,13 @@
 -- The lines of calls, one after another.
 use Rattle.std.proofs.Common.{◌≡◌, ◌<◌, ◌≤◌, Bool, ℕ, ◌+◌, true, false, List, [], ◌∷◌, ◌++◌, map, length, take, drop, get_or, Option, Some, None, refl, sym, ap, ◌∙◌, append_assoc, arith}
-use Rattle.std.proofs.lemmas.List.{append-nil, drop_more, length-take-le, take-append-drop, take_more}
-use Rattle.std.specs.List.{flat_map}
-use Rattle.std.proofs.lemmas.List.Concat.{flat_map-append}
-use Rattle.std.proofs.lemmas.List.Folds.{list_all_at, list_all_more}
-use Rattle.std.proofs.lemmas.List.Sums.{sum_by_more}
-use Rattle.std.proofs.lemmas.Option.{get_or_from_slice_get, slice_get_within}
-use Rattle.std.proofs.lemmas.Bool.{and_parts}
-use Rattle.std.specs.Prelude.{◌&&◌, if◌then◌else◌, is_some, slice_get}
-use Rattle.sh_map.specs.declared.call.Reply.{Reply}
-use Rattle.sh_map.specs.declared.book.Done.{Done}
-use Rattle.sh_map.specs.declared.book.Row.{Row}
-use Rattle.sh_port.specs.Port.{AppendsFront}
-use Rattle.sh_port.proofs.Bytes.{appends_none}
-use Rattle.sh_text.specs.Text.{calls_text, row_line}
+use Rattle.std.{proofs.lemmas.List.{append-nil, drop_more, length-take-le, take-append-drop, take_more, Concat.{flat_map-append}, Folds.{list_all_at, list_all_more}}, specs.List.{flat_map}}
+use Rattle.std.{proofs.lemmas.{List.Sums.{sum_by_more}, Option.{get_or_from_slice_get, slice_get_within}, Bool.{and_parts}}, specs.Prelude.{◌&&◌, if◌then◌else◌, is_some, slice_get}}
+use Rattle.sh_map.specs.declared.{call.Reply.{Reply}, book.{Done.{Done}, Row.{Row}}}
+use Rattle.sh_port.{specs.Port.{AppendsFront}, proofs.Bytes.{appends_none}}
+use Rattle.sh_text.{specs.Text.{calls_text, row_line}, proofs.Fronts.{front_more, part_at}}
 use Rattle.sh_text.specs.declared.points.Points.TheVariants as points
-use Rattle.sh_text.proofs.Fronts.{front_more, part_at}
 use Rattle.sh_world.specs.States.{Given, done_in, dones_from}
-use Rattle.sh_replay.specs.Course.{have_ended}
-use Rattle.sh_replay.specs.Output.{count_ended, ended_by, lines_from, text_with}
-use Rattle.sh_replay.specs.Served.{done_item, item_of}
+use Rattle.sh_replay.specs.{Course.{have_ended}, Output.{count_ended, ended_by, lines_from, text_with}, Served.{done_item, item_of}}
 
 -- a front of the first part is one of the whole
 pub front_of_first : (a b : Option (List ℕ)) (first second : List ℕ) → AppendsFront a b first → AppendsFront a b (first ++ second)

@@ -3,18 +3,13 @@ use Rattle.std.proofs.Common.{◌≡◌, ℕ, Bool, List, Option, sym, ap, ◌�
 use Rattle.sh_base.specs.declared.config.ConfigParts.{ConfigParts}
 use Rattle.sh_map.specs.declared.book.Row.{Row}
 use Rattle.sh_port.specs.Intake.{TookAll}
-use Rattle.sh_sheet.specs.declared.item.Item.{Item}
-use Rattle.sh_sheet.specs.declared.item.Mode.TheVariants.{Replay}
-use Rattle.sh_sheet.specs.Sheet.{Items, AreFew, sheet_of}
-use Rattle.sh_text.specs.declared.write.WriteError.{WriteError}
+use Rattle.sh_sheet.specs.{declared.item.{Item.{Item}, Mode.TheVariants.{Replay}}, Sheet.{Items, AreFew, sheet_of}}
+use Rattle.sh_text.specs.{declared.write.WriteError.{WriteError}, Write.{CauseOf}}
 use Rattle.sh_text.specs.declared.write.WriteError.TheVariants as error
-use Rattle.sh_text.specs.Write.{CauseOf}
 use Rattle.sh_options.specs.Order.{Asked}
 use Rattle.sh_world.specs.States.{State}
-use Rattle.sh_replay.specs.declared.ending.Finish.{Finish}
+use Rattle.sh_replay.specs.{declared.ending.Finish.{Finish}, Headline.{ended_with, unwritten, HalfWritten, Replayed, Served, Written}, Served.{HasServed}}
 use Rattle.sh_replay.specs.declared.ending.Finish.TheVariants as finish
-use Rattle.sh_replay.specs.Headline.{ended_with, unwritten, HalfWritten, Replayed, Served, Written}
-use Rattle.sh_replay.specs.Served.{HasServed}
 
 pub served_of : (p : ConfigParts) (left rest : Option (List ℕ)) (before now : ℕ) (s : State) (end : Finish) (rows : List Row) (bytes slice : List ℕ) (headed : Bool) (items : List Item) → TookAll left rest before now bytes → slice ≡ bytes → sheet_of p Replay slice ≡ Items headed items → AreFew p items → HasServed p items s end rows → Served p left rest before now s end rows
 served_of p left rest before now s end rows bytes slice headed items took same reads few served = record {

@@ -1,21 +1,11 @@
 -- The rounds of a replay: idle seats may be left out, and behind as many rounds as turns may be made nothing changes.
 use Rattle.std.proofs.Common.{◌≡◌, ◌≢◌, ◌⊎◌, ◌<◌, ◌≤◌, ℕ, zero, suc, ◌+◌, ◌-◌, Bool, true, false, List, [], ◌∷◌, ◌++◌, length, take, drop, set, get_or, refl, sym, ap, subst, ◌∙◌, inl, inr, arith}
-use Rattle.std.specs.Prelude.{◌==◌, if◌then◌else◌, slice_get, All}
-use Rattle.std.specs.List.{fold, range_with_len}
-use Rattle.std.proofs.lemmas.Bool.{cases_eq}
-use Rattle.std.proofs.lemmas.Bool.Decides.{nat_tests}
-use Rattle.std.proofs.Math.Seq.{take-add}
-use Rattle.std.proofs.lemmas.List.{get_or-set_other, get_or-take, length-take-le, take_more, take_more_set}
-use Rattle.std.proofs.lemmas.List.Sums.{fold-append, fold_push}
-use Rattle.std.proofs.lemmas.List.Elements.{All-cons, All-head, All-nil, All-tail}
+use Rattle.std.{specs.{Prelude.{◌==◌, if◌then◌else◌, slice_get, All}, List.{fold, range_with_len}}, proofs.{lemmas.Bool.{cases_eq, Decides.{nat_tests}}, Math.Seq.{take-add}}}
+use Rattle.std.proofs.lemmas.List.{get_or-set_other, get_or-take, length-take-le, take_more, take_more_set, Sums.{fold-append, fold_push}, Elements.{All-cons, All-head, All-nil, All-tail}}
 use Rattle.std.proofs.lemmas.Option.{slice_get_past}
 use Rattle.sh_logic.proofs.Tests.{not_true}
-use Rattle.sh_world.specs.States.{State}
-use Rattle.sh_world.specs.Turning.{is_idle_at, turn_of}
-use Rattle.sh_replay.specs.Course.{ask, last_round, round, rounds, Rounds}
-use Rattle.sh_replay.specs.Thinning.{AllIdle, Thins}
-use Rattle.sh_world.proofs.LawLemmas.{turn_idle}
-use Rattle.sh_replay.proofs.TurnLemmas.{idle_stays, turn_seats}
+use Rattle.sh_world.{specs.{States.{State}, Turning.{is_idle_at, turn_of}}, proofs.LawLemmas.{turn_idle}}
+use Rattle.sh_replay.{specs.{Course.{ask, last_round, round, rounds, Rounds}, Thinning.{AllIdle, Thins}}, proofs.TurnLemmas.{idle_stays, turn_seats}}
 
 -- ---- one seat is asked
 

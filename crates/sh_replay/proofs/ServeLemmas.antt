@@ -1,36 +1,16 @@
 -- A sheet that a laid world was given and has served.
 use Rattle.std.proofs.Common.{◌≡◌, ◌≤◌, ◌<◌, ◌*◌, ℕ, zero, suc, ◌+◌, List, [], ◌∷◌, ◌++◌, map, length, Result, Ok, Err, refl, sym, ap, subst, ◌∙◌, arith}
-use Rattle.std.specs.Prelude.{All, IfOk, filter, true}
-use Rattle.std.specs.List.{fold, sum_by}
-use Rattle.std.specs.FinMap.{empty, entries, len-empty, len-entries}
-use Rattle.std.specs.Ordering.{nat_cmp}
-use Rattle.std.proofs.lemmas.List.{length-map}
+use Rattle.std.{specs.{Prelude.{All, IfOk, filter, true}, List.{fold, sum_by}, FinMap.{empty, entries, len-empty, len-entries}, Ordering.{nat_cmp}}, proofs.lemmas.List.{length-map}}
 use Rattle.std.proofs.lemmas.List.Sums.{sum_by-cons}
-use Rattle.sh_base.specs.declared.config.ConfigParts.{ConfigParts}
-use Rattle.sh_base.specs.Setting.{all_seats, IsSetting}
-use Rattle.sh_map.specs.declared.book.Row.{Row}
-use Rattle.sh_map.specs.Book.{IsClosed}
-use Rattle.sh_map.specs.Log.{map_of}
-use Rattle.sh_map.specs.Map.{Map, row_pair, size}
-use Rattle.sh_sheet.specs.declared.item.Item.{Item}
-use Rattle.sh_sheet.specs.declared.item.Item.TheVariants.{Ask, Mark, After, Turn}
-use Rattle.sh_sheet.specs.Sheet.{item_calls}
+use Rattle.sh_base.specs.{declared.config.ConfigParts.{ConfigParts}, Setting.{all_seats, IsSetting}}
+use Rattle.sh_map.specs.{declared.book.Row.{Row}, Book.{IsClosed}, Log.{map_of}, Map.{Map, row_pair, size}}
+use Rattle.sh_sheet.specs.{declared.item.Item.{Item, TheVariants.{Ask, Mark, After, Turn}}, Sheet.{item_calls}}
 use Rattle.sh_tree.specs.Tree.{IsTree, map_in}
 use Rattle.sh_image.specs.Laid.{AreLaid}
-use Rattle.sh_world.specs.Laws.{IsLawfulWorld}
-use Rattle.sh_world.specs.Running.{IsRunning}
-use Rattle.sh_world.specs.States.{State, dones_of, fresh_from, fresh_state}
-use Rattle.sh_world.specs.Turning.{is_idle_at}
-use Rattle.sh_replay.specs.declared.ending.Finish.{Finish}
-use Rattle.sh_replay.specs.declared.ending.Finish.TheVariants.{Done, Spent}
-use Rattle.sh_replay.specs.Course.{budget_of, course, finished, given_by, have_ended, last_round, turned_by, HasFinished, Rounds}
-use Rattle.sh_replay.specs.Served.{is_call, item_of, row_of, HasServed, HoldsAll, HoldsRows}
-use Rattle.sh_replay.specs.Serving.{IsServable}
-use Rattle.sh_replay.specs.declared.turns.TurnRow.{TurnRow}
-use Rattle.sh_replay.specs.TurnRows.{made_by, turn_rows}
-use Rattle.sh_replay.proofs.CallLemmas.{all_given, finished_same, map_size}
-use Rattle.sh_replay.proofs.EndLemmas.{all_rest, idle_ended}
-use Rattle.sh_replay.proofs.ItemLemmas.{given_seats, given_setting, rows_turn, turned_seats}
+use Rattle.sh_world.specs.{Laws.{IsLawfulWorld}, Running.{IsRunning}, States.{State, dones_of, fresh_from, fresh_state}, Turning.{is_idle_at}}
+use Rattle.sh_replay.specs.{declared.ending.Finish.{Finish, TheVariants.{Done, Spent}}, Course.{budget_of, course, finished, given_by, have_ended, last_round, turned_by, HasFinished, Rounds}}
+use Rattle.sh_replay.specs.{Served.{is_call, item_of, row_of, HasServed, HoldsAll, HoldsRows}, Serving.{IsServable}, declared.turns.TurnRow.{TurnRow}, TurnRows.{made_by, turn_rows}}
+use Rattle.sh_replay.proofs.{CallLemmas.{all_given, finished_same, map_size}, EndLemmas.{all_rest, idle_ended}, ItemLemmas.{given_seats, given_setting, rows_turn, turned_seats}}
 use Rattle.sh_replay.proofs.RoundLemmas.{last_seats}
 
 -- what a world's laws give

@@ -1,13 +1,8 @@
 -- Items of which none is unserved.
-use Rattle.std.proofs.Common.{◌≡◌, ◌<◌, ℕ, suc, false, List, [], ◌∷◌, length, get_or, Option, Some, None, ◌≢◌, refl, sym, subst, arith}
-use Rattle.std.specs.Prelude.{All, not}
-use Rattle.std.proofs.lemmas.Bool.Decides.{nat_tests}
-use Rattle.std.proofs.lemmas.List.Elements.{All-cons, All-head, All-nil, All-tail}
-use Rattle.std.proofs.lemmas.List.Sums.{fails_before_first}
+use Rattle.std.{proofs.{Common.{◌≡◌, ◌<◌, ℕ, suc, false, List, [], ◌∷◌, length, get_or, Option, Some, None, ◌≢◌, refl, sym, subst, arith}, lemmas.Bool.Decides.{nat_tests}}, specs.Prelude.{All, not}}
+use Rattle.std.proofs.lemmas.List.{Elements.{All-cons, All-head, All-nil, All-tail}, Sums.{fails_before_first}}
 use Rattle.sh_base.specs.declared.config.ConfigParts.{ConfigParts}
-use Rattle.sh_sheet.specs.declared.item.Item.{Item}
-use Rattle.sh_sheet.specs.declared.item.Item.TheVariants.{Ask, Mark, After, Turn}
-use Rattle.sh_sheet.specs.Sheet.{IsLawfulItem}
+use Rattle.sh_sheet.specs.{declared.item.Item.{Item, TheVariants.{Ask, Mark, After, Turn}}, Sheet.{IsLawfulItem}}
 use Rattle.sh_replay.specs.Serving.{first_unserved, is_served, IsServable}
 
 -- a lawful item that is served is one that can be served

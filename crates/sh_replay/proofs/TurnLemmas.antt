@@ -1,16 +1,11 @@
 -- What a turn of a seat leaves of a world.
-use Rattle.std.proofs.Common.{◌≡◌, ◌≢◌, ◌⊎◌, ◌<◌, ℕ, zero, suc, ◌+◌, ◌-◌, true, List, length, Option, Some, None, refl, ap, subst, ◌∙◌, inl, inr, arith}
-use Rattle.std.specs.Prelude.{slice_get, slice_set}
-use Rattle.std.proofs.lemmas.Bool.{cases_eq}
-use Rattle.std.proofs.lemmas.List.{length-set}
+use Rattle.std.{proofs.Common.{◌≡◌, ◌≢◌, ◌⊎◌, ◌<◌, ℕ, zero, suc, ◌+◌, ◌-◌, true, List, length, Option, Some, None, refl, ap, subst, ◌∙◌, inl, inr, arith}, specs.Prelude.{slice_get, slice_set}}
+use Rattle.std.proofs.lemmas.{Bool.{cases_eq}, List.{length-set}}
 use Rattle.sh_logic.proofs.Lists.{set_else}
-use Rattle.sh_client.specs.declared.state.Want.{Want}
+use Rattle.sh_client.specs.{declared.state.Want.{Want}, Wants.{want_of}}
 use Rattle.sh_client.specs.declared.state.Want.TheVariants as want
-use Rattle.sh_client.specs.Wants.{want_of}
 use Rattle.sh_map.specs.declared.call.Call.{Call}
-use Rattle.sh_world.specs.States.{Place, State}
-use Rattle.sh_world.specs.Turning.{asked, give_at, give_of, is_idle_at, took, turn_at, turn_of}
-use Rattle.sh_world.proofs.LawLemmas.{turn_idle}
+use Rattle.sh_world.{specs.{States.{Place, State}, Turning.{asked, give_at, give_of, is_idle_at, took, turn_at, turn_of}}, proofs.LawLemmas.{turn_idle}}
 use Rattle.sh_replay.specs.Course.{turns_by}
 
 -- only the place of this seat differs

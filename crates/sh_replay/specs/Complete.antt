@@ -1,10 +1,7 @@
 -- A replay that meets nothing in its way.
 use Rattle.std.specs.Prelude.{ℕ, Bool, ◌≡◌, ◌≢◌, ◌<◌, ◌-◌, ◌^◌, List, length, Option, Some, None}
-use Rattle.sh_sheet.specs.declared.item.Item.{Item}
-use Rattle.sh_sheet.specs.declared.status.Status.{Status}
+use Rattle.sh_sheet.specs.{declared.{item.{Item.{Item}, Mode.TheVariants.{Replay}}, status.Status.{Status}}, Sheet.{Items, AreFew, sheet_of}}
 use Rattle.sh_sheet.specs.declared.status.Status.TheVariants as status
-use Rattle.sh_sheet.specs.declared.item.Mode.TheVariants.{Replay}
-use Rattle.sh_sheet.specs.Sheet.{Items, AreFew, sheet_of}
 use Rattle.sh_options.specs.Order.{Asked}
 use Rattle.sh_replay.specs.Serving.{first_unserved}
 

@@ -3,13 +3,9 @@
 use Rattle.std.specs.Prelude.{◌≡◌, ℕ, zero, suc, ◌+◌, ◌-◌, ◌*◌, ◌==◌, if◌then◌else◌, Bool, true, false, is_some, List, length, slice_get}
 use Rattle.std.specs.List.{fold, list_all, range_with_len, sum_by}
 use Rattle.sh_base.specs.declared.config.ConfigParts.{ConfigParts}
-use Rattle.sh_sheet.specs.declared.item.Item.{Item}
-use Rattle.sh_sheet.specs.declared.item.Item.TheVariants.{Ask, Mark, After, Turn}
-use Rattle.sh_sheet.specs.Sheet.{item_calls}
-use Rattle.sh_world.specs.States.{Given, State, fresh_state}
-use Rattle.sh_world.specs.Turning.{give_of, is_idle_at, turn_of}
-use Rattle.sh_replay.specs.declared.ending.Finish.{Finish}
-use Rattle.sh_replay.specs.declared.ending.Finish.TheVariants.{Done, Spent}
+use Rattle.sh_sheet.specs.{declared.item.Item.{Item, TheVariants.{Ask, Mark, After, Turn}}, Sheet.{item_calls}}
+use Rattle.sh_world.specs.{States.{Given, State, fresh_state}, Turning.{give_of, is_idle_at, turn_of}}
+use Rattle.sh_replay.specs.declared.ending.Finish.{Finish, TheVariants.{Done, Spent}}
 
 -- a call is given to its seat
 abbrev pub given_by : State → Item → State

@@ -1,26 +1,16 @@
 -- What a replay leaves, by how it ended.
-use Rattle.std.specs.Prelude.{ℕ, ◌≡◌, ◌⊎◌, Bool, List, Option, Some, None}
-use Rattle.std.specs.Io.KnownBytes.{Appends}
+use Rattle.std.specs.{Prelude.{ℕ, ◌≡◌, ◌⊎◌, Bool, List, Option, Some, None}, Io.KnownBytes.{Appends}}
 use Rattle.sh_base.specs.declared.config.ConfigParts.{ConfigParts}
 use Rattle.sh_map.specs.declared.book.Row.{Row}
-use Rattle.sh_sheet.specs.declared.item.Item.{Item}
-use Rattle.sh_sheet.specs.declared.item.Mode.TheVariants.{Replay}
-use Rattle.sh_sheet.specs.declared.status.RowCause.{RowCause}
-use Rattle.sh_sheet.specs.declared.status.RowCause.TheVariants.{NotYet}
-use Rattle.sh_sheet.specs.declared.status.Status.{Status}
-use Rattle.sh_sheet.specs.declared.status.Status.TheVariants as status
+use Rattle.sh_sheet.specs.declared.{item.{Item.{Item}, Mode.TheVariants.{Replay}}, status.{RowCause.{RowCause, TheVariants.{NotYet}}, Status.{Status}}}
 use Rattle.sh_sheet.specs.Sheet.{Reading, Items, Refused, AreFew, IsTooMany, sheet_of}
+use Rattle.sh_sheet.specs.declared.status.Status.TheVariants as status
 use Rattle.sh_text.specs.declared.write.WriteError.{WriteError}
 use Rattle.sh_text.specs.declared.write.WriteError.TheVariants as error
-use Rattle.sh_port.specs.Port.{HasRisen, AppendsFront}
-use Rattle.sh_port.specs.Intake.{TookAll, TookSome, TookMost}
+use Rattle.sh_port.specs.{Port.{HasRisen, AppendsFront}, Intake.{TookAll, TookSome, TookMost}}
 use Rattle.sh_options.specs.Order.{Asked}
 use Rattle.sh_world.specs.States.{State}
-use Rattle.sh_replay.specs.declared.ending.Finish.{Finish}
-use Rattle.sh_replay.specs.declared.ending.Finish.TheVariants.{Done as AllDone, Spent}
-use Rattle.sh_replay.specs.Output.{text_of}
-use Rattle.sh_replay.specs.Served.{HasServed}
-use Rattle.sh_replay.specs.Serving.{IsUnserved}
+use Rattle.sh_replay.specs.{declared.ending.Finish.{Finish, TheVariants.{Done as AllDone, Spent}}, Output.{text_of}, Served.{HasServed}, Serving.{IsUnserved}}
 
 -- The whole input was taken, and its reading is this one.
 pub record Read (p : ConfigParts) (left rest : Option (List ℕ)) (before now : ℕ) (reading : Reading) : Type 0 where

@@ -1,8 +1,6 @@
 -- The output of a replay: the lines of each call, and the last lines.
-use Rattle.std.specs.Prelude.{ℕ, ◌+◌, Bool, List, [], ◌∷◌, ◌++◌, length, sum, Option, Some, None, is_some, if◌then◌else◌}
-use Rattle.std.specs.List.{flat_map, sum_by}
-use Rattle.sh_map.specs.declared.book.Row.{Row}
-use Rattle.sh_map.specs.declared.call.Reply.{Reply}
+use Rattle.std.specs.{Prelude.{ℕ, ◌+◌, Bool, List, [], ◌∷◌, ◌++◌, length, sum, Option, Some, None, is_some, if◌then◌else◌}, List.{flat_map, sum_by}}
+use Rattle.sh_map.specs.declared.{book.Row.{Row}, call.Reply.{Reply}}
 use Rattle.sh_text.specs.declared.points.Points.TheVariants as points
 use Rattle.sh_text.specs.Text.{call_text, end_line, map_line, pending_line, unfinished_line}
 use Rattle.sh_world.specs.States.{Given}

@@ -1,22 +1,13 @@
 -- What is left of a sheet that was served.
-use Rattle.std.specs.Prelude.{◌≡◌, ◌≤◌, ℕ, Bool, true, false, List, [], map, filter, length}
-use Rattle.std.specs.FinMap.{entries}
-use Rattle.std.specs.List.{sum_by}
+use Rattle.std.specs.{Prelude.{◌≡◌, ◌≤◌, ℕ, Bool, true, false, List, [], map, filter, length}, FinMap.{entries}, List.{sum_by}}
 use Rattle.sh_base.specs.declared.config.ConfigParts.{ConfigParts}
-use Rattle.sh_map.specs.declared.book.Done.{Done}
-use Rattle.sh_map.specs.declared.book.Row.{Row}
-use Rattle.sh_map.specs.Book.{IsClosed, IsLawful}
-use Rattle.sh_map.specs.Log.{map_of}
-use Rattle.sh_sheet.specs.declared.item.Item.{Item}
-use Rattle.sh_sheet.specs.declared.item.Item.TheVariants.{Ask, Mark, After, Turn}
-use Rattle.sh_sheet.specs.Sheet.{item_calls}
+use Rattle.sh_map.specs.{declared.book.{Done.{Done}, Row.{Row}}, Book.{IsClosed, IsLawful}, Log.{map_of}}
+use Rattle.sh_sheet.specs.{declared.item.Item.{Item, TheVariants.{Ask, Mark, After, Turn}}, Sheet.{item_calls}}
 use Rattle.sh_tree.specs.Tree.{IsTree, map_in}
 use Rattle.sh_image.specs.Laid.{AreLaid}
-use Rattle.sh_world.specs.Laws.{RefusalsHaveCauses}
-use Rattle.sh_world.specs.States.{Given, State, dones_of}
-use Rattle.sh_replay.specs.declared.ending.Finish.{Finish}
+use Rattle.sh_world.specs.{Laws.{RefusalsHaveCauses}, States.{Given, State, dones_of}}
+use Rattle.sh_replay.specs.{declared.ending.Finish.{Finish}, Course.{budget_of, course, have_ended, HasFinished}}
 use Rattle.sh_replay.specs.declared.ending.Finish.TheVariants as finish
-use Rattle.sh_replay.specs.Course.{budget_of, course, have_ended, HasFinished}
 
 -- the row of a key and its value
 abbrev pub row_of : ℕ × List ℕ → Row

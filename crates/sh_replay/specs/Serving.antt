@@ -1,15 +1,9 @@
 -- What a replay serves for now: of words, and of items.
-use Rattle.std.specs.Prelude.{ℕ, ◌≡◌, ◌<◌, ◌||◌, Bool, true, false, not, is_some, List, Option, Some, None, option_and_then, if◌then◌else◌}
-use Rattle.std.specs.List.{position}
-use Rattle.sh_base.specs.declared.config.ConfigParts.{ConfigParts}
-use Rattle.sh_base.specs.Setting.{all_seats}
+use Rattle.std.specs.{Prelude.{ℕ, ◌≡◌, ◌<◌, ◌||◌, Bool, true, false, not, is_some, List, Option, Some, None, option_and_then, if◌then◌else◌}, List.{position}}
+use Rattle.sh_base.specs.{declared.config.ConfigParts.{ConfigParts}, Setting.{all_seats}}
 use Rattle.sh_map.specs.Calls.{IsInRange}
-use Rattle.sh_sheet.specs.declared.item.Item.{Item}
-use Rattle.sh_sheet.specs.declared.item.Item.TheVariants.{Ask, Mark, After, Turn}
-use Rattle.sh_sheet.specs.declared.item.Mode.TheVariants.{Replay}
-use Rattle.sh_sheet.specs.Sheet.{row_of}
-use Rattle.sh_options.specs.Order.{Asked, order_of}
-use Rattle.sh_options.specs.Uses.{Text}
+use Rattle.sh_sheet.specs.{declared.item.{Item.{Item, TheVariants.{Ask, Mark, After, Turn}}, Mode.TheVariants.{Replay}}, Sheet.{row_of}}
+use Rattle.sh_options.specs.{Order.{Asked, order_of}, Uses.{Text}}
 
 -- an order is served where it asks neither for the events nor for calls that are made
 abbrev pub if_served : Asked → Option Asked

@@ -1,7 +1,6 @@
 -- Lists of seats from which idle ones are left out.
 use Rattle.std.specs.Prelude.{◌≡◌, ◌⊎◌, ℕ, true, List, [], ◌∷◌, slice_get}
-use Rattle.sh_world.specs.States.{State}
-use Rattle.sh_world.specs.Turning.{is_idle_at}
+use Rattle.sh_world.specs.{States.{State}, Turning.{is_idle_at}}
 
 -- every seat is idle
 abbrev pub AllIdle : State → Type 0

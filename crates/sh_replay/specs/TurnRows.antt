@@ -1,10 +1,8 @@
 -- The turn rows of a sheet, apart from its other rows.
 use Rattle.std.specs.Prelude.{List, [], ◌∷◌}
-use Rattle.sh_sheet.specs.declared.item.Item.{Item}
-use Rattle.sh_sheet.specs.declared.item.Item.TheVariants.{Ask, Mark, After, Turn}
+use Rattle.sh_sheet.specs.declared.item.Item.{Item, TheVariants.{Ask, Mark, After, Turn}}
 use Rattle.sh_world.specs.States.{State}
-use Rattle.sh_replay.specs.declared.turns.TurnRow.{TurnRow}
-use Rattle.sh_replay.specs.Course.{turns_by}
+use Rattle.sh_replay.specs.{declared.turns.TurnRow.{TurnRow}, Course.{turns_by}}
 
 abbrev pub turn_rows : List Item → List TurnRow
 turn_rows [] = []

@@ -1,19 +1,11 @@
 // What the headline means for a caller.
-ghost use Rattle.std.specs.Prelude.{◌≡◌, ℕ, true, List, Option, map};
-ghost use Rattle.sh_sheet.specs.declared.status.Status.{Status};
-ghost use Rattle.std.specs.List.{sum_by};
-ghost use Rattle.sh_sheet.specs.Sheet.{item_calls};
+ghost use Rattle.std.specs.{Prelude.{◌≡◌, ℕ, true, List, Option, map}, List.{sum_by}};
+ghost use Rattle.sh_sheet.specs.{declared.status.Status.{Status}, Sheet.{item_calls}};
 ghost use Rattle.sh_text.specs.Text.{calls_text};
 ghost use Rattle.sh_text.specs.declared.points.Points.TheVariants as points;
-ghost use Rattle.sh_world.specs.States.{Given, dones_of, State};
-ghost use Rattle.sh_replay.specs.Output.{lines_from};
-ghost use Rattle.sh_replay.specs.Served.{done_item, item_of};
-ghost use Rattle.sh_world.specs.States.{IsBlank};
-ghost use Rattle.sh_replay.specs.Course.{budget_of, have_ended};
+ghost use Rattle.sh_world.specs.States.{Given, dones_of, State, IsBlank};
+ghost use Rattle.sh_replay.specs.{Output.{lines_from}, Served.{done_item, item_of}, Course.{budget_of, have_ended}, Serving.{accepted}, Headline.{Headline}, Complete.{IsFree, EndsWell, IsNoFault}};
 ghost use Rattle.sh_options.specs.Order.{Asked};
-ghost use Rattle.sh_replay.specs.Serving.{accepted};
-ghost use Rattle.sh_replay.specs.Headline.{Headline};
-ghost use Rattle.sh_replay.specs.Complete.{IsFree, EndsWell, IsNoFault};
 
 use crate::replay_top;
 use sh_port::{Sink, Source, SureSink, SureSource};

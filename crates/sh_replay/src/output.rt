@@ -1,10 +1,8 @@
 // The lines of a replay.
 ghost use Rattle.std.specs.Prelude.{◌≡◌, ◌<◌, ◌≤◌, ◌*◌, ◌^◌, if◌then◌else◌, is_some, length, sum, OnOk, OnErr};
-ghost use Rattle.std.specs.List.{flat_map, sum_by};
-ghost use Rattle.std.specs.Io.KnownBytes.{Appends};
+ghost use Rattle.std.specs.{List.{flat_map, sum_by}, Io.KnownBytes.{Appends}};
 ghost use Rattle.sh_port.specs.Port.{AppendsFront};
-ghost use Rattle.sh_text.specs.Text.{row_line};
-ghost use Rattle.sh_text.specs.Write.{HasWriteCause};
+ghost use Rattle.sh_text.specs.{Text.{row_line}, Write.{HasWriteCause}};
 ghost use Rattle.sh_world.specs.States.{rows_at, with_rows};
 ghost use Rattle.sh_replay.specs.Output.{count_ended, end_lines, last_lines, lines_from, map_lines, sum_of, text_of, text_with};
 

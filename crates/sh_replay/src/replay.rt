@@ -1,13 +1,11 @@
 // From the bytes in to the bytes out.
-ghost use Rattle.std.specs.Prelude.{◌≡◌, ◌≤◌, length, map, All, IfOk, OnOk, OnErr};
-ghost use Rattle.std.specs.Io.KnownBytes.{Appends};
+ghost use Rattle.std.specs.{Prelude.{◌≡◌, ◌≤◌, length, map, All, IfOk, OnOk, OnErr}, Io.KnownBytes.{Appends}};
 ghost use Rattle.sh_base.specs.Parts.{parts_of};
 ghost use Rattle.sh_port.specs.Port.{AppendsFront};
 ghost use Rattle.sh_text.specs.Write.{HasWriteCause};
 ghost use Rattle.sh_options.specs.Order.{asked_of};
 ghost use Rattle.sh_world.specs.States.{IsBlank};
-ghost use Rattle.sh_replay.specs.Serving.{accepted};
-ghost use Rattle.sh_replay.specs.Headline.{ended_with, unwritten, Headline, Replayed};
+ghost use Rattle.sh_replay.specs.{Serving.{accepted}, Headline.{ended_with, unwritten, Headline, Replayed}};
 
 use crate::Finish;
 use crate::output::write_lines;

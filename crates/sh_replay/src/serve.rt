@@ -1,12 +1,8 @@
 // A sheet is served by a world.
-ghost use Rattle.std.specs.Prelude.{◌≡◌, ◌≤◌, ◌<◌, [], All, IfOk, OnOk, length};
-ghost use Rattle.std.specs.List.{fold, sum_by};
-ghost use Rattle.sh_base.specs.Parts.{parts_of};
-ghost use Rattle.sh_base.specs.Setting.{all_seats};
+ghost use Rattle.std.specs.{Prelude.{◌≡◌, ◌≤◌, ◌<◌, [], All, IfOk, OnOk, length}, List.{fold, sum_by}};
+ghost use Rattle.sh_base.specs.{Parts.{parts_of}, Setting.{all_seats}};
 ghost use Rattle.sh_sheet.specs.Sheet.{item_calls};
-ghost use Rattle.sh_replay.specs.Course.{budget_of, given_by};
-ghost use Rattle.sh_replay.specs.Serving.{IsServable};
-ghost use Rattle.sh_replay.specs.Served.{HasEnded, HasServed, HoldsRows};
+ghost use Rattle.sh_replay.specs.{Course.{budget_of, given_by}, Serving.{IsServable}, Served.{HasEnded, HasServed, HoldsRows}};
 
 use crate::Finish;
 use crate::turns::{finish_rounds, take_all, turn_rows};

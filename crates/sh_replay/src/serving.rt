@@ -1,7 +1,6 @@
 // What a replay serves for now.
 ghost use Rattle.std.specs.Prelude.{◌≡◌, map, Some, None, IfOk, IsErrOf};
-ghost use Rattle.sh_options.specs.Order.{asked_of};
-ghost use Rattle.sh_options.specs.declared.order.WordFault.TheVariants.{Usage};
+ghost use Rattle.sh_options.specs.{Order.{asked_of}, declared.order.WordFault.TheVariants.{Usage}};
 ghost use Rattle.sh_replay.specs.Serving.{accepted, first_unserved, is_served};
 
 use sh_options::{Order, WordFault, read_words};

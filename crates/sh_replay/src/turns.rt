@@ -1,9 +1,6 @@
 // The turns of a replay: those that the sheet's rows name, and then the finishing rounds.
-ghost use Rattle.std.specs.Prelude.{◌≡◌, ◌≢◌, ◌≤◌, ◌<◌, ◌+◌, ℕ, [], All, IfOk, length, take};
-ghost use Rattle.std.specs.List.{fold, range_with_len};
-ghost use Rattle.sh_replay.specs.Course.{ask, finished, have_ended, last_round, turned_by, turns_by, HasFinished};
-ghost use Rattle.sh_replay.specs.Thinning.{AllIdle, Thins};
-ghost use Rattle.sh_replay.specs.TurnRows.{made_by, turn_rows};
+ghost use Rattle.std.specs.{Prelude.{◌≡◌, ◌≢◌, ◌≤◌, ◌<◌, ◌+◌, ℕ, [], All, IfOk, length, take}, List.{fold, range_with_len}};
+ghost use Rattle.sh_replay.specs.{Course.{ask, finished, have_ended, last_round, turned_by, turns_by, HasFinished}, Thinning.{AllIdle, Thins}, TurnRows.{made_by, turn_rows}};
 
 use crate::Finish;
 use sh_sheet::{Item, Sheet};

@@ -1,12 +1,7 @@
 -- Where a text is cut at its colons.
 use Rattle.std.proofs.Common.{ℕ, ◌≡◌, ◌<◌, ◌≤◌, ◌+◌, ◌-◌, ◌==◌, Bool, true, false, List, [], ◌∷◌, length, take, drop, Option, Some, None, refl, sym, ap, ◌∙◌, arith, ◌++◌, option_map, append_assoc}
-use Rattle.std.specs.List.{position, position_or_len}
-use Rattle.std.proofs.lemmas.Bool.Decides.{nat_tests}
-use Rattle.std.proofs.lemmas.List.{append-nil, take_rest}
-use Rattle.std.proofs.lemmas.List.Splits.{slice_split_first, length-slice_split}
-use Rattle.std.proofs.lemmas.Option.{cond_some}
-use Rattle.sh_sheet.specs.Number.{number_of}
-use Rattle.sh_sheet.specs.Row.{colon_parts, joined, numbers_of, value_in}
+use Rattle.std.{specs.List.{position, position_or_len}, proofs.lemmas.{Bool.Decides.{nat_tests}, List.{append-nil, take_rest, Splits.{slice_split_first, length-slice_split}}, Option.{cond_some}}}
+use Rattle.sh_sheet.specs.{Number.{number_of}, Row.{colon_parts, joined, numbers_of, value_in}}
 
 -- a byte that is a colon
 abbrev is_colon : ℕ → Bool

@@ -1,7 +1,6 @@
 -- The number that digits say, byte by byte.
 use Rattle.std.proofs.Common.{ℕ, ◌≡◌, ◌≤◌, ◌<◌, ◌+◌, ◌-◌, ◌*◌, ◌^◌, true, List, [], ◌∷◌, length, drop, get_or, Some, None, ap, arith}
-use Rattle.std.proofs.lemmas.Bool.Decides.{nat_tests}
-use Rattle.std.proofs.lemmas.List.{drop_more}
+use Rattle.std.proofs.lemmas.{Bool.Decides.{nat_tests}, List.{drop_more}}
 use Rattle.sh_sheet.specs.Number.{are_digits, value_from, number_of}
 
 -- more digits make no smaller number

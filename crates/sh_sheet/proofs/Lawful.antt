@@ -1,31 +1,16 @@
 -- The items of a sheet are lawful.
 use Rattle.std.proofs.Common.{ℕ, ◌≡◌, ◌+◌, ◌<◌, ◌^◌, Bool, true, false, not, List, [], ◌∷◌, ◌++◌, length, Option, Some, None, Ok, Err, option_map, refl, sym, ap, subst, ◌∙◌, ⊎_elim, arith}
-use Rattle.std.specs.Prelude.{All, Result, if◌then◌else◌, nat_lt}
-use Rattle.std.specs.List.{Contains}
-use Rattle.std.proofs.lemmas.Bool.{eqb-true}
-use Rattle.std.proofs.lemmas.Bool.Decides.{nat_tests}
-use Rattle.std.proofs.lemmas.Cmp.{nat_eq_equiv}
-use Rattle.std.proofs.lemmas.List.{take-append-le}
-use Rattle.std.proofs.Math.Seq.{take-append_seam}
-use Rattle.std.proofs.lemmas.List.Elements.{All-nil, All-push}
-use Rattle.std.proofs.lemmas.Map.Views.{Contains-from_any, list_any-from_Contains}
-use Rattle.std.proofs.lemmas.Option.{cond_some, same_Some, slice_get_within}
+use Rattle.std.{specs.{Prelude.{All, Result, if◌then◌else◌, nat_lt}, List.{Contains}}, proofs.lemmas.{Bool.{eqb-true, Decides.{nat_tests}}, Cmp.{nat_eq_equiv}, List.{take-append-le}}}
+use Rattle.std.proofs.{Math.Seq.{take-append_seam}, lemmas.{List.Elements.{All-nil, All-push}, Map.Views.{Contains-from_any, list_any-from_Contains}, Option.{cond_some, same_Some, slice_get_within}}}
 use Rattle.sh_logic.proofs.Lists.{slice_get-push_back}
-use Rattle.sh_base.specs.Setting.{all_seats}
-use Rattle.sh_base.specs.declared.config.ConfigParts.{ConfigParts}
-use Rattle.sh_map.specs.declared.call.Call.TheVariants.{Get, Put, Del, Range}
-use Rattle.sh_map.specs.Calls.{IsKey}
+use Rattle.sh_base.specs.{Setting.{all_seats}, declared.config.ConfigParts.{ConfigParts}}
+use Rattle.sh_map.specs.{declared.call.Call.TheVariants.{Get, Put, Del, Range}, Calls.{IsKey}}
 use Rattle.sh_sheet.specs.Number.{number_of}
 use Rattle.sh_sheet.specs.Row.{joined, numbers_of, value_in, colon_parts, if_empty, is_key, is_here, is_marked, has_key, has_bounds, has_mark, op_of, deed_of, by_seat, or_cause, tested, item_in, is_heading}
-use Rattle.sh_sheet.specs.Sheet.{Reading, Items, Refused, marks_in, row_then, rows_from, rows_in, IsLawfulItem, IsLawfulMark, AreMarksLawful}
-use Rattle.sh_sheet.specs.declared.status.RowCause.{RowCause}
-use Rattle.sh_sheet.specs.declared.status.RowCause.TheVariants.{BadOp, TurnNotHere, BadNumber, BadSeat, BadKey, BadBounds, BadMark}
-use Rattle.sh_sheet.specs.declared.item.Mode.{Mode}
-use Rattle.sh_sheet.specs.declared.item.Item.{Item}
-use Rattle.sh_sheet.specs.declared.deed.Op.{Op}
-use Rattle.sh_sheet.specs.declared.deed.Op.TheVariants as op
-use Rattle.sh_sheet.specs.declared.deed.Deed.{Deed}
+use Rattle.sh_sheet.specs.{Sheet.{Reading, Items, Refused, marks_in, row_then, rows_from, rows_in, IsLawfulItem, IsLawfulMark, AreMarksLawful}, declared.status.RowCause.{RowCause}}
+use Rattle.sh_sheet.specs.declared.{status.RowCause.TheVariants.{BadOp, TurnNotHere, BadNumber, BadSeat, BadKey, BadBounds, BadMark}, item.{Mode.{Mode}, Item.{Item}}, deed.{Op.{Op}, Deed.{Deed}}}
 use Rattle.sh_sheet.specs.declared.deed.Deed.TheVariants.{Ask, Mark, After, Turn}
+use Rattle.sh_sheet.specs.declared.deed.Op.TheVariants as op
 
 then_some : {A : Type 0} (b : Bool) (o : Option A) (y : A) → (if b then o else None) ≡ Some y → (b ≡ true) × (o ≡ Some y)
 then_some true o y e = (refl, e)

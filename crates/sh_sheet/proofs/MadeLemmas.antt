@@ -1,20 +1,11 @@
 -- The made calls: one call more, and that they are lawful and few.
 use Rattle.std.proofs.Common.{ℕ, zero, suc, ◌≡◌, ◌≤◌, ◌<◌, ◌+◌, ◌-◌, ◌/◌, ◌%◌, ◌^◌, Bool, true, false, List, [], ◌∷◌, ◌++◌, length, map, take, set, Some, subst, refl, sym, ap, ◌∙◌, arith, add-one, mod-lt, lt_of_not-le}
-use Rattle.std.specs.Prelude.{All, nat_le, if◌then◌else◌}
-use Rattle.std.specs.List.{fold, range_with_len, slice_get, sum_by}
-use Rattle.std.proofs.lemmas.List.{take_more_set}
-use Rattle.std.proofs.lemmas.List.Elements.{All-cons, All-nil}
-use Rattle.std.proofs.lemmas.List.FromFn.{length-range_with_len, map-range_with_len_more}
-use Rattle.std.proofs.lemmas.Option.{same_Some}
-use Rattle.sh_base.specs.declared.config.ConfigParts.{ConfigParts}
-use Rattle.sh_base.specs.Setting.{all_seats, IsSetting}
-use Rattle.sh_map.specs.declared.call.Call.{Call}
-use Rattle.sh_map.specs.declared.call.Call.TheVariants.{Get, Put, Del, Range}
-use Rattle.sh_map.specs.Calls.{IsInRange}
+use Rattle.std.{specs.{Prelude.{All, nat_le, if◌then◌else◌}, List.{fold, range_with_len, slice_get, sum_by}}, proofs.lemmas.List.{take_more_set, Elements.{All-cons, All-nil}}}
+use Rattle.std.proofs.lemmas.{List.FromFn.{length-range_with_len, map-range_with_len_more}, Option.{same_Some}}
+use Rattle.sh_base.specs.{declared.config.ConfigParts.{ConfigParts}, Setting.{all_seats, IsSetting}}
+use Rattle.sh_map.specs.{declared.call.Call.{Call, TheVariants.{Get, Put, Del, Range}}, Calls.{IsInRange}}
 use Rattle.sh_sheet.specs.Generate.{key_from, made_call, made_item, made_items, next_number, drawn_number}
-use Rattle.sh_sheet.specs.Sheet.{AreFew, AreMarksLawful, IsLawfulItem, IsLawfulMark, item_calls, most_rows, rows_of, item_turns}
-use Rattle.sh_sheet.specs.declared.item.Item.{Item}
-use Rattle.sh_sheet.specs.declared.item.Item.TheVariants.{Ask}
+use Rattle.sh_sheet.specs.{Sheet.{AreFew, AreMarksLawful, IsLawfulItem, IsLawfulMark, item_calls, most_rows, rows_of, item_turns}, declared.item.Item.{Item, TheVariants.{Ask}}}
 
 -- numbers from a on, and one more
 range_more : (a n : ℕ) → range_with_len a (n + 1) ≡ range_with_len a n ++ (a + n) ∷ []

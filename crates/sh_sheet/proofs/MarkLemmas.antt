@@ -1,13 +1,7 @@
 -- The numbers of marks, as a set and as a list.
-use Rattle.std.proofs.Common.{ℕ, ◌≡◌, ◌∷◌, ◌++◌, [], List, Some, None, true, arith}
-use Rattle.std.proofs.lemmas.Grind.{common_steps}
-use Rattle.std.proofs.lemmas.List.Elements.{filter_map-append}
-use Rattle.std.proofs.lemmas.List.Folds.{list_any-append}
-use Rattle.std.specs.BTreeSet.{BTreeSet, Updates}
-use Rattle.std.specs.Ordering.{nat_cmp}
-use Rattle.sh_sheet.specs.Sheet.{mark_of}
-use Rattle.sh_sheet.specs.Reader.{HasMarks}
-use Rattle.sh_sheet.specs.declared.item.Item.{Item}
+use Rattle.std.proofs.{Common.{ℕ, ◌≡◌, ◌∷◌, ◌++◌, [], List, Some, None, true, arith}, lemmas.{Grind.{common_steps}, List.{Elements.{filter_map-append}, Folds.{list_any-append}}}}
+use Rattle.std.specs.{BTreeSet.{BTreeSet, Updates}, Ordering.{nat_cmp}}
+use Rattle.sh_sheet.specs.{Sheet.{mark_of}, Reader.{HasMarks}, declared.item.Item.{Item}}
 
 -- an item that is no mark
 pub marks_kept : (s : BTreeSet ℕ) (found : List Item) (item : Item) → HasMarks s found → mark_of item ≡ None → HasMarks s (found ++ item ∷ [])

@@ -3,11 +3,8 @@ use Rattle.std.proofs.Common.{ℕ, zero, suc, ◌≡◌, ◌≤◌, ◌<◌, ◌
 use Rattle.std.specs.Prelude.{if◌then◌else◌}
 use Rattle.csv.specs.Machine.{Read, next_record, step, is_end, fields_after, field_after, ends_at_end}
 use Rattle.csv.specs.Reading.{records_from, records_next, default_config, ReadRecord, Ready, Reached, source_of, reader_config, reader_state, reader_trim, took_first}
-use Rattle.csv.proofs.ReadFacts.{rows-end, rows-more}
-use Rattle.csv.specs.declared.parser.Config.{Config}
-use Rattle.csv.specs.declared.parser.State.{State}
+use Rattle.csv.{proofs.ReadFacts.{rows-end, rows-more}, specs.declared.{parser.{Config.{Config}, State.{State}}, reader.Reader.{Reader}}}
 use Rattle.csv.specs.declared.parser.State.TheVariants as st
-use Rattle.csv.specs.declared.reader.Reader.{Reader}
 use Rattle.csv.specs.declared.reader.Trim.TheVariants as trim
 
 -- the records of a text from a state on

@@ -2,9 +2,7 @@
 use Rattle.std.proofs.Common.{ℕ, zero, suc, ◌≡◌, ◌≢◌, List, [], ◌∷◌, length, get_or, Some, None, Err, refl, arith, false}
 use Rattle.csv.specs.Records.{field_at}
 use Rattle.sh_base.specs.declared.config.ConfigParts.{ConfigParts}
-use Rattle.sh_sheet.specs.Row.{item_in, is_heading}
-use Rattle.sh_sheet.specs.declared.item.Mode.{Mode}
-use Rattle.sh_sheet.specs.declared.status.RowCause.TheVariants.{FieldCount}
+use Rattle.sh_sheet.specs.{Row.{item_in, is_heading}, declared.{item.Mode.{Mode}, status.RowCause.TheVariants.{FieldCount}}}
 
 -- no field at the place
 pub field_none : (fields : List (List ℕ)) (i : ℕ) → None ≡ field_at fields i → [] ≡ get_or fields i []

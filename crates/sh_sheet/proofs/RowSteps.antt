@@ -1,16 +1,9 @@
 -- The reading of a sheet, row by row.
-use Rattle.std.proofs.Common.{ℕ, ◌≡◌, ◌<◌, Bool, true, false, List, [], ◌∷◌, Option, ◌∙◌, ap, subst, sym, refl, arith}
-use Rattle.std.specs.Prelude.{Result, MatchResult}
-use Rattle.std.specs.Result.{IsErrAnd}
+use Rattle.std.{proofs.Common.{ℕ, ◌≡◌, ◌<◌, Bool, true, false, List, [], ◌∷◌, Option, ◌∙◌, ap, subst, sym, refl, arith}, specs.{Prelude.{Result, MatchResult}, Result.{IsErrAnd}}}
 use Rattle.std.proofs.lemmas.Result.{err_from_is_err_and}
-use Rattle.csv.specs.Reading.{ReadRecord, took_first}
-use Rattle.csv.specs.declared.reader.Reader.{Reader}
+use Rattle.csv.specs.{Reading.{ReadRecord, took_first}, declared.reader.Reader.{Reader}}
 use Rattle.sh_base.specs.declared.config.ConfigParts.{ConfigParts}
-use Rattle.sh_sheet.specs.Sheet.{Reading, Items, sheet_of, IsFault}
-use Rattle.sh_sheet.specs.Reader.{rows_behind}
-use Rattle.sh_sheet.specs.declared.item.Mode.{Mode}
-use Rattle.sh_sheet.specs.declared.item.Item.{Item}
-use Rattle.sh_sheet.specs.declared.item.SheetFault.{SheetFault}
+use Rattle.sh_sheet.specs.{Sheet.{Reading, Items, sheet_of, IsFault}, Reader.{rows_behind}, declared.item.{Mode.{Mode}, Item.{Item}, SheetFault.{SheetFault}}}
 use Rattle.sh_sheet.proofs.RecordSteps.{IsReading, reading_more, reading_end}
 
 -- a reader over the rows behind those that gave these items

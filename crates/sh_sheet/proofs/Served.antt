@@ -1,17 +1,9 @@
 -- Each row is served or refused by one of its tests.
-use Rattle.std.proofs.Common.{ℕ, ◌≢◌, Bool, true, false, List, [], ◌∷◌, ◌++◌, length, Option, Some, None, Ok, Err}
-use Rattle.std.specs.Prelude.{Result, if◌then◌else◌, nat_lt}
-use Rattle.sh_base.specs.Setting.{all_seats}
-use Rattle.sh_base.specs.declared.config.ConfigParts.{ConfigParts}
-use Rattle.sh_sheet.specs.Number.{number_of}
-use Rattle.sh_sheet.specs.Records.{records_in}
-use Rattle.sh_sheet.specs.Row.{is_here, has_key, has_bounds, has_mark, op_of, deed_of, by_seat, or_cause, tested, item_in, is_heading}
-use Rattle.sh_sheet.specs.Sheet.{Reading, Refused, marks_in, row_then, rows_from, rows_in, sheet_of}
-use Rattle.sh_sheet.specs.declared.status.RowCause.{RowCause}
-use Rattle.sh_sheet.specs.declared.status.RowCause.TheVariants.{BadOp, TurnNotHere, BadNumber, BadSeat, BadKey, BadBounds, BadMark, NotYet}
-use Rattle.sh_sheet.specs.declared.item.Mode.{Mode}
-use Rattle.sh_sheet.specs.declared.item.Item.{Item}
-use Rattle.sh_sheet.specs.declared.deed.Op.{Op}
+use Rattle.std.{proofs.Common.{ℕ, ◌≢◌, Bool, true, false, List, [], ◌∷◌, ◌++◌, length, Option, Some, None, Ok, Err}, specs.Prelude.{Result, if◌then◌else◌, nat_lt}}
+use Rattle.sh_base.specs.{Setting.{all_seats}, declared.config.ConfigParts.{ConfigParts}}
+use Rattle.sh_sheet.specs.{Number.{number_of}, Records.{records_in}, Row.{is_here, has_key, has_bounds, has_mark, op_of, deed_of, by_seat, or_cause, tested, item_in, is_heading}}
+use Rattle.sh_sheet.specs.{Sheet.{Reading, Refused, marks_in, row_then, rows_from, rows_in, sheet_of}, declared.status.RowCause.{RowCause}}
+use Rattle.sh_sheet.specs.declared.{status.RowCause.TheVariants.{BadOp, TurnNotHere, BadNumber, BadSeat, BadKey, BadBounds, BadMark, NotYet}, item.{Mode.{Mode}, Item.{Item}}, deed.Op.{Op}}
 use Rattle.sh_sheet.specs.declared.deed.Deed.{Deed}
 
 -- a result that isn't refused as not yet served

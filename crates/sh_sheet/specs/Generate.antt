@@ -1,15 +1,10 @@
 -- The calls that are made from a seed.
 use Rattle.std.specs.Prelude.{ℕ, zero, suc, ◌+◌, ◌-◌, ◌*◌, ◌/◌, ◌%◌, ◌^◌, ◌<◌, false, nat_le, List, map, if◌then◌else◌}
 use Rattle.std.specs.List.{range_with_len, sum_by}
-use Rattle.sh_base.specs.declared.config.ConfigParts.{ConfigParts}
-use Rattle.sh_base.specs.Setting.{all_seats}
-use Rattle.sh_map.specs.declared.call.Call.{Call}
-use Rattle.sh_map.specs.declared.call.Call.TheVariants.{Get, Put, Del, Range}
-use Rattle.sh_sheet.specs.declared.item.Item.{Item}
-use Rattle.sh_sheet.specs.declared.item.Item.TheVariants.{Ask}
-use Rattle.sh_sheet.specs.declared.item.SheetFault.{SheetFault}
+use Rattle.sh_base.specs.{declared.config.ConfigParts.{ConfigParts}, Setting.{all_seats}}
+use Rattle.sh_map.specs.declared.call.Call.{Call, TheVariants.{Get, Put, Del, Range}}
+use Rattle.sh_sheet.specs.{declared.item.{Item.{Item, TheVariants.{Ask}}, SheetFault.{SheetFault}}, Sheet.{Contents, most_rows, rows_of}}
 use Rattle.sh_sheet.specs.declared.item.SheetFault.TheVariants as fault
-use Rattle.sh_sheet.specs.Sheet.{Contents, most_rows, rows_of}
 
 -- the number that follows x, below 2^64
 abbrev pub next_number : ℕ → ℕ

@@ -1,12 +1,7 @@
 -- How far a sheet is read.
-use Rattle.std.specs.Prelude.{ℕ, ◌≡◌, Bool, true, false, List, [], if◌then◌else◌}
-use Rattle.std.specs.BTreeSet.{BTreeSet, contains}
-use Rattle.std.specs.Ordering.{nat_cmp}
+use Rattle.std.specs.{Prelude.{ℕ, ◌≡◌, Bool, true, false, List, [], if◌then◌else◌}, BTreeSet.{BTreeSet, contains}, Ordering.{nat_cmp}}
 use Rattle.sh_base.specs.declared.config.ConfigParts.{ConfigParts}
-use Rattle.sh_sheet.specs.Row.{is_marked}
-use Rattle.sh_sheet.specs.Sheet.{Reading, marks_in, rows_from, rows_in}
-use Rattle.sh_sheet.specs.declared.item.Mode.{Mode}
-use Rattle.sh_sheet.specs.declared.item.Item.{Item}
+use Rattle.sh_sheet.specs.{Row.{is_marked}, Sheet.{Reading, marks_in, rows_from, rows_in}, declared.item.{Mode.{Mode}, Item.{Item}}}
 
 -- no row is taken yet
 abbrev pub is_start : Bool → List Item → Bool

@@ -1,21 +1,12 @@
 -- What one row of a sheet says.
 use Rattle.std.specs.Prelude.{ℕ, ◌==◌, ◌-◌, ◌^◌, Bool, true, false, not, ◌&&◌, nat_le, nat_lt, List, [], ◌∷◌, length, codes, Option, Some, None, option_map, Result, Ok, Err, if◌then◌else◌}
-use Rattle.std.specs.List.{list_any, slice_split}
-use Rattle.std.specs.Str.{bytes_eq}
-use Rattle.sh_base.specs.declared.config.ConfigParts.{ConfigParts}
-use Rattle.sh_base.specs.Setting.{all_seats}
+use Rattle.std.specs.{List.{list_any, slice_split}, Str.{bytes_eq}}
+use Rattle.sh_base.specs.{declared.config.ConfigParts.{ConfigParts}, Setting.{all_seats}}
 use Rattle.sh_map.specs.declared.call.Call.TheVariants.{Get, Put, Del, Range}
-use Rattle.sh_sheet.specs.Number.{number_of}
-use Rattle.sh_sheet.specs.declared.status.RowCause.{RowCause}
-use Rattle.sh_sheet.specs.declared.status.RowCause.TheVariants.{FieldCount, BadOp, TurnNotHere, BadNumber, BadSeat, BadKey, BadBounds, BadMark}
-use Rattle.sh_sheet.specs.declared.item.Mode.{Mode}
-use Rattle.sh_sheet.specs.declared.item.Mode.TheVariants.{Run}
-use Rattle.sh_sheet.specs.declared.item.Item.{Item}
+use Rattle.sh_sheet.specs.{Number.{number_of}, declared.{status.RowCause.{RowCause, TheVariants.{FieldCount, BadOp, TurnNotHere, BadNumber, BadSeat, BadKey, BadBounds, BadMark}}, item.Mode.{Mode}}}
+use Rattle.sh_sheet.specs.declared.{item.{Mode.TheVariants.{Run}, Item.{Item}}, deed.{Op.{Op}, Deed.{Deed, TheVariants.{Ask, Mark, After, Turn}}}}
 use Rattle.sh_sheet.specs.declared.item.Item.TheVariants as item
-use Rattle.sh_sheet.specs.declared.deed.Op.{Op}
 use Rattle.sh_sheet.specs.declared.deed.Op.TheVariants as op
-use Rattle.sh_sheet.specs.declared.deed.Deed.{Deed}
-use Rattle.sh_sheet.specs.declared.deed.Deed.TheVariants.{Ask, Mark, After, Turn}
 
 -- the operation that a field names, if it names one
 abbrev pub op_of : List ℕ → Option Op

@@ -1,16 +1,9 @@
 -- What a sheet says.
 use Rattle.std.specs.Prelude.{ℕ, ◌≡◌, ◌+◌, ◌-◌, ◌<◌, ◌≤◌, ◌⊎◌, Bool, true, false, nat_le, List, [], ◌∷◌, ◌++◌, length, take, Option, Some, None, Result, Ok, Err, if◌then◌else◌}
 use Rattle.std.specs.List.{Contains, filter_map, slice_get, sum_by}
-use Rattle.sh_base.specs.declared.config.ConfigParts.{ConfigParts}
-use Rattle.sh_base.specs.Setting.{all_seats}
-use Rattle.sh_map.specs.declared.call.Call.TheVariants.{Range}
-use Rattle.sh_map.specs.Calls.{IsInRange}
-use Rattle.sh_sheet.specs.Records.{records_in}
-use Rattle.sh_sheet.specs.Row.{item_in, is_heading}
-use Rattle.sh_sheet.specs.declared.status.RowCause.{RowCause}
-use Rattle.sh_sheet.specs.declared.item.Mode.{Mode}
-use Rattle.sh_sheet.specs.declared.item.Item.{Item}
-use Rattle.sh_sheet.specs.declared.item.Item.TheVariants.{Ask, Mark, After, Turn}
+use Rattle.sh_base.specs.{declared.config.ConfigParts.{ConfigParts}, Setting.{all_seats}}
+use Rattle.sh_map.specs.{declared.call.Call.TheVariants.{Range}, Calls.{IsInRange}}
+use Rattle.sh_sheet.specs.{Records.{records_in}, Row.{item_in, is_heading}, declared.{status.RowCause.{RowCause}, item.{Mode.{Mode}, Item.{Item, TheVariants.{Ask, Mark, After, Turn}}}}}
 use Rattle.sh_sheet.specs.declared.item.SheetFault.{SheetFault}
 use Rattle.sh_sheet.specs.declared.item.SheetFault.TheVariants as fault
 

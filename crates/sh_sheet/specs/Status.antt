@@ -1,9 +1,6 @@
 -- What a status is, as a number and as a text.
-use Rattle.std.specs.Prelude.{ℕ, List, [], ◌++◌, codes}
-use Rattle.std.specs.Fmt.{decimal}
-use Rattle.sh_sheet.specs.declared.status.RowCause.{RowCause}
-use Rattle.sh_sheet.specs.declared.status.RowCause.TheVariants.{FieldCount, BadOp, TurnNotHere, BadNumber, BadSeat, BadKey, BadBounds, BadMark, NotYet}
-use Rattle.sh_sheet.specs.declared.status.Status.{Status}
+use Rattle.std.specs.{Prelude.{ℕ, List, [], ◌++◌, codes}, Fmt.{decimal}}
+use Rattle.sh_sheet.specs.declared.status.{RowCause.{RowCause, TheVariants.{FieldCount, BadOp, TurnNotHere, BadNumber, BadSeat, BadKey, BadBounds, BadMark, NotYet}}, Status.{Status}}
 use Rattle.sh_sheet.specs.declared.status.Status.TheVariants as status
 
 -- the code that a program ends with

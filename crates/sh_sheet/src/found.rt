@@ -1,9 +1,6 @@
 // What is read of a sheet so far.
 ghost use Rattle.std.specs.Prelude.{◌≡◌, ◌∷◌, ◌++◌, [], IfErr, OnOk};
-ghost use Rattle.sh_sheet.specs.Row.{has_mark};
-ghost use Rattle.sh_sheet.specs.Sheet.{marks_in};
-ghost use Rattle.sh_sheet.specs.Reader.{is_start, HasMarks};
-ghost use Rattle.sh_sheet.specs.declared.item.SheetFault.TheVariants.{NoMemory};
+ghost use Rattle.sh_sheet.specs.{Row.{has_mark}, Sheet.{marks_in}, Reader.{is_start, HasMarks}, declared.item.SheetFault.TheVariants.{NoMemory}};
 
 use crate::deed::Deed;
 use crate::{Item, SheetFault};

@@ -1,13 +1,9 @@
 // What sheets say, as laws.
 ghost use Rattle.std.specs.Prelude.{ℕ, List, ◌≡◌, ◌≢◌, ◌∷◌, [], codes, true, false};
-ghost use Rattle.sh_base.specs.declared.config.ConfigParts.{ConfigParts};
-ghost use Rattle.sh_base.specs.Setting.{default_parts};
+ghost use Rattle.sh_base.specs.{declared.config.ConfigParts.{ConfigParts}, Setting.{default_parts}};
 ghost use Rattle.sh_map.specs.declared.call.Call.TheVariants.{Put, Range};
-ghost use Rattle.sh_sheet.specs.declared.item.Mode.{Mode};
-ghost use Rattle.sh_sheet.specs.declared.item.Mode.TheVariants.{Replay, Run};
-ghost use Rattle.sh_sheet.specs.declared.item.Item.TheVariants.{After, Ask, Mark, Turn};
-ghost use Rattle.sh_sheet.specs.declared.status.RowCause.TheVariants.{BadBounds, BadKey, BadMark, BadNumber, BadOp, BadSeat, FieldCount, NotYet, TurnNotHere};
-ghost use Rattle.sh_sheet.specs.Sheet.{Items, Refused, sheet_of};
+ghost use Rattle.sh_sheet.specs.declared.item.{Mode.{Mode, TheVariants.{Replay, Run}}, Item.TheVariants.{After, Ask, Mark, Turn}};
+ghost use Rattle.sh_sheet.specs.{declared.status.RowCause.TheVariants.{BadBounds, BadKey, BadMark, BadNumber, BadOp, BadSeat, FieldCount, NotYet, TurnNotHere}, Sheet.{Items, Refused, sheet_of}};
 
 /// What some sheets say in the default setting, of 8 seats and values of one word.
 pub fn known_rows()

@@ -1,10 +1,7 @@
 // A sheet of calls that are made from a seed.
-ghost use Rattle.std.specs.Prelude.{◌≡◌, ◌≤◌, ◌%◌, All, IfOk, MatchResult};
-ghost use Rattle.std.specs.List.{range_with_len};
-ghost use Rattle.sh_base.specs.Parts.{parts_of};
-ghost use Rattle.sh_base.specs.Setting.{all_seats};
-ghost use Rattle.sh_sheet.specs.Generate.{call_from, key_from, made_call, made_items, made_sheet, next_number, IsNotMade};
-ghost use Rattle.sh_sheet.specs.Sheet.{AreFew, AreMarksLawful, IsLawfulItem};
+ghost use Rattle.std.specs.{Prelude.{◌≡◌, ◌≤◌, ◌%◌, All, IfOk, MatchResult}, List.{range_with_len}};
+ghost use Rattle.sh_base.specs.{Parts.{parts_of}, Setting.{all_seats}};
+ghost use Rattle.sh_sheet.specs.{Generate.{call_from, key_from, made_call, made_items, made_sheet, next_number, IsNotMade}, Sheet.{AreFew, AreMarksLawful, IsLawfulItem}};
 
 use crate::totals::are_few;
 use crate::{Item, Sheet, SheetFault};

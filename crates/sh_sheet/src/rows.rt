@@ -1,15 +1,10 @@
 // One row of a sheet.
-ghost use Rattle.std.specs.Prelude.{get_or, ℕ, ◌≡◌, ◌≤◌, ◌∷◌, ◌==◌, [], length, ◌≢◌, Option, None, Some, MatchOption, option_map};
-ghost use Rattle.std.specs.List.{position};
+ghost use Rattle.std.specs.{Prelude.{get_or, ℕ, ◌≡◌, ◌≤◌, ◌∷◌, ◌==◌, [], length, ◌≢◌, Option, None, Some, MatchOption, option_map}, List.{position}};
 ghost use Rattle.csv.specs.Records.{fields_of};
 ghost use Rattle.sh_base.specs.Parts.{parts_of};
-ghost use Rattle.sh_sheet.specs.Number.{number_of};
-ghost use Rattle.sh_sheet.specs.Row.{colon_parts, deed_of, is_heading, item_in, value_in};
-ghost use Rattle.sh_map.specs.declared.call.Call.TheVariants.{Put, Range};
-ghost use Rattle.sh_sheet.specs.Sheet.{marks_in};
-ghost use Rattle.sh_sheet.specs.Reader.{HasMarks};
-ghost use Rattle.sh_sheet.specs.declared.deed.Deed.TheVariants.{Ask};
+ghost use Rattle.sh_sheet.specs.{Number.{number_of}, Row.{colon_parts, deed_of, is_heading, item_in, value_in}, Sheet.{marks_in}, Reader.{HasMarks}, declared.deed.Deed.TheVariants.{Ask}};
 ghost use Rattle.sh_sheet.specs.Parts.{parts_behind};
+ghost use Rattle.sh_map.specs.declared.call.Call.TheVariants.{Put, Range};
 
 use crate::deed::{Deed, Op};
 use crate::found::Found;

@@ -2,8 +2,7 @@
 ghost use Rattle.std.specs.Prelude.{ℕ, List, ◌≡◌, ◌≤◌, ◌<◌, ◌∷◌, ◌↔◌, All, IfOk, IfErr, OnOk, IsTrue, MatchResult, length};
 ghost use Rattle.csv.specs.Records.{fields_of};
 ghost use Rattle.sh_base.specs.Parts.{parts_of};
-ghost use Rattle.sh_sheet.specs.Sheet.{Items, row_of, sheet_of, AreFew, AreMarksLawful, IsFault, IsLawfulItem};
-ghost use Rattle.sh_sheet.specs.Reader.{rows_behind, HasMarks};
+ghost use Rattle.sh_sheet.specs.{Sheet.{Items, row_of, sheet_of, AreFew, AreMarksLawful, IsFault, IsLawfulItem}, Reader.{rows_behind, HasMarks}};
 
 use crate::found::Found;
 use crate::rows::{is_heading, item_in};

@@ -1,14 +1,8 @@
 -- An entry in its leaf's words.
-use Rattle.std.proofs.Common.{◌≡◌, ℕ, ◌+◌, ◌<◌, ◌≤◌, List, length, get_or, take, drop, sym, ap, ◌∙◌, arith}
-use Rattle.std.proofs.lemmas.Grind.{same_number_lists}
+use Rattle.std.proofs.{Common.{◌≡◌, ℕ, ◌+◌, ◌<◌, ◌≤◌, List, length, get_or, take, drop, sym, ap, ◌∙◌, arith}, lemmas.Grind.{same_number_lists}}
 use Rattle.std.proofs.lemmas.List.{length-take-le, length-drop, get_or-take, get_or-drop}
-use Rattle.sh_base.specs.declared.config.ConfigParts.{ConfigParts}
-use Rattle.sh_base.specs.Setting.{node_size}
-use Rattle.sh_base.specs.Layout.{entry_at}
-use Rattle.sh_base.proofs.LayoutLemmas.{node_size_is, entry_within, entry_size_is}
-use Rattle.sh_image.specs.declared.leaf.LeafEntry.{LeafEntry}
-use Rattle.sh_image.proofs.EntriesLemmas.{length-entries_in}
-use Rattle.sh_image.proofs.ReadLemmas.{entry_read}
+use Rattle.sh_base.{specs.{declared.config.ConfigParts.{ConfigParts}, Setting.{node_size}, Layout.{entry_at}}, proofs.LayoutLemmas.{node_size_is, entry_within, entry_size_is}}
+use Rattle.sh_image.{specs.declared.leaf.LeafEntry.{LeafEntry}, proofs.{EntriesLemmas.{length-entries_in}, ReadLemmas.{entry_read}}}
 use Rattle.sh_read.specs.Reading.{IsEntryWord}
 use Rattle.sh_state.specs.Nodes.{standing_entries}
 

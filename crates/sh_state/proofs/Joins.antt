@@ -1,13 +1,10 @@
 -- Two acts of one turn, of which one leaves the nodes and their WRITEs.
-use Rattle.std.proofs.Common.{◌≡◌, ◌≢◌, ℕ, List, [], ◌∷◌, ◌++◌, refl, ap, sym, ◌∙◌, subst, append-nil, append_assoc}
-use Rattle.std.specs.List.{AllByRecursion}
+use Rattle.std.{proofs.Common.{◌≡◌, ◌≢◌, ℕ, List, [], ◌∷◌, ◌++◌, refl, ap, sym, ◌∙◌, subst, append-nil, append_assoc}, specs.List.{AllByRecursion}}
 use Rattle.sh_logic.proofs.Lists.{all_join}
-use Rattle.sh_base.specs.declared.config.ConfigParts.{ConfigParts}
-use Rattle.sh_base.specs.Layout.{lock_of}
+use Rattle.sh_base.specs.{declared.config.ConfigParts.{ConfigParts}, Layout.{lock_of}}
 use Rattle.sh_map.specs.declared.log.Entry.{Entry}
 use Rattle.sh_read.specs.Moments.{Writing, Next, still}
-use Rattle.sh_state.specs.TreeState.{Linked, Owner, LockState, Owns, TreeState, writing}
-use Rattle.sh_state.specs.Change.{ChangeFor}
+use Rattle.sh_state.specs.{TreeState.{Linked, Owner, LockState, Owns, TreeState, writing}, Change.{ChangeFor}}
 
 module _ (p : ConfigParts) (Other : Owner → Type 0) where
   pub nothing_done : (s : TreeState) → ChangeFor p Other s s

@@ -2,9 +2,7 @@
 use Rattle.std.proofs.Common.{◌≡◌, ◌≢◌, ℕ, ◌<◌, List, length, get_or, set, refl, ap, sym, ◌∙◌, subst, arith, length-set, get_or-set_same, get_or-set_other, ne_eqb, eq-eqb}
 use mathlib.Core.Logic.{dite}
 use native.Mathlib.Decide.{ℕ_discrete}
-use Rattle.sh_base.specs.declared.config.ConfigParts.{ConfigParts}
-use Rattle.sh_base.specs.Places.{Site, address, IsSite}
-use Rattle.sh_base.proofs.PlacesLemmas.{are_places_apart}
+use Rattle.sh_base.{specs.{declared.config.ConfigParts.{ConfigParts}, Places.{Site, address, IsSite}}, proofs.PlacesLemmas.{are_places_apart}}
 use Rattle.sh_state.specs.TreeState.{put, Shows}
 
 pub put_here : {A : Type 0} (f : ℕ → A) (n : ℕ) (x : A) → put f n x n ≡ x

@@ -1,18 +1,11 @@
 -- What a scene keeps where its nodes' links only grow.
-use Rattle.std.proofs.Common.{◌≡◌, ◌≢◌, ◌⊎◌, ℕ, zero, suc, ◌<◌, ◌≤◌, List, [], ◌∷◌, ◌++◌, refl, ap, sym, ◌∙◌, subst, inl, inr, arith, ne_eqb, eq-eqb}
-use Rattle.std.specs.Prelude.{◌-◌, ◌^◌}
-use Rattle.sh_base.specs.declared.config.ConfigParts.{ConfigParts}
-use Rattle.sh_base.specs.Setting.{IsSetting}
-use Rattle.sh_base.specs.Layout.{lock_of}
+use Rattle.std.{proofs.Common.{◌≡◌, ◌≢◌, ◌⊎◌, ℕ, zero, suc, ◌<◌, ◌≤◌, List, [], ◌∷◌, ◌++◌, refl, ap, sym, ◌∙◌, subst, inl, inr, arith, ne_eqb, eq-eqb}, specs.Prelude.{◌-◌, ◌^◌}}
+use Rattle.sh_base.specs.{declared.config.ConfigParts.{ConfigParts}, Setting.{IsSetting}, Layout.{lock_of}}
 use Rattle.sh_map.specs.declared.log.Entry.{Entry}
-use Rattle.sh_image.specs.declared.inner.Pair.{Pair}
-use Rattle.sh_image.specs.Leaf.{leaf_in}
-use Rattle.sh_image.specs.Inner.{inner_in}
-use Rattle.sh_image.proofs.UntornLemmas.{untorn_spelled, untorn_inner}
+use Rattle.sh_image.{specs.{declared.inner.Pair.{Pair}, Leaf.{leaf_in}, Inner.{inner_in}}, proofs.UntornLemmas.{untorn_spelled, untorn_inner}}
 use Rattle.sh_read.specs.Moments.{Writing, Idle, IsWriting, IsVersioned, IsNodeMoment}
 use Rattle.sh_state.specs.TreeState.{Class, Undrawn, Reserved, Fresh, Linked, LockState, Nobody, Held, Writes, TreeState, writing_of, writing}
-use Rattle.sh_state.specs.Nodes.{level_in, low_in, high_in, next_in, IsLinked, LeadsTo, standing_pairs, LeadDown, IsStandingLeaf, IsStandingInner, Body, LeadsRight, Sits, Orderly}
-use Rattle.sh_state.specs.Ground.{Ground}
+use Rattle.sh_state.specs.{Nodes.{level_in, low_in, high_in, next_in, IsLinked, LeadsTo, standing_pairs, LeadDown, IsStandingLeaf, IsStandingInner, Body, LeadsRight, Sits, Orderly}, Ground.{Ground}}
 
 -- what one pair leads to is linked
 pub led_down : (s : TreeState) (l n : ℕ) (pairs : List Pair) → LeadDown s l pairs → LeadsTo pairs n → (a : ℕ) × (s.class n ≡ Linked l a)

@@ -1,17 +1,11 @@
 -- Words of a leaf or an inner node, as nodes that stand.
 use Rattle.std.proofs.Common.{◌≡◌, ◌≢◌, ℕ, ◌<◌, ◌≤◌, List, length, sym, subst}
-use Rattle.sh_base.specs.declared.config.ConfigParts.{ConfigParts}
-use Rattle.sh_base.specs.Setting.{node_size}
-use Rattle.sh_map.specs.declared.log.Entry.{Entry}
-use Rattle.sh_map.specs.Map.{get}
-use Rattle.sh_map.specs.Log.{map_of}
-use Rattle.sh_image.specs.Leaf.{Leaf, IsLeaf, leaf_in, leaf_words, Spells}
-use Rattle.sh_image.specs.Inner.{Inner, IsInner, inner_in, inner_words, SpellsInner}
-use Rattle.sh_image.proofs.LeafLemmas.{spelled_one, values_of, length-leaf_words}
-use Rattle.sh_image.proofs.InnerLemmas.{inner_spelled_one, length-inner_words}
+use Rattle.sh_base.specs.{declared.config.ConfigParts.{ConfigParts}, Setting.{node_size}}
+use Rattle.sh_map.specs.{declared.log.Entry.{Entry}, Map.{get}, Log.{map_of}}
+use Rattle.sh_image.specs.{Leaf.{Leaf, IsLeaf, leaf_in, leaf_words, Spells}, Inner.{Inner, IsInner, inner_in, inner_words, SpellsInner}}
+use Rattle.sh_image.proofs.{LeafLemmas.{spelled_one, values_of, length-leaf_words}, InnerLemmas.{inner_spelled_one, length-inner_words}}
 use Rattle.sh_edit.specs.Held.{held, HasKeysOnce}
-use Rattle.sh_state.specs.TreeState.{TreeState}
-use Rattle.sh_state.specs.Nodes.{LeadDown, IsStandingLeaf, IsStandingInner}
+use Rattle.sh_state.specs.{TreeState.{TreeState}, Nodes.{LeadDown, IsStandingLeaf, IsStandingInner}}
 
 module _ (p : ConfigParts) where
   pub leaf_is : (ws : List ℕ) (a : Leaf) → ws ≡ leaf_words a → IsLeaf p a → leaf_in p ws ≡ a

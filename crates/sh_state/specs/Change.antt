@@ -1,8 +1,6 @@
 -- What everybody else relies on, and an act leaves.
-use Rattle.std.specs.Prelude.{◌≡◌, ◌≢◌, ◌↔◌, ℕ, List, ◌++◌}
-use Rattle.std.specs.List.{AllByRecursion}
-use Rattle.sh_base.specs.declared.config.ConfigParts.{ConfigParts}
-use Rattle.sh_base.specs.Layout.{lock_of}
+use Rattle.std.specs.{Prelude.{◌≡◌, ◌≢◌, ◌↔◌, ℕ, List, ◌++◌}, List.{AllByRecursion}}
+use Rattle.sh_base.specs.{declared.config.ConfigParts.{ConfigParts}, Layout.{lock_of}}
 use Rattle.sh_map.specs.declared.log.Entry.{Entry}
 use Rattle.sh_read.specs.Moments.{Next}
 use Rattle.sh_state.specs.TreeState.{Fresh, Linked, ParentLink, Posted, Pending, Skipped, Owner, Seat, Owns, TreeState, writing}

@@ -1,12 +1,8 @@
 -- All that holds of the words in memory at each moment, whoever the clients are.
 use Rattle.std.specs.Prelude.{◌≡◌, ◌≢◌, ◌⊎◌, ℕ, suc, ◌+◌, ◌-◌, ◌^◌, ◌<◌, ◌≤◌, List, length, None}
-use Rattle.sh_base.specs.declared.config.ConfigParts.{ConfigParts}
-use Rattle.sh_base.specs.Setting.{node_size, IsNode}
-use Rattle.sh_base.specs.Layout.{first_node}
-use Rattle.sh_map.specs.Map.{get}
-use Rattle.sh_map.specs.Log.{map_of, IsLegal}
-use Rattle.sh_state.specs.TreeState.{Undrawn, Fresh, Linked, Posted, TreeState, shown, Shows}
-use Rattle.sh_state.specs.Nodes.{IsLinked, LeadsTo, standing_pairs, Sits, AreApart, Orderly}
+use Rattle.sh_base.specs.{declared.config.ConfigParts.{ConfigParts}, Setting.{node_size, IsNode}, Layout.{first_node}}
+use Rattle.sh_map.specs.{Map.{get}, Log.{map_of, IsLegal}}
+use Rattle.sh_state.specs.{TreeState.{Undrawn, Fresh, Linked, Posted, TreeState, shown, Shows}, Nodes.{IsLinked, LeadsTo, standing_pairs, Sits, AreApart, Orderly}}
 
 -- a node of a server's chunk
 pub record IsInChunk (p : ConfigParts) (server chunk n : ℕ) : Type 0 where

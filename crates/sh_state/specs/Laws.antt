@@ -1,7 +1,6 @@
 -- What two acts of one turn leave to the others together.
 use Rattle.std.specs.Prelude.{◌≡◌, ℕ}
-use Rattle.sh_state.specs.TreeState.{TreeState, writing}
-use Rattle.sh_state.specs.Change.{Change}
+use Rattle.sh_state.specs.{TreeState.{TreeState, writing}, Change.{Change}}
 use Rattle.sh_base.specs.declared.config.ConfigParts.{ConfigParts}
 
 -- ---- acts join

@@ -1,16 +1,8 @@
 -- A linked node, and what the nodes of a level have to do with each other.
-use Rattle.std.specs.Prelude.{◌≡◌, ◌≢◌, ◌⊎◌, ℕ, zero, suc, ◌-◌, ◌^◌, ◌<◌, ◌≤◌, List, [], ◌∷◌, slice_index}
-use Rattle.std.specs.List.{AllByRecursion}
-use Rattle.sh_base.specs.declared.config.ConfigParts.{ConfigParts}
-use Rattle.sh_base.specs.Setting.{IsNode}
-use Rattle.sh_base.specs.Layout.{lock_of}
-use Rattle.sh_map.specs.declared.log.Entry.{Entry}
-use Rattle.sh_map.specs.Map.{get}
-use Rattle.sh_map.specs.Log.{map_of}
-use Rattle.sh_image.specs.declared.leaf.LeafEntry.{LeafEntry}
-use Rattle.sh_image.specs.declared.inner.Pair.{Pair}
-use Rattle.sh_image.specs.Leaf.{leaf_in, Spells}
-use Rattle.sh_image.specs.Inner.{inner_in, SpellsInner}
+use Rattle.std.specs.{Prelude.{◌≡◌, ◌≢◌, ◌⊎◌, ℕ, zero, suc, ◌-◌, ◌^◌, ◌<◌, ◌≤◌, List, [], ◌∷◌, slice_index}, List.{AllByRecursion}}
+use Rattle.sh_base.specs.{declared.config.ConfigParts.{ConfigParts}, Setting.{IsNode}, Layout.{lock_of}}
+use Rattle.sh_map.specs.{declared.log.Entry.{Entry}, Map.{get}, Log.{map_of}}
+use Rattle.sh_image.specs.{declared.{leaf.LeafEntry.{LeafEntry}, inner.Pair.{Pair}}, Leaf.{leaf_in, Spells}, Inner.{inner_in, SpellsInner}}
 use Rattle.sh_edit.specs.Held.{held, HasKeysOnce}
 use Rattle.sh_read.specs.Moments.{Writing, IsWriting}
 use Rattle.sh_state.specs.TreeState.{Class, Undrawn, Reserved, Fresh, Linked, LockState, Nobody, Held, Writes, TreeState}

@@ -1,9 +1,6 @@
 -- What stands in memory, who holds what, and which node number is what; it knows no client.
 use Rattle.std.specs.Prelude.{◌≡◌, ℕ, ◌+◌, ◌==◌, if◌then◌else◌, List, length, slice_index}
-use Rattle.sh_base.specs.declared.config.ConfigParts.{ConfigParts}
-use Rattle.sh_base.specs.Setting.{pool_words}
-use Rattle.sh_base.specs.Layout.{lock_of, compute_of}
-use Rattle.sh_base.specs.Places.{Site, Own, Root, Counter, Lock, Node, address, IsSite}
+use Rattle.sh_base.specs.{declared.config.ConfigParts.{ConfigParts}, Setting.{pool_words}, Layout.{lock_of, compute_of}, Places.{Site, Own, Root, Counter, Lock, Node, address, IsSite}}
 use Rattle.sh_map.specs.declared.log.Entry.{Entry}
 use Rattle.sh_read.specs.Moments.{Writing, Idle, word}
 

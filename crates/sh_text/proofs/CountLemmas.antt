@@ -1,12 +1,8 @@
 -- Counts stay below the number of calls that were counted.
-use Rattle.std.proofs.Common.{ℕ, ◌≤◌, ◌+◌, Bool, true, false, arith}
-use Rattle.std.specs.Prelude.{nat_lt, if◌then◌else◌}
-use Rattle.sh_map.specs.declared.call.Call.{Call}
-use Rattle.sh_map.specs.declared.call.Call.TheVariants.{Get, Put, Del, Range}
-use Rattle.sh_map.specs.declared.call.Reply.{Reply}
+use Rattle.std.{proofs.Common.{ℕ, ◌≤◌, ◌+◌, Bool, true, false, arith}, specs.Prelude.{nat_lt, if◌then◌else◌}}
+use Rattle.sh_map.specs.declared.call.{Call.{Call, TheVariants.{Get, Put, Del, Range}}, Reply.{Reply}}
 use Rattle.sh_map.specs.declared.call.Reply.TheVariants as reply
-use Rattle.sh_text.specs.Counts.{with_answer, with_part, with_rows}
-use Rattle.sh_text.specs.declared.counts.Counts.{Counts}
+use Rattle.sh_text.specs.{Counts.{with_answer, with_part, with_rows}, declared.counts.Counts.{Counts}}
 
 -- no count is above n
 pub record AreFew (n : ℕ) (c : Counts) : Type 0 where

@@ -1,12 +1,7 @@
 -- A front of a text that is written part by part.
-use Rattle.std.proofs.Common.{ℕ, ◌≡◌, ◌<◌, ◌+◌, length, List, [], ◌++◌, Option, Result, Ok, Err, take, drop, get_or, sym, ap, ◌∙◌, append_assoc}
-use Rattle.std.specs.Prelude.{OnErr}
-use Rattle.std.proofs.lemmas.List.{append-nil, drop_more, take-append-drop}
-use Rattle.std.proofs.lemmas.List.Concat.{flat_map-append}
-use Rattle.std.specs.List.{flat_map}
-use Rattle.std.specs.Io.KnownBytes.{Appends}
-use Rattle.sh_port.specs.Port.{AppendsFront}
-use Rattle.sh_port.proofs.Bytes.{appends_more}
+use Rattle.std.{proofs.Common.{ℕ, ◌≡◌, ◌<◌, ◌+◌, length, List, [], ◌++◌, Option, Result, Ok, Err, take, drop, get_or, sym, ap, ◌∙◌, append_assoc}, specs.Prelude.{OnErr}}
+use Rattle.std.{proofs.lemmas.List.{append-nil, drop_more, take-append-drop, Concat.{flat_map-append}}, specs.{List.{flat_map}, Io.KnownBytes.{Appends}}}
+use Rattle.sh_port.{specs.Port.{AppendsFront}, proofs.Bytes.{appends_more}}
 
 -- what is written so far is a front of the whole
 pub front_so_far : (a b : Option (List ℕ)) (before after whole : List ℕ) → whole ≡ before ++ after → Appends a b before → AppendsFront a b whole

@@ -1,12 +1,7 @@
 -- How many calls were answered in each way.
-use Rattle.std.specs.Prelude.{ℕ, ◌+◌, List, ◌++◌, nat_lt, codes, if◌then◌else◌}
-use Rattle.std.specs.Fmt.{decimal}
-use Rattle.std.specs.List.{fold}
-use Rattle.sh_map.specs.declared.call.Call.{Call}
-use Rattle.sh_map.specs.declared.call.Call.TheVariants.{Range}
-use Rattle.sh_map.specs.declared.call.Reply.{Reply}
+use Rattle.std.specs.{Prelude.{ℕ, ◌+◌, List, ◌++◌, nat_lt, codes, if◌then◌else◌}, Fmt.{decimal}, List.{fold}}
+use Rattle.sh_map.specs.declared.{call.{Call.{Call, TheVariants.{Range}}, Reply.{Reply}}, book.Done.{Done}}
 use Rattle.sh_map.specs.declared.call.Reply.TheVariants as reply
-use Rattle.sh_map.specs.declared.book.Done.{Done}
 use Rattle.sh_text.specs.declared.counts.Counts.{Counts}
 
 -- none yet

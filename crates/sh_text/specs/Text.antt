@@ -1,18 +1,10 @@
 -- The lines of an answer. Each ends with a line feed; numbers are decimal, without leading zeros.
-use Rattle.std.specs.Prelude.{ℕ, List, [], ◌∷◌, ◌++◌, nat_lt, codes, if◌then◌else◌}
-use Rattle.std.specs.Fmt.{decimal}
-use Rattle.std.specs.List.{flat_map}
-use Rattle.sh_base.specs.declared.event.Event.{Event}
+use Rattle.std.specs.{Prelude.{ℕ, List, [], ◌∷◌, ◌++◌, nat_lt, codes, if◌then◌else◌}, Fmt.{decimal}, List.{flat_map}}
+use Rattle.sh_base.specs.{declared.event.Event.{Event}, Memory.{at_of}}
 use Rattle.sh_base.specs.declared.event.Event.TheVariants as event
-use Rattle.sh_base.specs.Memory.{at_of}
-use Rattle.sh_map.specs.declared.call.Call.{Call}
-use Rattle.sh_map.specs.declared.call.Call.TheVariants.{Get, Put, Del, Range}
-use Rattle.sh_map.specs.declared.call.Reply.{Reply}
+use Rattle.sh_map.specs.declared.{call.{Call.{Call, TheVariants.{Get, Put, Del, Range}}, Reply.{Reply}}, book.{Row.{Row}, Done.{Done}}}
 use Rattle.sh_map.specs.declared.call.Reply.TheVariants as reply
-use Rattle.sh_map.specs.declared.book.Row.{Row}
-use Rattle.sh_map.specs.declared.book.Done.{Done}
-use Rattle.sh_text.specs.declared.finished.Finished.{Finished}
-use Rattle.sh_text.specs.declared.points.Points.{Points}
+use Rattle.sh_text.specs.declared.{finished.Finished.{Finished}, points.Points.{Points}}
 use Rattle.sh_text.specs.declared.points.Points.TheVariants as points
 
 -- a value: its words, joined by colons

@@ -1,8 +1,7 @@
 -- Why lines weren't written.
 use Rattle.std.specs.Prelude.{ℕ, ◌≡◌, Result, MatchResult}
 use Rattle.sh_port.specs.Port.{HasRisen}
-use Rattle.sh_text.specs.declared.write.WriteError.{WriteError}
-use Rattle.sh_text.specs.declared.write.WriteError.TheVariants.{Fault, NoMemory}
+use Rattle.sh_text.specs.declared.write.WriteError.{WriteError, TheVariants.{Fault, NoMemory}}
 
 -- a call of the sink failed, or no call failed and memory was wanting
 abbrev pub CauseOf : ℕ → ℕ → WriteError → Type 0

@@ -1,6 +1,5 @@
 // Counting the answers of calls, and the line of counts.
-ghost use Rattle.std.specs.Prelude.{◌≡◌, ◌++◌, ◌≤◌, ◌<◌, ◌-◌, ◌^◌, IfOk, OnOk, codes, string_bytes};
-ghost use Rattle.std.specs.Fmt.{decimal};
+ghost use Rattle.std.specs.{Prelude.{◌≡◌, ◌++◌, ◌≤◌, ◌<◌, ◌-◌, ◌^◌, IfOk, OnOk, codes, string_bytes}, Fmt.{decimal}};
 ghost use Rattle.sh_text.specs.Counts.{counts_line, counts_of, no_counts, with_answer};
 
 use crate::Counts;

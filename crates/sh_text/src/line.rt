@@ -1,6 +1,5 @@
 // The lines of an answer that are about no one call.
-ghost use Rattle.std.specs.Prelude.{◌≡◌, ◌++◌, IfOk, OnOk, codes, string_bytes};
-ghost use Rattle.std.specs.Fmt.{decimal};
+ghost use Rattle.std.specs.{Prelude.{◌≡◌, ◌++◌, IfOk, OnOk, codes, string_bytes}, Fmt.{decimal}};
 ghost use Rattle.sh_base.specs.Memory.{at_of};
 ghost use Rattle.sh_text.specs.Text.{end_line, event_line, event_text, event_words, made_line, map_line, row_line, unfinished_line};
 

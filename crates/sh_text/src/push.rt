@@ -1,7 +1,5 @@
 // Parts of a line, each put at the end of a text.
-ghost use Rattle.std.specs.Prelude.{◌≡◌, ◌++◌, OnOk, codes, string_bytes};
-ghost use Rattle.std.specs.Fmt.{decimal};
-ghost use Rattle.std.specs.List.{flat_map};
+ghost use Rattle.std.specs.{Prelude.{◌≡◌, ◌++◌, OnOk, codes, string_bytes}, Fmt.{decimal}, List.{flat_map}};
 ghost use Rattle.sh_text.specs.Text.{pair_rest, value_text};
 
 use sh_base::Value;

@@ -1,10 +1,7 @@
 // Lines written one after another.
-ghost use Rattle.std.specs.Prelude.{◌≡◌, OnOk, OnErr};
-ghost use Rattle.std.specs.List.{flat_map};
-ghost use Rattle.std.specs.Io.KnownBytes.{Appends};
+ghost use Rattle.std.specs.{Prelude.{◌≡◌, OnOk, OnErr}, List.{flat_map}, Io.KnownBytes.{Appends}};
 ghost use Rattle.sh_port.specs.Port.{AppendsFront};
-ghost use Rattle.sh_text.specs.Counts.{counts_line};
-ghost use Rattle.sh_text.specs.Text.{call_line, call_text, calls_text, end_line, event_line, made_line, map_line, pending_line, row_line, unfinished_line};
+ghost use Rattle.sh_text.specs.{Counts.{counts_line}, Text.{call_line, call_text, calls_text, end_line, event_line, made_line, map_line, pending_line, row_line, unfinished_line}};
 ghost use Rattle.sh_text.specs.Write.{HasWriteCause};
 
 use crate::{Counts, Finished, Points, call, counting, line};

@@ -1,21 +1,12 @@
 -- What a tree's levels are like: their nodes rise, and each node's children are some of the level below.
 use Rattle.std.proofs.Common.{◌≡◌, ℕ, zero, suc, ◌+◌, ◌<◌, ◌≤◌, Bool, true, false, List, [], ◌∷◌, ◌++◌, length, get_or, map, drop, refl, sym, ap, subst, ◌∙◌, inl, inr, length-append, arith}
-use Rattle.std.specs.List.{concat, AllByRecursion}
-use Rattle.std.proofs.lemmas.List.{get_or-drop}
+use Rattle.std.{specs.List.{concat, AllByRecursion}, proofs.lemmas.List.{get_or-drop}}
 use Rattle.sh_logic.proofs.Lists.{all_join}
-use Rattle.sh_base.specs.declared.config.ConfigParts.{ConfigParts}
-use Rattle.sh_base.specs.Setting.{nodes, IsNode}
-use Rattle.sh_base.specs.Layout.{node_part}
-use Rattle.sh_image.specs.declared.inner.Pair.{Pair}
-use Rattle.sh_image.specs.declared.inner.Image.{Image}
-use Rattle.sh_image.specs.declared.inner.Image.TheVariants.{Leaf as LeafImage, Inner as InnerImage}
-use Rattle.sh_image.specs.Inner.{pairs_in, separator_at}
-use Rattle.sh_image.proofs.InnerLemmas.{inner_spelled, inner_spelled_one}
-use Rattle.sh_image.proofs.LeafLemmas.{spelled_one}
-use Rattle.sh_tree.specs.Lists.{first_of, is_in, AreDifferent}
-use Rattle.sh_tree.specs.Nodes.{NodeIn, inner_at, low_at, high_at, next_at}
-use Rattle.sh_tree.specs.Tree.{IsChain, IsLeafOf, IsChildIn, IsInnerOf, AreLevels, top_of, leaves_of, IsTree, children_of}
-use Rattle.sh_tree.proofs.ListLemmas.{in_cases, in_head, in_front, few_nodes}
+use Rattle.sh_base.specs.{declared.config.ConfigParts.{ConfigParts}, Setting.{nodes, IsNode}, Layout.{node_part}}
+use Rattle.sh_image.specs.{declared.inner.{Pair.{Pair}, Image.{Image, TheVariants.{Leaf as LeafImage, Inner as InnerImage}}}, Inner.{pairs_in, separator_at}}
+use Rattle.sh_image.proofs.{InnerLemmas.{inner_spelled, inner_spelled_one}, LeafLemmas.{spelled_one}}
+use Rattle.sh_tree.specs.{Lists.{first_of, is_in, AreDifferent}, Nodes.{NodeIn, inner_at, low_at, high_at, next_at}}
+use Rattle.sh_tree.{specs.Tree.{IsChain, IsLeafOf, IsChildIn, IsInnerOf, AreLevels, top_of, leaves_of, IsTree, children_of}, proofs.ListLemmas.{in_cases, in_head, in_front, few_nodes}}
 
 -- a node's words spell one image
 pub nodes_are_one : (p : ConfigParts) (words : List ℕ) (n : ℕ) (a b : Image) → NodeIn p words n a → NodeIn p words n b → a ≡ b

@@ -1,17 +1,12 @@
 -- The nodes that aren't named: of each level as many as it has more nodes than the level above has pairs.
 use Rattle.std.proofs.Common.{◌≡◌, ℕ, zero, suc, ◌+◌, ◌-◌, ◌*◌, ◌<◌, min, ◌≤◌, List, [], ◌∷◌, ◌++◌, length, map, drop, get_or, take, refl, sym, ap, subst, ◌∙◌, length-append, arith}
-use Rattle.std.specs.List.{concat, AllByRecursion}
-use Rattle.std.proofs.lemmas.List.{length-map, take_more, drop_more, drop_all}
-use Rattle.std.proofs.Math.Nat.{min-eq_left}
-use Rattle.sh_base.specs.declared.config.ConfigParts.{ConfigParts}
-use Rattle.sh_base.specs.Layout.{node_part}
+use Rattle.std.{specs.List.{concat, AllByRecursion}, proofs.{lemmas.List.{length-map, take_more, drop_more, drop_all}, Math.Nat.{min-eq_left}}}
+use Rattle.sh_base.specs.{declared.config.ConfigParts.{ConfigParts}, Layout.{node_part}}
 use Rattle.sh_image.proofs.InnerLemmas.{length-pairs_in}
-use Rattle.sh_tree.specs.Lists.{outside, AreDifferent}
-use Rattle.sh_tree.specs.Nodes.{inner_at}
-use Rattle.sh_tree.specs.Tree.{IsChain, IsInnerOf, AreLevels, IsTree, children_of, unnamed_from, unposted_in}
-use Rattle.sh_logic.proofs.Lists.{all_at}
+use Rattle.sh_tree.specs.{Lists.{outside, AreDifferent}, Nodes.{inner_at}, Tree.{IsChain, IsInnerOf, AreLevels, IsTree, children_of, unnamed_from, unposted_in}}
 use Rattle.sh_tree.proofs.ListLemmas.{outside_none, outside_head, outside_all, different_front, different_behind}
 use Rattle.sh_tree.proofs.ChainLemmas.{top_chain, top_fenced, child_first, children_rise, children_among, rising_differ}
+use Rattle.sh_logic.proofs.Lists.{all_at}
 
 module _ (p : ConfigParts) (words : List ℕ) where
   -- the same number, by lengths: each level's nodes, less so many as are named

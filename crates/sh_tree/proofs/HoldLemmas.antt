@@ -1,28 +1,13 @@
 -- The map that the leaves hold, leaf by leaf.
 use Rattle.std.proofs.Common.{◌≡◌, ◌⊎◌, ℕ, zero, suc, ◌+◌, ◌-◌, ◌<◌, ◌≤◌, Bool, true, false, Some, None, List, [], ◌∷◌, ◌++◌, length, get_or, eqb, drop, take, refl, sym, ap, subst, ◌∙◌, inl, inr, arith}
-use Rattle.std.specs.Prelude.{slice_get}
-use Rattle.std.specs.List.{AllByRecursion}
-use Rattle.std.specs.Ordering.{nat_cmp}
-use Rattle.std.specs.Cmp.{nat_cmp_total}
-use Rattle.std.specs.FinMap.{find, from_entries, get-from_entries}
-use Rattle.std.proofs.lemmas.Bool.{cases_eq, cases_lt}
-use Rattle.std.proofs.lemmas.List.{drop_more, append-nil, take_more}
-use Rattle.std.proofs.lemmas.List.Concat.{flat_map-append}
-use Rattle.std.proofs.lemmas.Option.{get_or_from_slice_get}
+use Rattle.std.{specs.{Prelude.{slice_get}, List.{AllByRecursion}, Ordering.{nat_cmp}, Cmp.{nat_cmp_total}, FinMap.{find, from_entries, get-from_entries}}, proofs.lemmas.Bool.{cases_eq, cases_lt}}
+use Rattle.std.proofs.lemmas.{List.{drop_more, append-nil, take_more, Concat.{flat_map-append}}, Option.{get_or_from_slice_get}}
 use Rattle.sh_logic.proofs.Lookups.{find_past, find_before}
-use Rattle.sh_base.specs.declared.config.ConfigParts.{ConfigParts}
-use Rattle.sh_base.specs.Setting.{node_size}
-use Rattle.sh_base.specs.Layout.{node_word, node_part}
-use Rattle.sh_map.specs.Map.{Map}
-use Rattle.sh_map.proofs.MapLemmas.{same_by_keys}
-use Rattle.sh_image.specs.declared.leaf.LeafEntry.{LeafEntry}
-use Rattle.sh_image.specs.Leaf.{Leaf, IsEntry, Spells}
-use Rattle.sh_image.proofs.LeafLemmas.{spelled_one}
-use Rattle.sh_edit.specs.Held.{pairs_of}
-use Rattle.sh_edit.proofs.HeldLemmas.{find-pairs_of, get-zero, held_outside}
-use Rattle.sh_tree.specs.Nodes.{leaf_at, low_at, high_at}
-use Rattle.sh_tree.specs.Tree.{IsChain, IsLeafOf, pairs_along}
-use Rattle.sh_tree.specs.Adding.{Adds}
+use Rattle.sh_base.specs.{declared.config.ConfigParts.{ConfigParts}, Setting.{node_size}, Layout.{node_word, node_part}}
+use Rattle.sh_map.{specs.Map.{Map}, proofs.MapLemmas.{same_by_keys}}
+use Rattle.sh_image.{specs.{declared.leaf.LeafEntry.{LeafEntry}, Leaf.{Leaf, IsEntry, Spells}}, proofs.LeafLemmas.{spelled_one}}
+use Rattle.sh_edit.{specs.Held.{pairs_of}, proofs.HeldLemmas.{find-pairs_of, get-zero, held_outside}}
+use Rattle.sh_tree.specs.{Nodes.{leaf_at, low_at, high_at}, Tree.{IsChain, IsLeafOf, pairs_along}, Adding.{Adds}}
 
 -- ---- a leaf's entries, from the last to the first
 one_before : (b : Bool) (e : LeafEntry) (es : List LeafEntry) (pairs : List (ℕ × List ℕ)) → eqb e.key 0 ≡ b → pairs_of (e ∷ []) ++ (pairs_of es ++ pairs) ≡ pairs_of (e ∷ es) ++ pairs

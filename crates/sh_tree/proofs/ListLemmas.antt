@@ -1,12 +1,8 @@
 -- Lists of node numbers: what is in them, and how many there are.
-use Rattle.std.specs.Prelude.{◌||◌}
-use Rattle.std.proofs.Common.{◌≡◌, ◌≢◌, ◌⊎◌, ℕ, ◌+◌, ◌<◌, ◌≤◌, Bool, true, false, cond, eqb, List, [], ◌∷◌, ◌++◌, length, refl, sym, subst, ◌∙◌, inl, inr, arith}
-use Rattle.std.specs.List.{list_any, AllByRecursion, IsDistinct}
-use Rattle.std.proofs.lemmas.Bool.{cases_eq, eq-eqb}
-use Rattle.std.proofs.lemmas.Map.Steps.{length-le_from_distinct_below}
+use Rattle.std.{specs.Prelude.{◌||◌}, proofs.Common.{◌≡◌, ◌≢◌, ◌⊎◌, ℕ, ◌+◌, ◌<◌, ◌≤◌, Bool, true, false, cond, eqb, List, [], ◌∷◌, ◌++◌, length, refl, sym, subst, ◌∙◌, inl, inr, arith}}
+use Rattle.std.{specs.List.{list_any, AllByRecursion, IsDistinct}, proofs.lemmas.{Bool.{cases_eq, eq-eqb}, Map.Steps.{length-le_from_distinct_below}}}
 use Rattle.sh_logic.proofs.Tests.{differ_test}
-use Rattle.sh_base.specs.declared.config.ConfigParts.{ConfigParts}
-use Rattle.sh_base.specs.Setting.{nodes, IsNode}
+use Rattle.sh_base.specs.{declared.config.ConfigParts.{ConfigParts}, Setting.{nodes, IsNode}}
 use Rattle.sh_tree.specs.Lists.{is_in, outside, AreDifferent}
 
 pub in_head : (n : ℕ) (ns : List ℕ) → is_in (n ∷ ns) n ≡ true

@@ -1,17 +1,9 @@
 -- What a walk along a level, and one down a tree, has gathered so far.
 use Rattle.std.proofs.Common.{◌≡◌, ◌≢◌, ℕ, ◌+◌, ◌<◌, ◌≤◌, List, [], ◌∷◌, ◌++◌, length, get_or, map, refl, sym, ap, subst, ◌∙◌, inl, inr, append_assoc, length-append, arith}
-use Rattle.std.proofs.lemmas.List.{append-nil, get_or_append_left, map-append, length-map}
-use Rattle.std.proofs.Math.Seq.{get_or-append_seam}
-use Rattle.std.proofs.lemmas.Bool.{cases_lt}
-use Rattle.sh_base.specs.declared.config.ConfigParts.{ConfigParts}
-use Rattle.sh_base.specs.Setting.{nodes, node_size, pool_words, IsNode, IsSetting}
-use Rattle.sh_base.proofs.LayoutLemmas.{node_size_is, entry_size_is, entry_at_first, entry_high}
-use Rattle.std.specs.Prelude.{slice_index}
-use Rattle.sh_base.specs.Layout.{root_word, node_part}
-use Rattle.sh_tree.specs.Lists.{first_of, AreNodes}
-use Rattle.sh_tree.specs.Nodes.{next_at, high_at}
-use Rattle.sh_tree.specs.Tree.{top_of, IsChain, AreLevels, IsTree}
-use Rattle.sh_tree.proofs.ChainLemmas.{top_chain, first_node, leaf_first, inner_first}
+use Rattle.std.{proofs.{lemmas.{List.{append-nil, get_or_append_left, map-append, length-map}, Bool.{cases_lt}}, Math.Seq.{get_or-append_seam}}, specs.Prelude.{slice_index}}
+use Rattle.sh_base.specs.{declared.config.ConfigParts.{ConfigParts}, Setting.{nodes, node_size, pool_words, IsNode, IsSetting}}
+use Rattle.sh_base.{proofs.LayoutLemmas.{node_size_is, entry_size_is, entry_at_first, entry_high}, specs.Layout.{root_word, node_part}}
+use Rattle.sh_tree.{specs.{Lists.{first_of, AreNodes}, Nodes.{next_at, high_at}, Tree.{top_of, IsChain, AreLevels, IsTree}}, proofs.ChainLemmas.{top_chain, first_node, leaf_first, inner_first}}
 
 -- the nodes of a level so far, and the node that comes next
 pub record IsAlong (p : ConfigParts) (words : List ℕ) (chain so_far : List ℕ) (node : ℕ) : Type 0 where

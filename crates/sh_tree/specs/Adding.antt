@@ -1,6 +1,5 @@
 -- What it is to add the pairs of entries to a map.
-use Rattle.std.specs.Prelude.{◌≡◌, ℕ, List, ◌++◌}
-use Rattle.std.specs.FinMap.{from_entries}
+use Rattle.std.specs.{Prelude.{◌≡◌, ℕ, List, ◌++◌}, FinMap.{from_entries}}
 use Rattle.sh_map.specs.Map.{Map}
 use Rattle.sh_image.specs.declared.leaf.LeafEntry.{LeafEntry}
 use Rattle.sh_edit.specs.Held.{pairs_of}

@@ -1,11 +1,7 @@
 -- A node of the tree, as its words spell it.
 use Rattle.std.specs.Prelude.{ℕ, List, slice_index}
-use Rattle.sh_base.specs.declared.config.ConfigParts.{ConfigParts}
-use Rattle.sh_base.specs.Layout.{node_part}
-use Rattle.sh_image.specs.declared.inner.Image.{Image}
-use Rattle.sh_image.specs.declared.inner.Image.TheVariants.{Leaf as LeafImage, Inner as InnerImage}
-use Rattle.sh_image.specs.Leaf.{Leaf, leaf_in, Spells}
-use Rattle.sh_image.specs.Inner.{Inner, inner_in, SpellsInner}
+use Rattle.sh_base.specs.{declared.config.ConfigParts.{ConfigParts}, Layout.{node_part}}
+use Rattle.sh_image.specs.{declared.inner.Image.{Image, TheVariants.{Leaf as LeafImage, Inner as InnerImage}}, Leaf.{Leaf, leaf_in, Spells}, Inner.{Inner, inner_in, SpellsInner}}
 
 -- The words of node n spell this image. They spell one at most, and some words spell none.
 abbrev pub NodeIn : ConfigParts → List ℕ → ℕ → Image → Type 0

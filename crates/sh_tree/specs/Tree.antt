@@ -1,16 +1,10 @@
 -- The tree that the words of a pool hold while no node is being written: its levels, its map, and its unposted nodes.
-use Rattle.std.specs.Prelude.{◌≡◌, ℕ, ◌+◌, ◌-◌, ◌^◌, List, [], ◌∷◌, drop, length, map, true, slice_index}
-use Rattle.std.specs.List.{concat, flat_map, AllByRecursion}
-use Rattle.std.specs.FinMap.{from_entries}
-use Rattle.sh_base.specs.declared.config.ConfigParts.{ConfigParts}
-use Rattle.sh_base.specs.Setting.{IsNode}
-use Rattle.sh_base.specs.Layout.{root_word}
+use Rattle.std.specs.{Prelude.{◌≡◌, ℕ, ◌+◌, ◌-◌, ◌^◌, List, [], ◌∷◌, drop, length, map, true, slice_index}, List.{concat, flat_map, AllByRecursion}, FinMap.{from_entries}}
+use Rattle.sh_base.specs.{declared.config.ConfigParts.{ConfigParts}, Setting.{IsNode}, Layout.{root_word}}
 use Rattle.sh_map.specs.Map.{Map}
-use Rattle.sh_image.specs.declared.inner.Image.TheVariants.{Leaf, Inner}
-use Rattle.sh_image.specs.declared.inner.Pair.{Pair}
+use Rattle.sh_image.specs.declared.inner.{Image.TheVariants.{Leaf, Inner}, Pair.{Pair}}
 use Rattle.sh_edit.specs.Held.{pairs_of, HasKeysOnce}
-use Rattle.sh_tree.specs.Lists.{first_of, is_in, outside, AreDifferent}
-use Rattle.sh_tree.specs.Nodes.{NodeIn, leaf_at, inner_at, low_at, high_at, next_at}
+use Rattle.sh_tree.specs.{Lists.{first_of, is_in, outside, AreDifferent}, Nodes.{NodeIn, leaf_at, inner_at, low_at, high_at, next_at}}
 
 -- The nodes of a level whose keys lie from low on: each begins where the one before ends and is named by it, and the
 -- last one ends at the greatest word and names none.

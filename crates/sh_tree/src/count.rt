@@ -1,10 +1,7 @@
 // The nodes of a tree that no node above names.
-ghost use Rattle.std.specs.Prelude.{◌≡◌, ◌≤◌, ℕ, List, length, IfOk};
-ghost use Rattle.std.specs.List.{AllByRecursion};
-ghost use Rattle.sh_base.specs.Parts.{parts_of};
-ghost use Rattle.sh_base.specs.Setting.{nodes, pool_words};
-ghost use Rattle.sh_tree.specs.Lists.{AreNodes};
-ghost use Rattle.sh_tree.specs.Tree.{children_of, unposted_in, IsInnerOf, IsTree};
+ghost use Rattle.std.specs.{Prelude.{◌≡◌, ◌≤◌, ℕ, List, length, IfOk}, List.{AllByRecursion}};
+ghost use Rattle.sh_base.specs.{Parts.{parts_of}, Setting.{nodes, pool_words}};
+ghost use Rattle.sh_tree.specs.{Lists.{AreNodes}, Tree.{children_of, unposted_in, IsInnerOf, IsTree}};
 
 use crate::levels::{firsts, level_from, word_at};
 use sh_base::Config;

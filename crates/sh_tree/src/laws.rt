@@ -2,8 +2,7 @@
 ghost use Rattle.std.specs.Prelude.{◌≡◌, List, ℕ};
 ghost use Rattle.sh_base.specs.Parts.{parts_of};
 ghost use Rattle.sh_image.specs.declared.inner.Image.{Image};
-ghost use Rattle.sh_tree.specs.Nodes.{NodeIn};
-ghost use Rattle.sh_tree.specs.Tree.{IsTree};
+ghost use Rattle.sh_tree.specs.{Nodes.{NodeIn}, Tree.{IsTree}};
 
 use sh_base::Config;
 

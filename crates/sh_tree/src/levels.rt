@@ -1,11 +1,7 @@
 // The levels of a tree, as its nodes name each other.
 ghost use Rattle.std.specs.Prelude.{◌≡◌, ◌≢◌, ◌<◌, ◌≤◌, ℕ, List, length, map, slice_index, IfOk};
-ghost use Rattle.sh_base.specs.Parts.{parts_of};
-ghost use Rattle.sh_base.specs.Setting.{nodes, node_size, pool_words, IsNode};
-ghost use Rattle.sh_base.specs.Layout.{node_part};
-ghost use Rattle.sh_tree.specs.Lists.{first_of, AreNodes};
-ghost use Rattle.sh_tree.specs.Nodes.{next_at};
-ghost use Rattle.sh_tree.specs.Tree.{leaves_of, IsChain, IsTree};
+ghost use Rattle.sh_base.specs.{Parts.{parts_of}, Setting.{nodes, node_size, pool_words, IsNode}, Layout.{node_part}};
+ghost use Rattle.sh_tree.specs.{Lists.{first_of, AreNodes}, Nodes.{next_at}, Tree.{leaves_of, IsChain, IsTree}};
 
 use sh_base::Config;
 use std::alloc::{AllocError, Global};

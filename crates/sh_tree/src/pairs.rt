@@ -1,13 +1,9 @@
 // The keys and values that a tree holds.
-ghost use Rattle.std.specs.Prelude.{◌≡◌, ◌∷◌, [], ℕ, List, length, map, IfOk, OnOk};
-ghost use Rattle.std.specs.FinMap.{entries};
-ghost use Rattle.sh_base.specs.Parts.{parts_of};
-ghost use Rattle.sh_base.specs.Setting.{pool_words, IsNode};
-ghost use Rattle.sh_base.specs.Layout.{node_part};
+ghost use Rattle.std.specs.{Prelude.{◌≡◌, ◌∷◌, [], ℕ, List, length, map, IfOk, OnOk}, FinMap.{entries}};
+ghost use Rattle.sh_base.specs.{Parts.{parts_of}, Setting.{pool_words, IsNode}, Layout.{node_part}};
 ghost use Rattle.sh_map.specs.Map.{row_pair};
 ghost use Rattle.sh_image.specs.Leaf.{Leaf, Spells};
-ghost use Rattle.sh_tree.specs.Tree.{map_in, IsTree};
-ghost use Rattle.sh_tree.specs.Adding.{Adds};
+ghost use Rattle.sh_tree.specs.{Tree.{map_in, IsTree}, Adding.{Adds}};
 
 use crate::levels::leaves;
 use sh_base::Config;

@@ -1,16 +1,10 @@
 -- The calls in columns, by their places: how they are read, pushed and answered.
 use Rattle.std.proofs.Common.{◌≡◌, ℕ, zero, suc, ◌+◌, ◌*◌, ◌≤◌, List, [], ◌∷◌, ◌++◌, length, set, take, drop, Some, None, refl, sym, ap, ◌∙◌, arith}
-use Rattle.std.specs.Prelude.{slice_get}
-use Rattle.std.proofs.lemmas.List.{drop-drop, drop-take, take-take, take-append-le, drop-append-le, length-drop}
+use Rattle.std.{specs.Prelude.{slice_get}, proofs.lemmas.List.{drop-drop, drop-take, take-take, take-append-le, drop-append-le, length-drop}}
 use Rattle.sh_logic.proofs.Options.{some_is}
-use Rattle.sh_map.specs.declared.call.Call.{Call}
-use Rattle.sh_map.specs.declared.call.Reply.{Reply}
-use Rattle.sh_map.specs.declared.book.Row.{Row}
-use Rattle.sh_world.specs.declared.calls.Kept.{Kept}
-use Rattle.sh_world.specs.declared.calls.ReplyKind.TheVariants.{Waiting}
-use Rattle.sh_world.specs.States.{answered, fresh_call, rows_at, rows_in}
-use Rattle.sh_world.specs.Columns.{call_of, calls_of, given_of, key_of, kind_of, reply_kind_of, reply_read, rows_read, AreInside, IsWritten}
-use Rattle.sh_world.proofs.RowLemmas.{row_first, rows_front}
+use Rattle.sh_map.specs.declared.{call.{Call.{Call}, Reply.{Reply}}, book.Row.{Row}}
+use Rattle.sh_world.specs.{declared.calls.{Kept.{Kept}, ReplyKind.TheVariants.{Waiting}}, States.{answered, fresh_call, rows_at, rows_in}}
+use Rattle.sh_world.{specs.Columns.{call_of, calls_of, given_of, key_of, kind_of, reply_kind_of, reply_read, rows_read, AreInside, IsWritten}, proofs.RowLemmas.{row_first, rows_front}}
 
 -- the values of the next call lie behind those of this one
 pub row_next : (i n : ℕ) → suc i * n ≡ n + i * n

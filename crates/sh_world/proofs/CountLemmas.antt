@@ -1,35 +1,16 @@
 -- The log has at most one entry for each call that was given.
 use Rattle.std.proofs.Common.{◌≡◌, ◌≢◌, ℕ, zero, suc, ◌+◌, ◌<◌, ◌≤◌, inl, inr, Bool, true, false, List, [], ◌∷◌, length, Some, refl, sym, ap, ◌∙◌, arith, eq-eqb, ne_eqb}
-use Rattle.std.specs.Prelude.{◌==◌, if◌then◌else◌, slice_get}
-use Rattle.std.proofs.lemmas.Bool.{cases_eq}
-use Rattle.std.proofs.lemmas.List.{length-append}
-use Rattle.sh_map.specs.declared.call.Call.{Call}
-use Rattle.sh_map.specs.declared.call.Call.TheVariants.{Put, Del}
-use Rattle.sh_map.specs.declared.call.Reply.{Reply}
+use Rattle.std.{specs.Prelude.{◌==◌, if◌then◌else◌, slice_get}, proofs.lemmas.{Bool.{cases_eq}, List.{length-append}}}
+use Rattle.sh_map.specs.{declared.{call.{Call.{Call, TheVariants.{Put, Del}}, Reply.{Reply}}, log.Entry.{Entry}, book.Done.{Done}}, Made.{entries_by}}
 use Rattle.sh_map.specs.declared.call.Reply.TheVariants as reply
-use Rattle.sh_map.specs.declared.log.Entry.{Entry}
-use Rattle.sh_map.specs.declared.book.Done.{Done}
-use Rattle.sh_map.specs.Made.{entries_by}
-use Rattle.sh_core.specs.Actors.{made_by, updates}
-use Rattle.sh_core.specs.Keeps.{pending, pending_aim, pending_filling, pending_need, pending_then, pending_write}
+use Rattle.sh_core.specs.{Actors.{made_by, updates}, Keeps.{pending, pending_aim, pending_filling, pending_need, pending_then, pending_write}}
 use Rattle.sh_core_says.specs.Rest.{sum_below}
-use Rattle.sh_decide.specs.declared.state.Aim.{Aim}
-use Rattle.sh_decide.specs.declared.state.Aim.TheVariants.{Own, Gathers, Posts}
-use Rattle.sh_client.specs.declared.state.Then.{Then}
-use Rattle.sh_client.specs.declared.state.Then.TheVariants.{Ends, Starts, Takes}
-use Rattle.sh_client.specs.declared.state.Write.{Write}
-use Rattle.sh_client.specs.declared.state.Write.TheVariants.{Nothing, Inner as WholeInner, LeftInner}
-use Rattle.sh_client.specs.declared.state.Phase.{Phase}
-use Rattle.sh_client.specs.declared.state.Phase.TheVariants.{Idle, Root, Read, Draw, Look, Grab, ReadLocked, Seek, Fill, Waiting, Body, Unlock, Leave, Swap, Ended}
-use Rattle.sh_client.specs.declared.state.Need.{Need}
-use Rattle.sh_client.specs.declared.state.Need.TheVariants.{ToSplit, ToGrow}
-use Rattle.sh_client.specs.declared.state.Filling.{Filling}
-use Rattle.sh_client.specs.declared.state.Filling.TheVariants.{RightHalf, NewRoot}
-use Rattle.sh_client.specs.Machine.{Machine, Registers}
-use Rattle.sh_client.specs.Giving.{changes_map, entries_of, made_in}
-use Rattle.sh_client.specs.Rests.{rests}
-use Rattle.sh_world.specs.States.{Given}
-use Rattle.sh_world.specs.Running.{numbers_from}
+use Rattle.sh_decide.specs.declared.state.Aim.{Aim, TheVariants.{Own, Gathers, Posts}}
+use Rattle.sh_client.specs.declared.state.{Then.{Then, TheVariants.{Ends, Starts, Takes}}, Write.{Write, TheVariants.{Nothing, Inner as WholeInner, LeftInner}}, Phase.{Phase}}
+use Rattle.sh_client.specs.declared.state.{Phase.TheVariants.{Idle, Root, Read, Draw, Look, Grab, ReadLocked, Seek, Fill, Waiting, Body, Unlock, Leave, Swap, Ended}, Need.{Need}}
+use Rattle.sh_client.specs.{declared.state.{Need.TheVariants.{ToSplit, ToGrow}, Filling.{Filling, TheVariants.{RightHalf, NewRoot}}}, Machine.{Machine, Registers}}
+use Rattle.sh_client.specs.{Giving.{changes_map, entries_of, made_in}, Rests.{rests}}
+use Rattle.sh_world.specs.{States.{Given}, Running.{numbers_from}}
 
 -- how many have this key
 counts : {X : Type 0} → (X → ℕ) → ℕ → List X → ℕ

@@ -1,11 +1,7 @@
 -- The calls that have ended, by their seats, when one more has ended or one more is given.
 use Rattle.std.proofs.Common.{◌≡◌, ◌≢◌, ℕ, zero, suc, ◌+◌, ◌≤◌, inl, inr, List, [], ◌∷◌, ◌++◌, length, get_or, set, Option, Some, None, refl, sym, ap, ◌∙◌, subst, arith, append-nil, append_assoc, ne_eqb, eq-eqb}
-use Rattle.std.specs.Prelude.{◌==◌, slice_get}
-use Rattle.std.proofs.lemmas.Bool.{cases_eq}
-use Rattle.std.proofs.lemmas.List.Elements.{filter-append}
-use Rattle.sh_map.specs.declared.call.Reply.{Reply}
-use Rattle.sh_map.specs.declared.book.Done.{Done}
-use Rattle.sh_map.specs.declared.book.Row.{Row}
+use Rattle.std.{specs.Prelude.{◌==◌, slice_get}, proofs.lemmas.{Bool.{cases_eq}, List.Elements.{filter-append}}}
+use Rattle.sh_map.specs.declared.{call.Reply.{Reply}, book.{Done.{Done}, Row.{Row}}}
 use Rattle.sh_world.specs.States.{Given, answered, done_in, dones_by, dones_from, dones_of}
 
 abbrev pub told : Given → Reply → List Row → (first point : ℕ) → Given

@@ -1,25 +1,12 @@
 -- A seat is given a call.
 use Rattle.std.proofs.Common.{◌≡◌, ◌≢◌, ◌⊎◌, ℕ, suc, ◌+◌, ◌-◌, ◌^◌, ◌<◌, ◌≤◌, inl, inr, Bool, true, false, List, [], ◌∷◌, ◌++◌, length, set, Option, Some, None, refl, sym, ap, ◌∙◌, subst, arith, append-nil, eq-eqb, ne_eqb}
-use Rattle.std.specs.Prelude.{◌==◌, if◌then◌else◌, slice_get}
-use Rattle.std.proofs.lemmas.Bool.{cases_eq}
-use Rattle.std.proofs.lemmas.Option.{slice_get_within}
-use Rattle.std.proofs.lemmas.List.{length-set, length_push}
-use Rattle.sh_logic.proofs.Lists.{set_here, set_else, slice_get-append_left, slice_get-push_back}
-use Rattle.sh_logic.proofs.Options.{some_is}
-use Rattle.sh_base.specs.declared.config.ConfigParts.{ConfigParts}
-use Rattle.sh_base.specs.Setting.{all_seats}
-use Rattle.sh_map.specs.declared.call.Call.{Call}
-use Rattle.sh_map.specs.declared.book.Done.{Done}
-use Rattle.sh_map.specs.declared.log.Entry.{Entry}
-use Rattle.sh_map.specs.Calls.{IsInRange}
-use Rattle.sh_core.specs.Core.{AreSame}
-use Rattle.sh_core.proofs.Moves.{same_keeps}
-use Rattle.sh_world.specs.States.{Given, Place, State, actor_of, dones_by, dones_of, fresh_call, HasActor, IsLeft}
-use Rattle.sh_world.specs.Turning.{give_at, give_of, queued}
-use Rattle.sh_world.specs.Running.{numbers_from, IsGiven, IsPlace, IsRunning, IsWorld}
-use Rattle.sh_world.proofs.DoneLemmas.{dones_waits}
-use Rattle.sh_world.proofs.PlaceLemmas.{number_in}
-use Rattle.sh_world.proofs.WantLemmas.{lines_still}
+use Rattle.std.{specs.Prelude.{◌==◌, if◌then◌else◌, slice_get}, proofs.lemmas.{Bool.{cases_eq}, Option.{slice_get_within}, List.{length-set, length_push}}}
+use Rattle.sh_logic.proofs.{Lists.{set_here, set_else, slice_get-append_left, slice_get-push_back}, Options.{some_is}}
+use Rattle.sh_base.specs.{declared.config.ConfigParts.{ConfigParts}, Setting.{all_seats}}
+use Rattle.sh_map.specs.{declared.{call.Call.{Call}, book.Done.{Done}, log.Entry.{Entry}}, Calls.{IsInRange}}
+use Rattle.sh_core.{specs.Core.{AreSame}, proofs.Moves.{same_keeps}}
+use Rattle.sh_world.specs.{States.{Given, Place, State, actor_of, dones_by, dones_of, fresh_call, HasActor, IsLeft}, Turning.{give_at, give_of, queued}}
+use Rattle.sh_world.{specs.Running.{numbers_from, IsGiven, IsPlace, IsRunning, IsWorld}, proofs.{DoneLemmas.{dones_waits}, PlaceLemmas.{number_in}, WantLemmas.{lines_still}}}
 
 abbrev last : (seat n : ℕ) → Given → Bool → List ℕ
 last seat n g t = if t then n ∷ [] else []

@@ -1,18 +1,11 @@
 -- Calls stay in columns: one that is pushed, and one that is answered.
 use Rattle.std.proofs.Common.{◌≡◌, ℕ, suc, ◌+◌, ◌-◌, ◌*◌, ◌<◌, ◌≤◌, List, [], ◌∷◌, ◌++◌, length, get_or, set, take, drop, Some, None, refl, sym, ap, ◌∙◌, subst, arith}
-use Rattle.std.specs.Prelude.{slice_get}
-use Rattle.std.specs.List.{flat_map, All}
-use Rattle.std.proofs.Math.Nat.{le-min, mul-le-mul_right}
-use Rattle.std.proofs.lemmas.Option.{slice_get_read}
+use Rattle.std.{specs.{Prelude.{slice_get}, List.{flat_map, All}}, proofs.{Math.Nat.{le-min, mul-le-mul_right}, lemmas.Option.{slice_get_read}}}
 use Rattle.std.proofs.lemmas.List.{drop_all, drop-append-le, length-append, length_push, length-set, length-take-le, take_at}
 use Rattle.sh_base.specs.declared.config.ConfigParts.{ConfigParts}
-use Rattle.sh_map.specs.declared.call.Call.{Call}
-use Rattle.sh_map.specs.declared.call.Reply.{Reply}
+use Rattle.sh_map.specs.declared.{call.{Call.{Call}, Reply.{Reply}}, book.Row.{Row}}
 use Rattle.sh_map.specs.declared.call.Reply.TheVariants as reply
-use Rattle.sh_map.specs.declared.book.Row.{Row}
-use Rattle.sh_world.specs.declared.calls.Kept.{Kept}
-use Rattle.sh_world.specs.declared.calls.ReplyKind.{ReplyKind}
-use Rattle.sh_world.specs.States.{Given, answered, fresh_call, rows_at}
+use Rattle.sh_world.specs.{declared.calls.{Kept.{Kept}, ReplyKind.{ReplyKind}}, States.{Given, answered, fresh_call, rows_at}}
 use Rattle.sh_world.specs.Columns.{call_of, calls_of, key_of, keys_of, kind_of, owed_words, reply_kind_of, reply_read, room_of, row_words, rows_read, AreColumns, IsRowWide, IsWritten, Listed}
 use Rattle.sh_world.proofs.ColumnLemmas.{call_answered, call_pushed, fresh, length_calls, row_next, rows_behind, rows_of_call}
 use Rattle.sh_world.proofs.RowLemmas.{inside_at, inside_on, inside_push, inside_set, length_rows, owed_answered, owed_push, row_within, rows_back}

@@ -1,15 +1,9 @@
 -- A laid pool.
-use Rattle.std.proofs.Common.{◌≡◌, ◌≢◌, ◌⊎◌, ℕ, zero, suc, ◌+◌, ◌<◌, ◌≤◌, List, length, set, replicate, refl, ap, ◌∙◌, inl, arith}
-use Rattle.std.specs.Prelude.{slice_index}
+use Rattle.std.{proofs.Common.{◌≡◌, ◌≢◌, ◌⊎◌, ℕ, zero, suc, ◌+◌, ◌<◌, ◌≤◌, List, length, set, replicate, refl, ap, ◌∙◌, inl, arith}, specs.Prelude.{slice_index}}
 use Rattle.std.proofs.lemmas.List.{length-replicate, length-set, get_or-set_same, get_or-set_other}
-use Rattle.sh_base.specs.declared.config.ConfigParts.{ConfigParts}
-use Rattle.sh_base.specs.Setting.{node_size, pool_words, IsSetting}
-use Rattle.sh_base.specs.Layout.{root_word, counter_word, node_word, node_part}
-use Rattle.sh_base.specs.Places.{Counter}
-use Rattle.sh_base.proofs.LayoutLemmas.{node_word_low}
-use Rattle.sh_base.proofs.PlacesLemmas.{are_places_apart}
-use Rattle.sh_image.specs.Leaf.{Leaf, leaf_words}
-use Rattle.sh_image.specs.Laid.{AreLaid, blank_leaf}
+use Rattle.sh_base.specs.{declared.config.ConfigParts.{ConfigParts}, Setting.{node_size, pool_words, IsSetting}, Layout.{root_word, counter_word, node_word, node_part}, Places.{Counter}}
+use Rattle.sh_base.proofs.{LayoutLemmas.{node_word_low}, PlacesLemmas.{are_places_apart}}
+use Rattle.sh_image.specs.{Leaf.{Leaf, leaf_words}, Laid.{AreLaid, blank_leaf}}
 use Rattle.sh_world.specs.Laid.{bare_words, first_leaf}
 
 -- the counter of server 0 lies in the pool

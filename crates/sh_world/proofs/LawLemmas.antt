@@ -1,44 +1,20 @@
 -- What holds of a world after any turns, by the core's laws.
 use Rattle.std.proofs.Common.{◌≡◌, ◌≢◌, ℕ, zero, suc, ◌+◌, ◌-◌, ◌<◌, ◌≤◌, inl, inr, Bool, true, false, List, [], ◌∷◌, ◌++◌, length, Option, Some, None, refl, sym, ap, ◌∙◌, subst, arith, append-nil, eq-eqb, eqb-true}
-use Rattle.std.specs.Prelude.{◌==◌, ◌&&◌, if◌then◌else◌, slice_get, map, All, AllPairs}
-use Rattle.std.specs.List.{AllByRecursion}
-use Rattle.std.proofs.lemmas.Bool.{and_parts}
-use Rattle.std.proofs.lemmas.Option.{slice_get_cases, slice_get_past}
-use Rattle.std.proofs.lemmas.List.{length-append}
-use Rattle.std.proofs.lemmas.List.Elements.{filter-append}
-use Rattle.std.proofs.lemmas.List.Kept.{AllPairs-cons}
+use Rattle.std.{specs.{Prelude.{◌==◌, ◌&&◌, if◌then◌else◌, slice_get, map, All, AllPairs}, List.{AllByRecursion}}, proofs.lemmas.{Bool.{and_parts}, Option.{slice_get_cases, slice_get_past}}}
+use Rattle.std.proofs.lemmas.List.{length-append, Elements.{filter-append}, Kept.{AllPairs-cons}}
 use Rattle.sh_logic.proofs.Lists.{set_same}
-use Rattle.sh_map.specs.declared.call.Reply.{Reply}
-use Rattle.sh_map.specs.declared.book.Done.{Done}
-use Rattle.sh_map.specs.declared.log.Entry.{Entry}
-use Rattle.sh_map.specs.declared.call.Call.{Call}
-use Rattle.sh_client.specs.declared.state.Phase.{Phase}
-use Rattle.sh_client.proofs.BeginLemmas.{has_begun}
-use Rattle.sh_client.specs.declared.state.Phase.TheVariants.{Body}
-use Rattle.sh_client.specs.Giving.{changes_map, entries_of, made_in}
-use Rattle.sh_map.specs.Made.{entries_by}
-use Rattle.sh_client.specs.Machine.{Machine}
-use Rattle.sh_client.specs.declared.state.Want.{Want}
+use Rattle.sh_map.specs.{declared.{call.{Reply.{Reply}, Call.{Call}}, book.Done.{Done}, log.Entry.{Entry}}, Made.{entries_by}}
+use Rattle.sh_client.{specs.{declared.state.{Phase.{Phase, TheVariants.{Body}}, Want.{Want}}, Giving.{changes_map, entries_of, made_in}, Machine.{Machine}}, proofs.BeginLemmas.{has_begun}}
+use Rattle.sh_client.specs.{Rests.{is_resting}, Wants.{want_of}, InLine.{stand_in, IsIn}}
 use Rattle.sh_client.specs.declared.state.Want.TheVariants as want
-use Rattle.sh_client.specs.Rests.{is_resting}
-use Rattle.sh_client.specs.Wants.{want_of}
 use Rattle.sh_core.specs.Actors.{Actor}
-use Rattle.sh_core_says.specs.Books.{numbered, IsBookOf}
-use Rattle.sh_core_says.proofs.AtRest.{at_rest}
-use Rattle.sh_core_says.proofs.Books.{books_are_lawful, calls_are_answered}
-use Rattle.sh_core_says.proofs.Moments.{each_moment}
-use Rattle.sh_core_says.proofs.Refusals.{refusals_have_causes}
+use Rattle.sh_core_says.{specs.Books.{numbered, IsBookOf}, proofs.{AtRest.{at_rest}, Books.{books_are_lawful, calls_are_answered}, Moments.{each_moment}, Refusals.{refusals_have_causes}}}
 use Rattle.sh_core_turns.proofs.Senses.{never_senseless}
 use Rattle.sh_world.specs.States.{Given, Place, State, actor_of, done_in, dones_by, dones_from, dones_of}
 use Rattle.sh_world.specs.Turning.{answer_at, turn_answer_in, answer_of, asked, asked_in, is_done, is_idle, is_idle_at, started, starts, starts_next, took, turn_at, turn_of}
-use Rattle.sh_client.specs.InLine.{stand_in, IsIn}
-use Rattle.sh_world.specs.Running.{numbers_from, IsRunning}
-use Rattle.sh_world.specs.Laws.{entries_at, entries_wanted, AllIdle, Clients, Extends, IdlesRight, Rights, IsLawfulWorld}
+use Rattle.sh_world.{specs.{Running.{numbers_from, IsRunning}, Laws.{entries_at, entries_wanted, AllIdle, Clients, Extends, IdlesRight, Rights, IsLawfulWorld}}, proofs.CountLemmas.{entries_one}}
+use Rattle.sh_world.proofs.{PlaceLemmas.{number_in}, RunLemmas.{log_few, seat_at}, StartLemmas.{rests_done}}
 use Rattle.sh_world.specs.declared.turn.Turn.TheVariants as turn
-use Rattle.sh_world.proofs.CountLemmas.{entries_one}
-use Rattle.sh_world.proofs.PlaceLemmas.{number_in}
-use Rattle.sh_world.proofs.RunLemmas.{log_few, seat_at}
-use Rattle.sh_world.proofs.StartLemmas.{rests_done}
 
 -- ---- the book
 

@@ -1,12 +1,8 @@
 -- Where lines lie, and what differences of words are.
 use Rattle.std.proofs.Common.{◌≡◌, ℕ, ◌+◌, ◌-◌, ◌*◌, ◌^◌, ◌<◌, ◌≤◌, ap, arith, inl, inr}
-use Rattle.std.proofs.Math.Nat.{div-lt_iff_lt-mul}
-use Rattle.std.proofs.lemmas.Bool.{cases_lt, cases_eq}
-use Rattle.sh_base.specs.declared.config.ConfigParts.{ConfigParts}
-use Rattle.sh_base.specs.Setting.{all_locks, all_seats, IsSetting}
-use Rattle.sh_base.specs.Layout.{compute_of}
-use Rattle.sh_world.specs.States.{line_at}
-use Rattle.sh_world.specs.Turning.{minus, next_ticket}
+use Rattle.std.proofs.{Math.Nat.{div-lt_iff_lt-mul}, lemmas.Bool.{cases_lt, cases_eq}}
+use Rattle.sh_base.specs.{declared.config.ConfigParts.{ConfigParts}, Setting.{all_locks, all_seats, IsSetting}, Layout.{compute_of}}
+use Rattle.sh_world.specs.{States.{line_at}, Turning.{minus, next_ticket}}
 
 pub minus_ge : (a b : ℕ) → a < 2 ^ 64 → b ≤ a → minus a b ≡ a - b
 minus_ge a b la le = omega (arith, la, le)

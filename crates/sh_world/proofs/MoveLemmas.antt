@@ -3,19 +3,10 @@ use Rattle.std.proofs.Common.{◌≡◌, ◌≢◌, ℕ, zero, suc, ◌+◌, ◌
 use Rattle.std.specs.Prelude.{if◌then◌else◌, slice_get}
 use Rattle.sh_logic.proofs.Lists.{set_here, set_else}
 use Rattle.sh_base.specs.declared.config.ConfigParts.{ConfigParts}
-use Rattle.sh_map.specs.declared.book.Done.{Done}
-use Rattle.sh_map.specs.declared.log.Entry.{Entry}
-use Rattle.sh_client.specs.declared.state.Phase.TheVariants.{Ended}
-use Rattle.sh_client.specs.declared.state.Phase.{Phase}
-use Rattle.sh_client.specs.Machine.{Machine}
-use Rattle.sh_map.specs.Points.{point_of}
-use Rattle.sh_core.specs.Actors.{Actor, becomes, ending, actor_going, rested}
-use Rattle.sh_client.specs.Rests.{has_ended, rows_told}
-use Rattle.sh_core.specs.Core.{Instead, Inv, Moves, RestKeeps}
-use Rattle.sh_core.proofs.Moves.{moves_from as core_moves, put_moves}
-use Rattle.sh_world.specs.States.{Given, Place, actor_of, answered, dones_by, dones_of, HasActor}
-use Rattle.sh_world.specs.Turning.{calls_after, going, place_after, resting}
-use Rattle.sh_world.proofs.DoneLemmas.{by_other, by_own}
+use Rattle.sh_map.specs.{declared.{book.Done.{Done}, log.Entry.{Entry}}, Points.{point_of}}
+use Rattle.sh_client.specs.{declared.state.Phase.{Phase, TheVariants.{Ended}}, Machine.{Machine}, Rests.{has_ended, rows_told}}
+use Rattle.sh_core.{specs.{Actors.{Actor, becomes, ending, actor_going, rested}, Core.{Instead, Inv, Moves, RestKeeps}}, proofs.Moves.{moves_from as core_moves, put_moves}}
+use Rattle.sh_world.{specs.{States.{Given, Place, actor_of, answered, dones_by, dones_of, HasActor}, Turning.{calls_after, going, place_after, resting}}, proofs.DoneLemmas.{by_other, by_own}}
 
 pub set_again : {X : Type 0} (xs : List X) (i : ℕ) (x y : X) → set (set xs i x) i y ≡ set xs i y
 set_again [] i x y = refl

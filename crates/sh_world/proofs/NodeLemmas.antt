@@ -1,13 +1,7 @@
 -- A WRITE of a node, one store more.
-use Rattle.std.proofs.Common.{◌≡◌, ◌⊎◌, ℕ, ◌+◌, ◌<◌, ◌≤◌, List, length, get_or, set, refl, ◌∙◌, inl, inr, arith}
-use Rattle.std.proofs.lemmas.Bool.{cases_eq}
-use Rattle.std.proofs.lemmas.List.{get_or-set_same, get_or-set_other}
-use Rattle.sh_base.specs.declared.config.ConfigParts.{ConfigParts}
-use Rattle.sh_base.specs.declared.plan.Place.TheVariants.{Body}
-use Rattle.sh_base.specs.declared.plan.WritePlan.{WritePlan}
-use Rattle.sh_base.specs.Layout.{node_word}
-use Rattle.sh_base.specs.Plans.{IsWriteOf, place_of, write_steps}
+use Rattle.std.proofs.{Common.{◌≡◌, ◌⊎◌, ℕ, ◌+◌, ◌<◌, ◌≤◌, List, length, get_or, set, refl, ◌∙◌, inl, inr, arith}, lemmas.{Bool.{cases_eq}, List.{get_or-set_same, get_or-set_other}}}
 use Rattle.std.specs.Prelude.{false}
+use Rattle.sh_base.specs.{declared.{config.ConfigParts.{ConfigParts}, plan.{Place.TheVariants.{Body}, WritePlan.{WritePlan}}}, Layout.{node_word}, Plans.{IsWriteOf, place_of, write_steps}}
 
 -- a WRITE that gives no lock back stores each word of its node
 pub body_of : (p : ConfigParts) (n count : ℕ) (plan : WritePlan) (step : ℕ) → IsWriteOf p n 0 count false plan → place_of plan step ≡ Body (node_word p n + step) step

@@ -1,23 +1,15 @@
 -- A world whose pool was just laid.
 use Rattle.std.proofs.Common.{◌≡◌, ℕ, zero, suc, ◌+◌, ◌*◌, ◌<◌, ◌≤◌, List, [], ◌∷◌, ◌++◌, length, get_or, take, replicate, Option, Some, None, refl, sym, ap, ◌∙◌, subst, arith, inr, append-nil}
-use Rattle.std.specs.Prelude.{slice_get}
-use Rattle.std.proofs.lemmas.List.{length-replicate, length-take-le, take_more}
+use Rattle.std.{specs.Prelude.{slice_get}, proofs.lemmas.List.{length-replicate, length-take-le, take_more}}
 use Rattle.sh_logic.proofs.Options.{none_some}
-use Rattle.sh_base.specs.declared.config.ConfigParts.{ConfigParts}
-use Rattle.sh_base.specs.Setting.{all_locks, all_seats, IsSetting}
-use Rattle.sh_map.specs.declared.call.Reply.{Reply}
-use Rattle.sh_map.specs.declared.book.Done.{Done}
+use Rattle.sh_base.specs.{declared.config.ConfigParts.{ConfigParts}, Setting.{all_locks, all_seats, IsSetting}}
+use Rattle.sh_map.specs.declared.{call.Reply.{Reply}, book.Done.{Done}}
 use Rattle.sh_image.specs.Laid.{AreLaid}
-use Rattle.sh_client.specs.Machine.{Machine, fresh_machine}
-use Rattle.sh_core.specs.Actors.{Actor}
-use Rattle.sh_core.specs.Opening.{entered}
+use Rattle.sh_client.specs.{Machine.{Machine, fresh_machine}, InLine.{stand_of, IsIn}}
+use Rattle.sh_core.specs.{Actors.{Actor}, Opening.{entered}}
 use Rattle.sh_core_turns.proofs.Opening.{laid_keeps}
-use Rattle.sh_world.specs.declared.state.Line.{Line}
-use Rattle.sh_world.specs.States.{Given, Place, State, done_in, dones_of, free_line, fresh_from, fresh_place, fresh_state, HasActor, IsLeft}
-use Rattle.sh_world.specs.Lines.{IsLine, StandsIn}
-use Rattle.sh_client.specs.InLine.{stand_of, IsIn}
-use Rattle.sh_world.specs.Running.{IsPlace, IsRunning, IsWorld}
-use Rattle.sh_world.proofs.DoneLemmas.{dones_snoc}
+use Rattle.sh_world.specs.{declared.state.Line.{Line}, States.{Given, Place, State, done_in, dones_of, free_line, fresh_from, fresh_place, fresh_state, HasActor, IsLeft}, Lines.{IsLine, StandsIn}}
+use Rattle.sh_world.{specs.Running.{IsPlace, IsRunning, IsWorld}, proofs.DoneLemmas.{dones_snoc}}
 
 -- one seat more
 pub fresh_snoc : (p : ConfigParts) (k n : ℕ) → fresh_from p k (n + 1) ≡ fresh_from p k n ++ fresh_place p (k + n) ∷ []

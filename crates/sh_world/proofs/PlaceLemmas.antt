@@ -1,24 +1,11 @@
 -- A seat's numbers are those of its calls, and its next call is the first that isn't answered.
 use Rattle.std.proofs.Common.{◌≡◌, ◌≢◌, ◌⊎◌, ℕ, zero, suc, ◌+◌, ◌-◌, ◌<◌, ◌≤◌, inl, inr, Bool, true, false, List, [], ◌∷◌, length, Some, refl, sym, ap, ◌∙◌, arith, eq-eqb, ne_eqb}
-use Rattle.std.specs.Prelude.{◌==◌, if◌then◌else◌, slice_get}
-use Rattle.std.proofs.lemmas.Bool.{cases_eq}
-use Rattle.std.proofs.lemmas.Option.{slice_get_within}
-use Rattle.std.proofs.lemmas.List.{length_push}
+use Rattle.std.{specs.Prelude.{◌==◌, if◌then◌else◌, slice_get}, proofs.lemmas.{Bool.{cases_eq}, Option.{slice_get_within}, List.{length_push}}}
 use Rattle.sh_logic.proofs.Options.{some_is}
-use Rattle.sh_map.specs.declared.call.Reply.{Reply}
-use Rattle.sh_map.specs.declared.book.Row.{Row}
-use Rattle.sh_map.specs.declared.log.Entry.{Entry}
-use Rattle.sh_client.specs.declared.state.Phase.{Phase}
-use Rattle.sh_client.proofs.BeginLemmas.{has_begun}
-use Rattle.sh_client.specs.declared.state.Phase.TheVariants.{Idle, Ended}
-use Rattle.sh_client.specs.Machine.{Machine}
-use Rattle.sh_client.specs.Rests.{has_ended, is_resting, rests, rows_told}
-use Rattle.sh_map.specs.Points.{point_of}
-use Rattle.sh_world.specs.States.{Given, Place, answered, dones_by, dones_of}
-use Rattle.sh_world.specs.Turning.{calls_after, going, place_after, resting, started}
-use Rattle.sh_world.specs.Running.{numbers_from, IsPlace}
-use Rattle.sh_world.proofs.DoneLemmas.{by_own, told}
-use Rattle.sh_world.proofs.MoveLemmas.{AgreeBut, IsNext}
+use Rattle.sh_map.specs.{declared.{call.Reply.{Reply}, book.Row.{Row}, log.Entry.{Entry}}, Points.{point_of}}
+use Rattle.sh_client.{specs.{declared.state.Phase.{Phase, TheVariants.{Idle, Ended}}, Machine.{Machine}, Rests.{has_ended, is_resting, rests, rows_told}}, proofs.BeginLemmas.{has_begun}}
+use Rattle.sh_world.specs.{States.{Given, Place, answered, dones_by, dones_of}, Turning.{calls_after, going, place_after, resting, started}, Running.{numbers_from, IsPlace}}
+use Rattle.sh_world.proofs.{DoneLemmas.{by_own, told}, MoveLemmas.{AgreeBut, IsNext}}
 
 -- a number is that of a call of the seat
 pub record IsNumber (calls : List Given) (seat n m : ℕ) : Type 0 where

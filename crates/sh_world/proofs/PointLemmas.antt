@@ -1,13 +1,7 @@
 -- The walk over the entries that were made during a call finds the least point of its reply.
-use Rattle.std.proofs.Common.{◌≡◌, ◌≢◌, ℕ, ◌+◌, ◌<◌, ◌≤◌, inl, inr, List, length, get_or, Option, refl, sym, ap, ◌∙◌, arith}
-use Rattle.std.proofs.lemmas.Bool.{cases_eq, cases_lt}
-use Rattle.sh_map.specs.declared.log.Entry.{Entry}
-use Rattle.sh_map.specs.Map.{get}
-use Rattle.sh_map.specs.Log.{change_key, changed, map_at, IsLegal}
-use Rattle.sh_map.specs.Points.{IsLeastPoint, least_point}
-use Rattle.std.proofs.lemmas.Option.{slice_get_read}
-use Rattle.sh_map.proofs.LogLemmas.{changed_other, map_more, IsLegal-at}
-use Rattle.sh_map.proofs.LeastLemmas.{least_is}
+use Rattle.std.proofs.{Common.{◌≡◌, ◌≢◌, ℕ, ◌+◌, ◌<◌, ◌≤◌, inl, inr, List, length, get_or, Option, refl, sym, ap, ◌∙◌, arith}, lemmas.{Bool.{cases_eq, cases_lt}, Option.{slice_get_read}}}
+use Rattle.sh_map.specs.{declared.log.Entry.{Entry}, Map.{get}, Log.{change_key, changed, map_at, IsLegal}, Points.{IsLeastPoint, least_point}}
+use Rattle.sh_map.proofs.{LogLemmas.{changed_other, map_more, IsLegal-at}, LeastLemmas.{least_is}}
 use Rattle.sh_world.specs.Running.{HadAt}
 
 -- from first on, none before start has it, and from start up to here the map has the same at the key

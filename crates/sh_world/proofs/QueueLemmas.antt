@@ -1,20 +1,11 @@
 -- The turns of a line keep it a line.
-use Rattle.std.proofs.Common.{◌≡◌, ◌≢◌, ◌⊎◌, ℕ, suc, ◌+◌, ◌-◌, ◌^◌, ◌<◌, ◌≤◌, inl, inr, List, length, set, Option, Some, None, refl, sym, ap, ◌∙◌, subst, arith}
-use Rattle.std.specs.Prelude.{slice_get}
-use Rattle.std.proofs.lemmas.Bool.{cases_eq, cases_lt}
-use Rattle.std.proofs.lemmas.Option.{slice_get_within}
-use Rattle.sh_logic.proofs.Lists.{set_here, set_else}
-use Rattle.sh_logic.proofs.Options.{some_is}
-use Rattle.sh_logic.proofs.Pigeons.{at_most}
-use Rattle.sh_base.specs.declared.config.ConfigParts.{ConfigParts}
-use Rattle.sh_base.specs.Setting.{all_seats, IsSetting}
-use Rattle.sh_base.specs.Layout.{compute_of}
-use Rattle.sh_world.specs.declared.state.Line.{Line}
-use Rattle.sh_world.specs.States.{Place}
-use Rattle.sh_world.specs.Turning.{drawn, left_line, minus, next_ticket}
-use Rattle.sh_world.specs.Lines.{StandsIn, IsLine}
-use Rattle.sh_client.specs.InLine.{Stand, Away, Waits, Served, is_some, stand_of, IsIn, HasTurn, WillHand}
+use Rattle.std.{proofs.Common.{◌≡◌, ◌≢◌, ◌⊎◌, ℕ, suc, ◌+◌, ◌-◌, ◌^◌, ◌<◌, ◌≤◌, inl, inr, List, length, set, Option, Some, None, refl, sym, ap, ◌∙◌, subst, arith}, specs.Prelude.{slice_get}}
+use Rattle.std.proofs.lemmas.{Bool.{cases_eq, cases_lt}, Option.{slice_get_within}}
+use Rattle.sh_logic.proofs.{Lists.{set_here, set_else}, Options.{some_is}, Pigeons.{at_most}}
+use Rattle.sh_base.specs.{declared.config.ConfigParts.{ConfigParts}, Setting.{all_seats, IsSetting}, Layout.{compute_of}}
+use Rattle.sh_world.specs.{declared.state.Line.{Line}, States.{Place}, Turning.{drawn, left_line, minus, next_ticket}, Lines.{StandsIn, IsLine}}
 use Rattle.sh_world.proofs.LineLemmas.{count_down, count_up, minus_self, minus_zero, next_small}
+use Rattle.sh_client.specs.InLine.{Stand, Away, Waits, Served, is_some, stand_of, IsIn, HasTurn, WillHand}
 
 pub turn_in : (lock : ℕ) (k : Stand) → HasTurn lock k → IsIn lock k
 turn_in lock Away e = elim e [ ]

@@ -2,24 +2,13 @@
 -- setting's words. Any other call has none.
 use Rattle.std.proofs.Common.{◌≡◌, ℕ, zero, suc, ◌+◌, ◌<◌, ◌≤◌, List, [], ◌∷◌, length, get_or, All, refl, sym, ap, ◌∙◌, subst, arith}
 use Rattle.sh_base.specs.declared.config.ConfigParts.{ConfigParts}
-use Rattle.sh_map.specs.declared.book.Done.{Done}
-use Rattle.sh_map.specs.declared.book.Row.{Row}
-use Rattle.sh_map.specs.declared.call.Call.{Call}
-use Rattle.sh_map.specs.declared.call.Call.TheVariants.{Get, Put, Del, Range}
-use Rattle.sh_map.specs.declared.call.Reply.{Reply}
+use Rattle.sh_map.specs.{declared.{book.{Done.{Done}, Row.{Row}}, call.{Call.{Call, TheVariants.{Get, Put, Del, Range}}, Reply.{Reply}}, log.Entry.{Entry}}, Book.{AnswersAt, AnswersRange}}
+use Rattle.sh_map.{specs.{Log.{IsLegal}, Rows.{nothing}}, proofs.{RangeLemmas.{is_rising}, RowsLemmas.{found_in}}}
 use Rattle.sh_map.specs.declared.call.Reply.TheVariants as reply
-use Rattle.sh_map.specs.declared.log.Entry.{Entry}
-use Rattle.sh_map.specs.Book.{AnswersAt, AnswersRange}
-use Rattle.sh_map.specs.Log.{IsLegal}
-use Rattle.sh_map.specs.Rows.{nothing}
-use Rattle.sh_map.proofs.RangeLemmas.{is_rising}
-use Rattle.sh_map.proofs.RowsLemmas.{found_in}
-use Rattle.sh_readers.specs.Ranges.{IsGathered}
-use Rattle.sh_readers.proofs.Gathering.{gathered_few}
+use Rattle.sh_readers.{specs.Ranges.{IsGathered}, proofs.Gathering.{gathered_few}}
 use Rattle.sh_client.specs.Rests.{rows_for}
 use Rattle.sh_core.specs.Causes.{HasCause}
-use Rattle.sh_world.specs.Columns.{IsRowWide, keys_of}
-use Rattle.sh_world.proofs.WideLemmas.{found_wide, AreWide}
+use Rattle.sh_world.{specs.Columns.{IsRowWide, keys_of}, proofs.WideLemmas.{found_wide, AreWide}}
 
 pub record RowsFit (p : ConfigParts) (call : Call) (rows : List Row) : Type 0 where
   pub most : length rows ≤ p.rows

@@ -1,16 +1,11 @@
 -- Rows in words, and the room that the rows of calls may still take.
 use Rattle.std.proofs.Common.{◌≡◌, ℕ, zero, suc, ◌+◌, ◌*◌, ◌<◌, ◌≤◌, List, [], ◌∷◌, ◌++◌, length, set, take, drop, Some, None, refl, sym, ap, ◌∙◌, arith}
-use Rattle.std.specs.Prelude.{slice_get, slice_index, slice_index_or}
-use Rattle.std.specs.List.{flat_map, All}
-use Rattle.std.proofs.Math.Nat.{mul-le-mul_right}
+use Rattle.std.{specs.{Prelude.{slice_get, slice_index, slice_index_or}, List.{flat_map, All}}, proofs.Math.Nat.{mul-le-mul_right}}
 use Rattle.std.proofs.lemmas.List.{drop-drop, drop_all, drop_more, take_all, take-append-le, drop-append-le, length-drop}
 use Rattle.sh_logic.proofs.Options.{some_is}
 use Rattle.sh_base.specs.declared.config.ConfigParts.{ConfigParts}
-use Rattle.sh_map.specs.declared.call.Reply.{Reply}
-use Rattle.sh_map.specs.declared.book.Row.{Row}
-use Rattle.sh_world.specs.declared.calls.Kept.{Kept}
-use Rattle.sh_world.specs.States.{Given, answered}
-use Rattle.sh_world.specs.Columns.{owed_by, owed_words, room_of, row_words, rows_read, AreInside, IsRowWide}
+use Rattle.sh_map.specs.declared.{call.Reply.{Reply}, book.Row.{Row}}
+use Rattle.sh_world.specs.{declared.calls.Kept.{Kept}, States.{Given, answered}, Columns.{owed_by, owed_words, room_of, row_words, rows_read, AreInside, IsRowWide}}
 
 -- the words of the next row lie behind those of this one
 next_row : (n width : ℕ) → suc n * (width + 1) ≡ (width + 1) + n * (width + 1)

@@ -1,43 +1,20 @@
 -- A turn keeps all that holds of a world.
 use Rattle.std.proofs.Common.{◌≡◌, ◌≢◌, ◌⊎◌, ℕ, zero, suc, ◌+◌, ◌-◌, ◌<◌, ◌≤◌, inl, inr, Bool, true, false, List, [], ◌∷◌, ◌++◌, length, set, Some, refl, sym, ap, ◌∙◌, subst, arith, append-nil}
-use Rattle.std.specs.Prelude.{if◌then◌else◌, slice_get}
-use Rattle.std.proofs.lemmas.Bool.{cases_eq}
-use Rattle.std.proofs.lemmas.Option.{slice_get_within}
-use Rattle.std.proofs.lemmas.List.{length-append, length-set}
-use Rattle.sh_logic.proofs.Lists.{set_here, set_else}
-use Rattle.sh_logic.proofs.Options.{some_is}
-use Rattle.sh_base.specs.declared.config.ConfigParts.{ConfigParts}
-use Rattle.sh_base.specs.Setting.{all_seats}
-use Rattle.sh_map.specs.declared.call.Call.{Call}
-use Rattle.sh_map.specs.declared.call.Call.TheVariants.{Get, Del}
-use Rattle.sh_map.specs.declared.call.Reply.{Reply}
+use Rattle.std.{specs.Prelude.{if◌then◌else◌, slice_get}, proofs.lemmas.{Bool.{cases_eq}, Option.{slice_get_within}, List.{length-append, length-set}}}
+use Rattle.sh_logic.proofs.{Lists.{set_here, set_else}, Options.{some_is}}
+use Rattle.sh_base.specs.{declared.config.ConfigParts.{ConfigParts}, Setting.{all_seats}}
+use Rattle.sh_map.specs.{declared.{call.{Call.{Call, TheVariants.{Get, Del}}, Reply.{Reply}}, log.Entry.{Entry}, book.Done.{Done}}, Log.{IsLegal}, Points.{point_of}}
 use Rattle.sh_map.specs.declared.call.Reply.TheVariants as reply
-use Rattle.sh_map.specs.declared.log.Entry.{Entry}
-use Rattle.sh_map.specs.declared.book.Done.{Done}
-use Rattle.sh_map.specs.Log.{IsLegal}
-use Rattle.sh_client.specs.Machine.{Machine}
-use Rattle.sh_client.specs.Rests.{has_ended, is_resting, rows_told}
-use Rattle.sh_map.specs.Points.{point_of}
-use Rattle.sh_core.specs.Actors.{Actor, becomes, done_of, ending, actor_going, point_after, AreAnswered, IsAnswered, IsLeast, made_by, updates}
-use Rattle.sh_core.specs.Keeps.{KeepsActor, pending}
-use Rattle.sh_core.specs.Causes.{HasCause, HaveCauses}
-use Rattle.sh_world.proofs.RangeLemmas.{rows_fit}
-use Rattle.sh_core.specs.Core.{Inv, Moves}
+use Rattle.sh_client.specs.{Machine.{Machine}, Rests.{has_ended, is_resting, rows_told}}
+use Rattle.sh_core.specs.{Actors.{Actor, becomes, done_of, ending, actor_going, point_after, AreAnswered, IsAnswered, IsLeast, made_by, updates}, Keeps.{KeepsActor, pending}}
+use Rattle.sh_core.{specs.{Causes.{HasCause, HaveCauses}, Core.{Inv, Moves, Instead}}, proofs.Moves.{put_moves}}
+use Rattle.sh_world.{proofs.RangeLemmas.{rows_fit}, specs.{declared.state.Line.{Line}, States.{Given, Place, State, actor_of, answered, dones_by, dones_of, HasActor, IsLeft}}}
+use Rattle.sh_world.specs.{Turning.{calls_after, going, place_after, resting}, Lines.{AreLines}, Running.{HasPoint, IsGiven, IsPlace, IsRunning, numbers_from}, Seats.{CanEnd}}
+use Rattle.sh_world.proofs.{CountLemmas.{call_sum, log_sum, numbers_few, pending_none, pending_one, sum_less, updates_few}, DoneLemmas.{length_answered}}
+use Rattle.sh_world.proofs.{WideLemmas.{in_by, in_from, own_entry, reply_wide, wide_append, wide_by, wide_none, wide_updates, AreWide}, MoveLemmas.{agree_ended, settled_keeps, AgreeBut, IsNext}}
+use Rattle.sh_world.proofs.PlaceLemmas.{get_answered, next_is, place_other, place_own}
 use Rattle.sh_core_turns.proofs.Calls.{rest_keeps}
 use Rattle.sh_core_says.proofs.Pending.{pending_stands}
-use Rattle.sh_world.specs.declared.state.Line.{Line}
-use Rattle.sh_world.specs.States.{Given, Place, State, actor_of, answered, dones_by, dones_of, HasActor, IsLeft}
-use Rattle.sh_world.specs.Turning.{calls_after, going, place_after, resting}
-use Rattle.sh_world.specs.Lines.{AreLines}
-use Rattle.sh_world.specs.Running.{HasPoint, IsGiven, IsPlace, IsRunning, numbers_from}
-use Rattle.sh_world.specs.Seats.{CanEnd}
-use Rattle.sh_world.proofs.CountLemmas.{call_sum, log_sum, numbers_few, pending_none, pending_one, sum_less, updates_few}
-use Rattle.sh_world.proofs.DoneLemmas.{length_answered}
-use Rattle.sh_world.proofs.WideLemmas.{in_by, in_from, own_entry, reply_wide, wide_append, wide_by, wide_none, wide_updates, AreWide}
-use Rattle.sh_core.specs.Core.{Instead}
-use Rattle.sh_core.proofs.Moves.{put_moves}
-use Rattle.sh_world.proofs.MoveLemmas.{agree_ended, settled_keeps, AgreeBut, IsNext}
-use Rattle.sh_world.proofs.PlaceLemmas.{get_answered, next_is, place_other, place_own}
 
 slice_get-append : {X : Type 0} (xs ys : List X) (k : ℕ) (x : X) → slice_get (xs ++ ys) k ≡ Some x → (slice_get xs k ≡ Some x) ⊎ ((j : ℕ) × (slice_get ys j ≡ Some x))
 slice_get-append [] ys k x e = inr (k, e)

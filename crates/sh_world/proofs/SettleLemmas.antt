@@ -1,21 +1,12 @@
 -- What a client's call answers when it has ended, and what its seat has seen.
-use Rattle.std.proofs.Common.{◌≡◌, ℕ, ◌+◌, ◌-◌, ◌^◌, ◌<◌, ◌≤◌, Bool, true, false, List, [], ◌∷◌, length, take, drop, Some, None, refl, sym, ap, ◌∙◌, subst, arith}
-use Rattle.std.specs.Prelude.{if◌then◌else◌}
+use Rattle.std.{proofs.Common.{◌≡◌, ℕ, ◌+◌, ◌-◌, ◌^◌, ◌<◌, ◌≤◌, Bool, true, false, List, [], ◌∷◌, length, take, drop, Some, None, refl, sym, ap, ◌∙◌, subst, arith}, specs.Prelude.{if◌then◌else◌}}
 use Rattle.std.proofs.lemmas.List.{length-take-le, length-drop}
 use Rattle.sh_base.specs.declared.config.ConfigParts.{ConfigParts}
-use Rattle.sh_map.specs.declared.call.Call.{Call}
-use Rattle.sh_map.specs.declared.call.Call.TheVariants.{Get, Put, Del}
-use Rattle.sh_map.specs.declared.call.Reply.{Reply}
+use Rattle.sh_map.{specs.{declared.{call.{Call.{Call, TheVariants.{Get, Put, Del}}, Reply.{Reply}}, log.Entry.{Entry}}, Points.{point_of}}, proofs.LeastLemmas.{least_is}}
 use Rattle.sh_map.specs.declared.call.Reply.TheVariants as reply
-use Rattle.sh_map.specs.declared.log.Entry.{Entry}
 use Rattle.sh_client.specs.Rests.{has_ended}
-use Rattle.sh_map.specs.Points.{point_of}
 use Rattle.sh_core.specs.Actors.{point_after, seen_after}
-use Rattle.sh_map.proofs.LeastLemmas.{least_is}
-use Rattle.sh_world.specs.States.{Given, Place}
-use Rattle.sh_world.specs.Turning.{going, place_after, resting}
-use Rattle.sh_world.specs.Running.{HasPoint}
-use Rattle.sh_world.specs.Seats.{CanEnd, CanSettle}
+use Rattle.sh_world.specs.{States.{Given, Place}, Turning.{going, place_after, resting}, Running.{HasPoint}, Seats.{CanEnd, CanSettle}}
 
 -- an ended call can end, and is answered
 pub can_end : (p : ConfigParts) (log : List Entry) (calls : List Given) (x y : Place) → x ≡ y → CanSettle p log calls y y.client → has_ended x.client.phase ≡ true → CanEnd p log calls x x.client

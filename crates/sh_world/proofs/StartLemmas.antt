@@ -1,48 +1,22 @@
 -- A seat that is asked begins its next call, and a call that ends can be answered.
 use Rattle.std.proofs.Common.{◌≡◌, ◌≢◌, ℕ, ◌+◌, ◌-◌, ◌<◌, inr, Bool, true, false, List, [], length, set, Option, Some, None, refl, sym, ap, ◌∙◌, subst, arith}
-use Rattle.std.specs.Prelude.{◌==◌, if◌then◌else◌, nat_lt, slice_get}
-use Rattle.std.proofs.lemmas.Option.{slice_get_within}
-use Rattle.sh_logic.proofs.Tests.{less_test}
-use Rattle.sh_logic.proofs.Lists.{set_same}
-use Rattle.sh_base.specs.declared.config.ConfigParts.{ConfigParts}
-use Rattle.sh_base.specs.declared.event.Event.{Event}
-use Rattle.sh_base.specs.Setting.{all_locks, node_size}
-use Rattle.sh_base.specs.Layout.{node_word}
-use Rattle.sh_base.specs.Memory.{apply, found_by}
+use Rattle.std.{specs.Prelude.{◌==◌, if◌then◌else◌, nat_lt, slice_get}, proofs.lemmas.Option.{slice_get_within}}
+use Rattle.sh_logic.proofs.{Tests.{less_test}, Lists.{set_same}}
+use Rattle.sh_base.specs.{declared.{config.ConfigParts.{ConfigParts}, event.Event.{Event}}, Setting.{all_locks, node_size}, Layout.{node_word}, Memory.{apply, found_by}}
 use Rattle.sh_map.specs.Calls.{IsInRange}
-use Rattle.sh_alloc.specs.declared.state.ChunkWant.{ChunkWant}
+use Rattle.sh_alloc.specs.{declared.state.ChunkWant.{ChunkWant}, Chunks.{WantsEvent}, Walks.{walk_wants}}
 use Rattle.sh_alloc.specs.declared.state.ChunkWant.TheVariants as chunk
-use Rattle.sh_alloc.specs.Chunks.{WantsEvent}
-use Rattle.sh_alloc.specs.Walks.{walk_wants}
 use Rattle.sh_read.specs.Reads.{Reads, wanted}
 use Rattle.sh_state.specs.TreeState.{TreeState}
 use Rattle.sh_decide.specs.declared.state.Posting.{Posting}
-use Rattle.sh_client.specs.declared.state.Then.{Then}
-use Rattle.sh_client.proofs.BeginLemmas.{has_begun}
-use Rattle.sh_client.specs.declared.state.Phase.{Phase}
-use Rattle.sh_client.specs.declared.state.Phase.TheVariants.{Idle, Read, ReadLocked, Seek, Body, Ended}
-use Rattle.sh_client.specs.declared.state.Want.{Want}
+use Rattle.sh_client.{specs.declared.state.{Then.{Then}, Phase.{Phase, TheVariants.{Idle, Read, ReadLocked, Seek, Body, Ended}}, Want.{Want}, Write.{Write}}, proofs.BeginLemmas.{has_begun}}
+use Rattle.sh_client.specs.{Machine.{Machine, to}, Feeds.{fed_by, fed_in}, Giving.{counted, made_in, makes, released}, Rests.{has_ended, is_resting, rests}}
+use Rattle.sh_client.{specs.{Wants.{count_of, load_of, want_in, want_of}, InLine.{stand_in}}, proofs.CachedLemmas.{fed_keeps}}
 use Rattle.sh_client.specs.declared.state.Want.TheVariants as want
-use Rattle.sh_client.specs.declared.state.Write.{Write}
-use Rattle.sh_client.specs.Machine.{Machine, to}
-use Rattle.sh_client.specs.Feeds.{fed_by, fed_in}
-use Rattle.sh_client.specs.Giving.{counted, made_in, makes, released}
-use Rattle.sh_client.specs.Rests.{has_ended, is_resting, rests}
-use Rattle.sh_client.specs.Wants.{count_of, load_of, want_in, want_of}
-use Rattle.sh_core.specs.Actors.{Actor, actor_begun}
-use Rattle.sh_core.specs.Fits.{Fits}
-use Rattle.sh_core.specs.Keeps.{KeepsActor}
+use Rattle.sh_core.specs.{Actors.{Actor, actor_begun}, Fits.{Fits}, Keeps.{KeepsActor}}
 use Rattle.sh_core_turns.proofs.Calls.{begin_keeps}
-use Rattle.sh_client.proofs.CachedLemmas.{fed_keeps}
-use Rattle.sh_world.specs.States.{Given, Place, State, actor_of, HasActor, IsLeft}
-use Rattle.sh_world.specs.Turning.{asked, asked_in, started, starts, starts_next}
-use Rattle.sh_client.specs.InLine.{stand_in}
-use Rattle.sh_world.specs.Running.{IsRunning}
-use Rattle.sh_world.specs.Seats.{CanAsk, CanSettle}
-use Rattle.sh_world.proofs.MoveLemmas.{moves_seats}
-use Rattle.sh_world.proofs.PlaceLemmas.{number_in, place_started}
-use Rattle.sh_world.proofs.RunLemmas.{can_end, placed}
-use Rattle.sh_world.proofs.WantLemmas.{lines_still}
+use Rattle.sh_world.specs.{States.{Given, Place, State, actor_of, HasActor, IsLeft}, Turning.{asked, asked_in, started, starts, starts_next}, Running.{IsRunning}, Seats.{CanAsk, CanSettle}}
+use Rattle.sh_world.proofs.{MoveLemmas.{moves_seats}, PlaceLemmas.{number_in, place_started}, RunLemmas.{can_end, placed}, WantLemmas.{lines_still}}
 use Rattle.sh_world.proofs.TurnLemmas.{event_busy, event_step, leave_busy, leave_step, put_place}
 
 -- ---- a client that wants nothing is at rest

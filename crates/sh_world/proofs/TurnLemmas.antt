@@ -1,46 +1,21 @@
 -- The world after a turn of a seat, want by want.
 use Rattle.std.proofs.Common.{◌≡◌, ℕ, zero, suc, ◌<◌, ◌≤◌, inl, inr, Bool, true, false, List, [], ◌++◌, length, get_or, set, Option, Some, None, refl, sym, ap, ◌∙◌, subst, arith, append-nil}
-use Rattle.std.specs.Prelude.{◌==◌, if◌then◌else◌, slice_get}
-use Rattle.std.proofs.lemmas.Bool.{cases_eq, eqb-true}
-use Rattle.std.proofs.lemmas.Option.{slice_get_within, slice_get-get_or}
-use Rattle.sh_logic.proofs.Lists.{set_here, set_else, set_same}
-use Rattle.sh_logic.proofs.Options.{some_is, none_some}
-use Rattle.sh_base.specs.declared.config.ConfigParts.{ConfigParts}
-use Rattle.sh_base.specs.declared.event.Event.{Event}
-use Rattle.sh_base.specs.Setting.{all_locks, all_seats, IsSetting}
-use Rattle.sh_base.specs.Layout.{compute_of, lock_of}
-use Rattle.sh_base.specs.Memory.{apply, found_by}
+use Rattle.std.{specs.Prelude.{◌==◌, if◌then◌else◌, slice_get}, proofs.lemmas.{Bool.{cases_eq, eqb-true}, Option.{slice_get_within, slice_get-get_or}}}
+use Rattle.sh_logic.proofs.{Lists.{set_here, set_else, set_same}, Options.{some_is, none_some}}
+use Rattle.sh_base.specs.{declared.{config.ConfigParts.{ConfigParts}, event.Event.{Event}}, Setting.{all_locks, all_seats, IsSetting}, Layout.{compute_of, lock_of}, Memory.{apply, found_by}}
 use Rattle.sh_map.specs.declared.log.Entry.{Entry}
 use Rattle.sh_state.specs.TreeState.{Grant, Held}
-use Rattle.sh_client.specs.declared.state.Phase.TheVariants.{Leave}
+use Rattle.sh_client.specs.{declared.state.Phase.TheVariants.{Leave}, Machine.{Machine}, Feeds.{fed_by, turned_by}, Giving.{makes}, Rests.{is_resting}, Wants.{want_of}}
+use Rattle.sh_client.{proofs.CachedLemmas.{fed_keeps, turned_keeps}, specs.InLine.{MayHand, Stand, Away, Waits, Served, is_some, stand_of, IsIn, HasTurn, WillHand}}
+use Rattle.sh_client.proofs.{InLineLemmas.{count_stands, draw_stands, fed_stands, leave_stands, look_stands, IsEvent}, Wanting.{leaving, line_makes, looking, wants_busy}}
 use Rattle.sh_client.specs.declared.state.Want.TheVariants as want
-use Rattle.sh_client.specs.Machine.{Machine}
-use Rattle.sh_client.specs.Feeds.{fed_by, turned_by}
-use Rattle.sh_client.specs.Giving.{makes}
-use Rattle.sh_client.specs.Rests.{is_resting}
-use Rattle.sh_client.specs.Wants.{want_of}
-use Rattle.sh_client.proofs.CachedLemmas.{fed_keeps, turned_keeps}
-use Rattle.sh_core.specs.Actors.{Actor, becomes, actor_stepped, actor_turned}
-use Rattle.sh_core.specs.Fits.{Fits}
-use Rattle.sh_core.specs.Keeps.{KeepsActor}
-use Rattle.sh_core.specs.Core.{Inv, Moves, IsLocal, HasSeen, AreSame}
-use Rattle.sh_core_turns.proofs.Turns.{turn_keeps}
-use Rattle.sh_core_turns.proofs.LocalLaws.{local_keeps, look_keeps, take_keeps, part_keeps}
-use Rattle.sh_core.proofs.Moves.{same_keeps}
-use Rattle.sh_world.specs.declared.state.Line.{Line}
-use Rattle.sh_world.specs.States.{Place, State, actor_of, line_at, HasActor, IsLeft}
-use Rattle.sh_world.specs.Turning.{behind, called, calls_after, drawn, left_line, line_of, looked_client, looked_line, made, minus, or_free, place_after}
-use Rattle.sh_world.specs.Lines.{IsLine, AreLines}
-use Rattle.sh_client.specs.InLine.{MayHand, Stand, Away, Waits, Served, is_some, stand_of, IsIn, HasTurn, WillHand}
-use Rattle.sh_world.specs.Running.{IsRunning}
-use Rattle.sh_world.proofs.CountLemmas.{made_of_seat}
-use Rattle.sh_world.proofs.LineLemmas.{compute_within, line_apart, line_within, minus_one, minus_small}
-use Rattle.sh_world.proofs.MoveLemmas.{set_again}
-use Rattle.sh_world.proofs.QueueLemmas.{line_drawn, line_left, line_turned}
-use Rattle.sh_client.proofs.InLineLemmas.{count_stands, draw_stands, fed_stands, leave_stands, look_stands, IsEvent}
-use Rattle.sh_world.proofs.RunLemmas.{placed, settled_runs, ticket_place}
+use Rattle.sh_core.{specs.{Actors.{Actor, becomes, actor_stepped, actor_turned}, Fits.{Fits}, Keeps.{KeepsActor}, Core.{Inv, Moves, IsLocal, HasSeen, AreSame}}, proofs.Moves.{same_keeps}}
+use Rattle.sh_core_turns.proofs.{Turns.{turn_keeps}, LocalLaws.{local_keeps, look_keeps, take_keeps, part_keeps}}
+use Rattle.sh_world.specs.{declared.state.Line.{Line}, States.{Place, State, actor_of, line_at, HasActor, IsLeft}}
+use Rattle.sh_world.specs.{Turning.{behind, called, calls_after, drawn, left_line, line_of, looked_client, looked_line, made, minus, or_free, place_after}, Lines.{IsLine, AreLines}}
+use Rattle.sh_world.{specs.Running.{IsRunning}, proofs.{CountLemmas.{made_of_seat}, LineLemmas.{compute_within, line_apart, line_within, minus_one, minus_small}, MoveLemmas.{set_again}}}
+use Rattle.sh_world.proofs.{QueueLemmas.{line_drawn, line_left, line_turned}, RunLemmas.{placed, settled_runs, ticket_place}}
 use Rattle.sh_world.proofs.WantLemmas.{elsewhere_back, elsewhere_on, left_back, left_new, left_old, left_on, lines_one, lines_still, mine, out_same, place_stand, place_ticket}
-use Rattle.sh_client.proofs.Wanting.{leaving, line_makes, looking, wants_busy}
 
 -- the state with another place at the seat
 abbrev pub put_place : State → (seat : ℕ) → Place → State

@@ -1,26 +1,12 @@
 -- Each turn that a client wants keeps all that holds of a world.
-use Rattle.std.proofs.Common.{◌≡◌, ◌≢◌, ◌⊎◌, ℕ, ◌<◌, inl, inr, Bool, true, false, List, set, Some, refl, sym, ap, ◌∙◌, subst, arith}
-use Rattle.std.specs.Prelude.{if◌then◌else◌, slice_get}
-use Rattle.std.proofs.lemmas.Bool.{cases_eq}
-use Rattle.std.proofs.lemmas.Option.{slice_get_within}
-use Rattle.std.proofs.lemmas.List.{length-set}
-use Rattle.sh_logic.proofs.Lists.{set_here, set_else}
-use Rattle.sh_logic.proofs.Options.{some_is}
-use Rattle.sh_base.specs.declared.config.ConfigParts.{ConfigParts}
-use Rattle.sh_base.specs.Setting.{all_locks, IsSetting}
-use Rattle.sh_base.specs.Layout.{compute_of}
+use Rattle.std.{proofs.Common.{◌≡◌, ◌≢◌, ◌⊎◌, ℕ, ◌<◌, inl, inr, Bool, true, false, List, set, Some, refl, sym, ap, ◌∙◌, subst, arith}, specs.Prelude.{if◌then◌else◌, slice_get}}
+use Rattle.std.proofs.lemmas.{Bool.{cases_eq}, Option.{slice_get_within}, List.{length-set}}
+use Rattle.sh_logic.proofs.{Lists.{set_here, set_else}, Options.{some_is}}
+use Rattle.sh_base.specs.{declared.config.ConfigParts.{ConfigParts}, Setting.{all_locks, IsSetting}, Layout.{compute_of}}
 use Rattle.sh_map.specs.declared.log.Entry.{Entry}
-use Rattle.sh_client.specs.Machine.{Machine}
-use Rattle.sh_client.specs.Rests.{has_ended}
-use Rattle.sh_core.specs.Actors.{Actor}
-use Rattle.sh_core.specs.Core.{Inv}
-use Rattle.sh_world.specs.declared.state.Line.{Line}
-use Rattle.sh_world.specs.States.{Place, line_at, IsLeft}
-use Rattle.sh_world.specs.Turning.{going, place_after, resting}
-use Rattle.sh_world.specs.Lines.{IsLine, AreLines}
-use Rattle.sh_client.specs.InLine.{Away, stand_of, IsIn}
-use Rattle.sh_client.proofs.Wanting.{stand_ended}
-use Rattle.sh_world.proofs.LineLemmas.{line_apart}
+use Rattle.sh_client.{specs.{Machine.{Machine}, Rests.{has_ended}, InLine.{Away, stand_of, IsIn}}, proofs.Wanting.{stand_ended}}
+use Rattle.sh_core.specs.{Actors.{Actor}, Core.{Inv}}
+use Rattle.sh_world.{specs.{declared.state.Line.{Line}, States.{Place, line_at, IsLeft}, Turning.{going, place_after, resting}, Lines.{IsLine, AreLines}}, proofs.LineLemmas.{line_apart}}
 use Rattle.sh_world.proofs.QueueLemmas.{line_still, IsStill}
 
 -- ---- behind a turn the seat stands where its client does

@@ -3,24 +3,12 @@ use Rattle.std.proofs.Common.{◌≡◌, ℕ, zero, suc, ◌+◌, Bool, true, fa
 use Rattle.std.specs.Prelude.{◌==◌, if◌then◌else◌, slice_get}
 use Rattle.sh_logic.proofs.Options.{some_is}
 use Rattle.sh_base.specs.declared.config.ConfigParts.{ConfigParts}
-use Rattle.sh_map.specs.declared.call.Call.{Call}
-use Rattle.sh_map.specs.declared.call.Call.TheVariants.{Get, Put, Del, Range}
-use Rattle.sh_map.specs.declared.call.Reply.{Reply}
+use Rattle.sh_map.specs.{declared.{call.{Call.{Call, TheVariants.{Get, Put, Del, Range}}, Reply.{Reply}}, log.{Change.{Change}, Entry.{Entry}}, book.Done.{Done}}, Book.{AnswersAt}, Calls.{IsInRange}}
+use Rattle.sh_map.{specs.{Log.{map_at, IsLegal}, Made.{entries_by}, Map.{get}}, proofs.{LastLemmas.{value_from}, LogLemmas.{IsLegal-at}}}
 use Rattle.sh_map.specs.declared.call.Reply.TheVariants as reply
-use Rattle.sh_map.specs.declared.log.Change.{Change}
 use Rattle.sh_map.specs.declared.log.Change.TheVariants as change
-use Rattle.sh_map.specs.declared.log.Entry.{Entry}
-use Rattle.sh_map.specs.declared.book.Done.{Done}
-use Rattle.sh_map.specs.Book.{AnswersAt}
-use Rattle.sh_map.specs.Calls.{IsInRange}
-use Rattle.sh_map.specs.Log.{map_at, IsLegal}
-use Rattle.sh_map.specs.Made.{entries_by}
-use Rattle.sh_map.specs.Map.{get}
-use Rattle.sh_map.proofs.LastLemmas.{value_from}
-use Rattle.sh_map.proofs.LogLemmas.{IsLegal-at}
 use Rattle.sh_core.specs.Actors.{made_by, updates}
-use Rattle.sh_world.specs.States.{Given, done_in, dones_by, dones_from}
-use Rattle.sh_world.specs.Columns.{IsReplyWide}
+use Rattle.sh_world.specs.{States.{Given, done_in, dones_by, dones_from}, Columns.{IsReplyWide}}
 
 -- ---- the log
 

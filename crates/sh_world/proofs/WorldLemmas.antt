@@ -1,40 +1,18 @@
 -- The world's turn as what its parts do.
 use Rattle.std.proofs.Common.{◌≡◌, ◌≢◌, ℕ, zero, suc, ◌-◌, ◌<◌, ◌≤◌, inl, inr, Bool, true, false, List, [], ◌++◌, length, get_or, set, take, Option, Some, None, refl, sym, ap, ◌∙◌, subst, arith}
-use Rattle.std.specs.Prelude.{◌==◌, if◌then◌else◌, slice_get, IfSome}
-use Rattle.std.proofs.lemmas.Option.{slice_get_within, slice_get_read}
-use Rattle.std.proofs.lemmas.List.{append-nil, length-set, take_at}
-use Rattle.sh_logic.proofs.Lists.{set_here}
-use Rattle.sh_logic.proofs.Options.{some_is}
-use Rattle.sh_base.specs.declared.config.ConfigParts.{ConfigParts}
-use Rattle.sh_base.specs.declared.event.Event.{Event}
-use Rattle.sh_base.specs.declared.event.Event.TheVariants.{Load, Store, Exchange, Add}
-use Rattle.sh_base.specs.Layout.{compute_of}
-use Rattle.sh_base.specs.Memory.{apply, found_by}
-use Rattle.sh_map.specs.declared.log.Entry.{Entry}
-use Rattle.sh_client.specs.declared.state.Want.{Want}
-use Rattle.sh_client.specs.declared.state.Want.TheVariants as want
-use Rattle.sh_client.specs.Machine.{Machine}
-use Rattle.sh_client.specs.Feeds.{fed_by, turned_by}
-use Rattle.sh_client.specs.Giving.{makes}
-use Rattle.sh_client.specs.Wants.{want_of, IsWithin}
-use Rattle.sh_map.specs.Points.{point_of}
-use Rattle.sh_client.specs.Rests.{has_ended, rows_told}
-use Rattle.sh_world.specs.declared.state.Line.{Line}
-use Rattle.sh_world.specs.declared.turn.Turn.{Turn}
-use Rattle.sh_world.specs.States.{Given, Place, State, actor_of, answered, line_at}
-use Rattle.sh_world.specs.Turning.{answer_at, turn_answer_in, answer_of, asked, behind, calls_after, drawn, left_line, line_of, looked_client, looked_line, or_free, line_called, place_after, place_called, took, took_in, turn_at, turn_of, wanted_lock, IsTurn}
-use Rattle.sh_world.specs.Running.{IsRunning, IsWorld}
-use Rattle.sh_world.specs.Seats.{CanSettle}
-use Rattle.sh_world.proofs.LineLemmas.{compute_within}
-use Rattle.sh_world.proofs.DoneLemmas.{length_answered}
-use Rattle.sh_world.proofs.MoveLemmas.{set_again}
-use Rattle.sh_world.proofs.StartLemmas.{asked_runs, event_settles, leave_settles}
-use Rattle.sh_world.proofs.TurnLemmas.{at_line, count_runs, draw_runs, event_runs, leave_runs, look_runs, put_place}
-use Rattle.sh_client.proofs.InLineLemmas.{count_stands, draw_stands, look_stands}
-use Rattle.sh_client.proofs.Wanting.{stand_ended}
-use Rattle.sh_client.specs.InLine.{MayHand, Stand, stand_of, IsIn}
-use Rattle.sh_world.specs.declared.turn.Turn.TheVariants as turn
+use Rattle.std.{specs.Prelude.{◌==◌, if◌then◌else◌, slice_get, IfSome}, proofs.lemmas.{Option.{slice_get_within, slice_get_read}, List.{append-nil, length-set, take_at}}}
+use Rattle.sh_logic.proofs.{Lists.{set_here}, Options.{some_is}}
+use Rattle.sh_base.specs.{declared.{config.ConfigParts.{ConfigParts}, event.Event.{Event, TheVariants.{Load, Store, Exchange, Add}}}, Layout.{compute_of}, Memory.{apply, found_by}}
 use Rattle.sh_base.specs.Setting.{all_locks}
+use Rattle.sh_map.specs.{declared.log.Entry.{Entry}, Points.{point_of}}
+use Rattle.sh_client.specs.{declared.state.Want.{Want}, Machine.{Machine}, Feeds.{fed_by, turned_by}, Giving.{makes}, Wants.{want_of, IsWithin}, Rests.{has_ended, rows_told}}
+use Rattle.sh_client.{proofs.{InLineLemmas.{count_stands, draw_stands, look_stands}, Wanting.{stand_ended}}, specs.InLine.{MayHand, Stand, stand_of, IsIn}}
+use Rattle.sh_client.specs.declared.state.Want.TheVariants as want
+use Rattle.sh_world.specs.{declared.{state.Line.{Line}, turn.Turn.{Turn}}, States.{Given, Place, State, actor_of, answered, line_at}}
+use Rattle.sh_world.specs.Turning.{answer_at, turn_answer_in, answer_of, asked, behind, calls_after, drawn, left_line, line_of, looked_client, looked_line, or_free, line_called, place_after, place_called, took, took_in, turn_at, turn_of, wanted_lock, IsTurn}
+use Rattle.sh_world.{specs.{Running.{IsRunning, IsWorld}, Seats.{CanSettle}}, proofs.{LineLemmas.{compute_within}, DoneLemmas.{length_answered}, MoveLemmas.{set_again}}}
+use Rattle.sh_world.proofs.{StartLemmas.{asked_runs, event_settles, leave_settles}, TurnLemmas.{at_line, count_runs, draw_runs, event_runs, leave_runs, look_runs, put_place}}
+use Rattle.sh_world.specs.declared.turn.Turn.TheVariants as turn
 
 -- a world that has seats runs
 pub runs : (s : State) (room : ℕ) (kept : ConfigParts) → IsWorld s room kept → s.seats ≢ [] → IsRunning s × (length s.calls < room) × (kept ≡ s.setting)

@@ -2,17 +2,11 @@
 -- value, all values of one width; and behind one another the rows of the ranges that have ended.
 use Rattle.std.specs.Prelude.{◌≡◌, ℕ, zero, suc, ◌+◌, ◌-◌, ◌*◌, ◌≤◌, min, List, [], ◌∷◌, length, take, drop, slice_index, Option, None, Some}
 use Rattle.sh_base.specs.declared.config.ConfigParts.{ConfigParts}
-use Rattle.sh_map.specs.declared.call.Call.{Call}
+use Rattle.sh_map.specs.declared.{call.{Call.{Call}, Reply.{Reply}}, book.Row.{Row}}
 use Rattle.sh_map.specs.declared.call.Call.TheVariants as call
-use Rattle.sh_map.specs.declared.call.Reply.{Reply}
 use Rattle.sh_map.specs.declared.call.Reply.TheVariants as reply
-use Rattle.sh_map.specs.declared.book.Row.{Row}
-use Rattle.sh_world.specs.declared.calls.CallKind.{CallKind}
-use Rattle.sh_world.specs.declared.calls.CallKind.TheVariants.{Get, Put, Del, Range}
-use Rattle.sh_world.specs.declared.calls.ReplyKind.{ReplyKind}
+use Rattle.sh_world.specs.{declared.calls.{CallKind.{CallKind, TheVariants.{Get, Put, Del, Range}}, ReplyKind.{ReplyKind}, Kept.{Kept}}, States.{Given}}
 use Rattle.sh_world.specs.declared.calls.ReplyKind.TheVariants as kind
-use Rattle.sh_world.specs.declared.calls.Kept.{Kept}
-use Rattle.sh_world.specs.States.{Given}
 
 -- the calls, and the setting that they are kept for
 pub record Listed : Type 0 where

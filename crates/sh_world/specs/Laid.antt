@@ -1,8 +1,6 @@
 -- The words of a laid pool, as they are written.
 use Rattle.std.specs.Prelude.{ℕ, List, replicate, slice_set}
-use Rattle.sh_base.specs.declared.config.ConfigParts.{ConfigParts}
-use Rattle.sh_base.specs.Setting.{pool_words}
-use Rattle.sh_base.specs.Layout.{root_word, counter_word}
+use Rattle.sh_base.specs.{declared.config.ConfigParts.{ConfigParts}, Setting.{pool_words}, Layout.{root_word, counter_word}}
 
 -- the number of the first leaf
 abbrev pub first_leaf : ℕ

@@ -1,23 +1,14 @@
 -- What holds of a world whose pool is laid, after any calls were given and any turns were taken.
 use Rattle.std.specs.Prelude.{◌≡◌, ◌≢◌, ◌↔◌, ℕ, ◌≤◌, true, false, List, [], ◌++◌, length, slice_get, Option, Some, None}
-use Rattle.sh_base.specs.declared.event.Event.{Event}
-use Rattle.sh_base.specs.Memory.{found_by}
-use Rattle.sh_base.specs.Setting.{all_seats}
+use Rattle.sh_base.specs.{declared.event.Event.{Event}, Memory.{found_by}, Setting.{all_seats}}
 use Rattle.sh_map.specs.declared.log.Entry.{Entry}
-use Rattle.sh_client.specs.declared.state.Want.{Want}
+use Rattle.sh_client.specs.{declared.state.Want.{Want}, Giving.{makes}, Wants.{want_of}}
 use Rattle.sh_client.specs.declared.state.Want.TheVariants as want
-use Rattle.sh_client.specs.Giving.{makes}
-use Rattle.sh_client.specs.Wants.{want_of}
-use Rattle.sh_core.specs.Actors.{Actor}
-use Rattle.sh_core_says.specs.Books.{counter_in, HasAnswers, IsLawfulBook}
-use Rattle.sh_core.specs.Causes.{HaveCauses}
-use Rattle.sh_core_says.specs.Moments.{IsMoment}
-use Rattle.sh_core_says.specs.Rest.{AreAtRest}
+use Rattle.sh_core.specs.{Actors.{Actor}, Causes.{HaveCauses}}
+use Rattle.sh_core_says.specs.{Books.{counter_in, HasAnswers, IsLawfulBook}, Moments.{IsMoment}, Rest.{AreAtRest}}
 use Rattle.sh_core_turns.specs.Senses.{is_senseless}
 use Rattle.sh_world.specs.declared.turn.Turn.TheVariants as turn
-use Rattle.sh_world.specs.States.{Given, Place, State, dones_of, HasActor, IsLeft}
-use Rattle.sh_world.specs.Turning.{answer_of, asked, is_idle_at, turn_of}
-use Rattle.sh_world.specs.Lines.{AreLines}
+use Rattle.sh_world.specs.{States.{Given, Place, State, dones_of, HasActor, IsLeft}, Turning.{answer_of, asked, is_idle_at, turn_of}, Lines.{AreLines}}
 
 -- the clients of its seats, and the rights that lie in its lines
 abbrev pub Clients : State → ℕ → Actor → Type 0

@@ -1,12 +1,8 @@
 -- The ticket lines of locks: who stands in a line, who is served, and what was left for the next.
 use Rattle.std.specs.Prelude.{◌≡◌, ℕ, ◌*◌, ◌^◌, ◌<◌, ◌≤◌, List, length, slice_get, None, Some}
-use Rattle.sh_base.specs.declared.config.ConfigParts.{ConfigParts}
-use Rattle.sh_base.specs.Setting.{all_locks, all_seats}
-use Rattle.sh_base.specs.Layout.{compute_of}
+use Rattle.sh_base.specs.{declared.config.ConfigParts.{ConfigParts}, Setting.{all_locks, all_seats}, Layout.{compute_of}}
 use Rattle.sh_client.specs.InLine.{stand_of, IsIn, HasTurn, WillHand}
-use Rattle.sh_world.specs.declared.state.Line.{Line}
-use Rattle.sh_world.specs.States.{Place, line_at}
-use Rattle.sh_world.specs.Turning.{minus}
+use Rattle.sh_world.specs.{declared.state.Line.{Line}, States.{Place, line_at}, Turning.{minus}}
 
 -- the seat with this place stands in the line of a lock and a compute server
 pub record StandsIn (p : ConfigParts) (seats : List Place) (lock compute seat : ℕ) (q : Place) : Type 0 where

@@ -1,20 +1,11 @@
 -- What holds of a world after any turns.
 use Rattle.std.specs.Prelude.{◌≡◌, ◌⊎◌, ℕ, ◌+◌, ◌-◌, ◌^◌, ◌<◌, ◌≤◌, ◌==◌, if◌then◌else◌, true, false, List, [], ◌∷◌, length, slice_get, Option, None, Some}
-use Rattle.sh_base.specs.declared.config.ConfigParts.{ConfigParts}
-use Rattle.sh_base.specs.Setting.{all_seats, IsSetting}
-use Rattle.sh_map.specs.declared.call.Call.{Call}
-use Rattle.sh_map.specs.declared.call.Call.TheVariants.{Get, Del}
-use Rattle.sh_map.specs.declared.call.Reply.{Reply}
+use Rattle.sh_base.specs.{declared.config.ConfigParts.{ConfigParts}, Setting.{all_seats, IsSetting}}
+use Rattle.sh_map.specs.{declared.{call.{Call.{Call, TheVariants.{Get, Del}}, Reply.{Reply}}, log.Entry.{Entry}}, Calls.{IsInRange}, Map.{get}, Log.{map_at}}
 use Rattle.sh_map.specs.declared.call.Reply.TheVariants as reply
-use Rattle.sh_map.specs.declared.log.Entry.{Entry}
-use Rattle.sh_map.specs.Calls.{IsInRange}
-use Rattle.sh_map.specs.Map.{get}
-use Rattle.sh_map.specs.Log.{map_at}
-use Rattle.sh_client.specs.declared.state.Phase.TheVariants.{Idle}
-use Rattle.sh_client.specs.Rests.{is_resting}
+use Rattle.sh_client.specs.{declared.state.Phase.TheVariants.{Idle}, Rests.{is_resting}}
 use Rattle.sh_core.specs.Core.{Inv}
-use Rattle.sh_world.specs.States.{Given, Place, State, dones_by, dones_of, HasActor, IsBlank, IsLeft}
-use Rattle.sh_world.specs.Lines.{AreLines}
+use Rattle.sh_world.specs.{States.{Given, Place, State, dones_by, dones_of, HasActor, IsBlank, IsLeft}, Lines.{AreLines}}
 
 -- ---- points
 

@@ -1,18 +1,10 @@
 -- What the parts of a turn need.
-use Rattle.std.specs.Prelude.{◌≡◌, ℕ, ◌-◌, ◌^◌, ◌<◌, ◌≤◌, List, length, slice_get, Some, None, true}
-use Rattle.std.specs.List.{All}
+use Rattle.std.specs.{Prelude.{◌≡◌, ℕ, ◌-◌, ◌^◌, ◌<◌, ◌≤◌, List, length, slice_get, Some, None, true}, List.{All}}
 use Rattle.sh_base.specs.declared.config.ConfigParts.{ConfigParts}
-use Rattle.sh_map.specs.declared.log.Entry.{Entry}
-use Rattle.sh_map.specs.Calls.{IsInRange}
+use Rattle.sh_map.specs.{declared.log.Entry.{Entry}, Calls.{IsInRange}, Log.{IsLegal}}
 use Rattle.sh_client.specs.declared.state.Want.TheVariants as want
-use Rattle.sh_client.specs.declared.state.Phase.TheVariants.{Idle}
-use Rattle.sh_client.specs.Machine.{Machine}
-use Rattle.sh_client.specs.Wants.{want_of}
-use Rattle.sh_map.specs.Log.{IsLegal}
-use Rattle.sh_client.specs.Rests.{has_ended, rows_told}
-use Rattle.sh_world.specs.States.{Given, Place}
-use Rattle.sh_world.specs.Columns.{keys_of, IsReplyWide, IsRowWide}
-use Rattle.sh_world.specs.Running.{HasPoint}
+use Rattle.sh_client.specs.{declared.state.Phase.TheVariants.{Idle}, Machine.{Machine}, Wants.{want_of}, Rests.{has_ended, rows_told}}
+use Rattle.sh_world.specs.{States.{Given, Place}, Columns.{keys_of, IsReplyWide, IsRowWide}, Running.{HasPoint}}
 
 -- a seat at rest may begin this one of the calls
 pub record CanStart (calls : List Given) (q : Place) (number : ℕ) : Type 0 where

@@ -1,17 +1,11 @@
 -- A world as plain data: its words, its log, its seats with their clients, the calls that were given, and the ticket
 -- lines of its compute servers.
 use Rattle.std.specs.Prelude.{◌≡◌, ℕ, zero, suc, ◌+◌, ◌*◌, ◌<◌, ◌==◌, List, [], ◌∷◌, ◌++◌, filter, replicate, slice_get, Option, None, Some}
-use Rattle.sh_base.specs.declared.config.ConfigParts.{ConfigParts}
-use Rattle.sh_base.specs.Setting.{all_locks, all_seats}
-use Rattle.sh_map.specs.declared.call.Call.{Call}
-use Rattle.sh_map.specs.declared.call.Reply.{Reply}
-use Rattle.sh_map.specs.declared.log.Entry.{Entry}
-use Rattle.sh_map.specs.declared.book.Done.{Done}
-use Rattle.sh_map.specs.declared.book.Row.{Row}
+use Rattle.sh_base.specs.{declared.config.ConfigParts.{ConfigParts}, Setting.{all_locks, all_seats}}
+use Rattle.sh_map.specs.declared.{call.{Call.{Call}, Reply.{Reply}}, log.Entry.{Entry}, book.{Done.{Done}, Row.{Row}}}
 use Rattle.sh_client.specs.Machine.{Machine, fresh_machine}
 use Rattle.sh_core.specs.Actors.{Actor}
-use Rattle.sh_world.specs.declared.state.GivenCall.{GivenCall}
-use Rattle.sh_world.specs.declared.state.Line.{Line}
+use Rattle.sh_world.specs.declared.state.{GivenCall.{GivenCall}, Line.{Line}}
 
 -- A call that was given to a seat. Once it has ended it has its reply, and first and point are the log's length before its
 -- first turn and the point of the log where it is answered, and a range has its rows; before, they are 0 and none.

@@ -1,26 +1,13 @@
 -- What a turn of a seat makes of a world, and what it answers; and what it is to give a seat a call.
 use Rattle.std.specs.Prelude.{◌≡◌, ℕ, ◌+◌, ◌-◌, ◌^◌, ◌%◌, ◌==◌, ◌&&◌, if◌then◌else◌, Bool, true, false, List, [], ◌∷◌, ◌++◌, length, slice_get, slice_set, Option, None, Some}
-use Rattle.sh_base.specs.declared.event.Event.{Event}
-use Rattle.sh_base.specs.Layout.{compute_of}
-use Rattle.sh_base.specs.Memory.{apply, found_by}
-use Rattle.sh_map.specs.declared.call.Call.{Call}
-use Rattle.sh_map.specs.declared.log.Entry.{Entry}
-use Rattle.sh_client.specs.declared.state.Step.{Step}
-use Rattle.sh_client.specs.declared.state.Want.{Want}
+use Rattle.sh_base.specs.{declared.event.Event.{Event}, Layout.{compute_of}, Memory.{apply, found_by}}
+use Rattle.sh_map.specs.{declared.{call.Call.{Call}, log.Entry.{Entry}}, Points.{point_of}}
+use Rattle.sh_client.specs.{declared.state.{Step.{Step}, Want.{Want}, Phase.TheVariants.{Idle}, Tally.{Tally}}, Machine.{Machine, no_tally, to}, Feeds.{fed_by, turned_by, begun}, Giving.{makes}}
+use Rattle.sh_client.specs.{Wants.{want_of}, Rests.{has_ended, rows_told}}
 use Rattle.sh_client.specs.declared.state.Want.TheVariants as want
-use Rattle.sh_client.specs.declared.state.Phase.TheVariants.{Idle}
-use Rattle.sh_client.specs.declared.state.Tally.{Tally}
-use Rattle.sh_client.specs.Machine.{Machine, no_tally, to}
-use Rattle.sh_client.specs.Feeds.{fed_by, turned_by, begun}
-use Rattle.sh_client.specs.Giving.{makes}
-use Rattle.sh_client.specs.Wants.{want_of}
-use Rattle.sh_map.specs.Points.{point_of}
 use Rattle.sh_core.specs.Actors.{point_after, seen_after}
-use Rattle.sh_client.specs.Rests.{has_ended, rows_told}
-use Rattle.sh_world.specs.declared.state.Line.{Line}
-use Rattle.sh_world.specs.declared.turn.Turn.{Turn}
+use Rattle.sh_world.specs.{declared.{state.Line.{Line}, turn.Turn.{Turn}}, States.{Given, Place, State, answered, free_line, fresh_call, line_at}}
 use Rattle.sh_world.specs.declared.turn.Turn.TheVariants as turn
-use Rattle.sh_world.specs.States.{Given, Place, State, answered, free_line, fresh_call, line_at}
 
 -- ---- a call begins
 

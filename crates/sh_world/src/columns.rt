@@ -1,6 +1,5 @@
 // The calls of a world: they join its columns, are read and are answered.
-ghost use Rattle.std.specs.Prelude.{◌≡◌, ◌+◌, ◌<◌, ◌≤◌, ◌++◌, ◌∷◌, [], OnOk, OnErr, None, Some, length, slice_get, take, drop};
-ghost use Rattle.std.specs.List.{All};
+ghost use Rattle.std.specs.{Prelude.{◌≡◌, ◌+◌, ◌<◌, ◌≤◌, ◌++◌, ◌∷◌, [], OnOk, OnErr, None, Some, length, slice_get, take, drop}, List.{All}};
 ghost use Rattle.sh_base.specs.Parts.{parts_of};
 ghost use Rattle.sh_world.specs.States.{answered, fresh_call, rows_at, with_rows, Given};
 ghost use Rattle.sh_world.specs.Columns.{call_of, key_of, keys_of, kind_of, reply_kind_of, reply_read, IsCallWide, IsReplyWide, IsRowWide, IsWritten};

@@ -1,10 +1,8 @@
 // What a world begins with.
 ghost use Rattle.std.specs.Prelude.{◌≡◌, ◌*◌, ◌≤◌, IfOk, length, replicate};
-ghost use Rattle.sh_base.specs.Parts.{parts_of};
-ghost use Rattle.sh_base.specs.Setting.{all_locks, all_seats, node_size};
+ghost use Rattle.sh_base.specs.{Parts.{parts_of}, Setting.{all_locks, all_seats, node_size}};
 ghost use Rattle.sh_image.specs.Laid.{AreLaid};
-ghost use Rattle.sh_world.specs.Laid.{bare_words};
-ghost use Rattle.sh_world.specs.States.{dones_of, dones_from, free_line, fresh_from, fresh_place};
+ghost use Rattle.sh_world.specs.{Laid.{bare_words}, States.{dones_of, dones_from, free_line, fresh_from, fresh_place}};
 
 use crate::node::write_node;
 use crate::{Calls, GivenCall, Line, Seat};

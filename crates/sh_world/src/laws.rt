@@ -1,7 +1,6 @@
 // What holds of a world after any calls and turns.
 ghost use Rattle.std.specs.Prelude.{◌<◌, ℕ, length};
-ghost use Rattle.sh_world.specs.Running.{IsRunning};
-ghost use Rattle.sh_world.specs.Laws.{Extends, IdlesRight, IsLawfulWorld};
+ghost use Rattle.sh_world.specs.{Running.{IsRunning}, Laws.{Extends, IdlesRight, IsLawfulWorld}};
 
 use crate::World;
 

@@ -1,10 +1,7 @@
 // Ticket lines.
 ghost use Rattle.std.specs.Prelude.{◌≡◌, ◌*◌, ◌<◌};
-ghost use Rattle.sh_base.specs.Parts.{parts_of};
-ghost use Rattle.sh_base.specs.Setting.{all_locks, all_seats};
-ghost use Rattle.sh_base.specs.Layout.{compute_of};
-ghost use Rattle.sh_world.specs.States.{line_at};
-ghost use Rattle.sh_world.specs.Turning.{behind, wanted_lock};
+ghost use Rattle.sh_base.specs.{Parts.{parts_of}, Setting.{all_locks, all_seats}, Layout.{compute_of}};
+ghost use Rattle.sh_world.specs.{States.{line_at}, Turning.{behind, wanted_lock}};
 
 use crate::Line;
 use sh_base::Config;

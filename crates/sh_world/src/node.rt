@@ -1,8 +1,6 @@
 // A whole node is written, a word at a time.
 ghost use Rattle.std.specs.Prelude.{◌≡◌, ◌+◌, ◌<◌, ◌≤◌, ◌⊎◌, ℕ, length, slice_index};
-ghost use Rattle.sh_base.specs.Parts.{parts_of};
-ghost use Rattle.sh_base.specs.Setting.{node_size, pool_words, IsNode};
-ghost use Rattle.sh_base.specs.Layout.{node_part, node_word};
+ghost use Rattle.sh_base.specs.{Parts.{parts_of}, Setting.{node_size, pool_words, IsNode}, Layout.{node_part, node_word}};
 
 use sh_base::{Config, Place, WritePlan};
 

@@ -1,7 +1,6 @@
 // The point at which a call is answered.
 ghost use Rattle.std.specs.Prelude.{◌≡◌, ◌↔◌, ◌≤◌, IsTrue, length};
-ghost use Rattle.sh_map.specs.Log.{IsLegal};
-ghost use Rattle.sh_map.specs.Points.{least_point, point_of};
+ghost use Rattle.sh_map.specs.{Log.{IsLegal}, Points.{least_point, point_of}};
 ghost use Rattle.sh_world.specs.Running.{HadAt, HasPoint};
 
 use sh_base::Value;

@@ -1,10 +1,8 @@
 // The rows of ranges, in their column.
 ghost use Rattle.std.specs.Prelude.{◌≡◌, ◌+◌, ◌*◌, ◌<◌, ◌≤◌, ◌++◌, Some, IfOk, length, slice_get, vec_len};
-ghost use Rattle.std.specs.List.{flat_map, All};
-ghost use Rattle.std.specs.Vec.{vec_capacity};
+ghost use Rattle.std.specs.{List.{flat_map, All}, Vec.{vec_capacity}};
 ghost use Rattle.sh_base.specs.Parts.{parts_of};
-ghost use Rattle.sh_world.specs.States.{rows_at};
-ghost use Rattle.sh_world.specs.Columns.{keys_of, room_of, row_words, IsRowWide};
+ghost use Rattle.sh_world.specs.{States.{rows_at}, Columns.{keys_of, room_of, row_words, IsRowWide}};
 
 use crate::Calls;
 use sh_base::{Config, Value};

@@ -1,16 +1,9 @@
 // A seat's turns, each on the parts of the world that it needs.
-ghost use Rattle.std.specs.Prelude.{◌≡◌, ◌==◌, not, if◌then◌else◌, ◌+◌, ◌-◌, ◌^◌, ◌<◌, ◌≤◌, ◌++◌, ℕ, [], IfSome, Some, length, slice_get, take, drop, vec_len};
-ghost use Rattle.std.specs.Vec.{vec_capacity};
-ghost use Rattle.sh_base.specs.Memory.{apply, at_of, found_by};
-ghost use Rattle.sh_base.specs.Setting.{pool_words};
+ghost use Rattle.std.specs.{Prelude.{◌≡◌, ◌==◌, not, if◌then◌else◌, ◌+◌, ◌-◌, ◌^◌, ◌<◌, ◌≤◌, ◌++◌, ℕ, [], IfSome, Some, length, slice_get, take, drop, vec_len}, Vec.{vec_capacity}};
+ghost use Rattle.sh_base.specs.{Memory.{apply, at_of, found_by}, Setting.{pool_words}};
 ghost use Rattle.sh_map.specs.Calls.{IsInRange};
-ghost use Rattle.sh_client.specs.declared.state.Phase.TheVariants.{Idle};
-ghost use Rattle.sh_client.specs.Feeds.{fed_by, turned_by};
-ghost use Rattle.sh_client.specs.Giving.{makes};
-ghost use Rattle.sh_client.specs.Steps.{HasLoaded, HasStepped};
-ghost use Rattle.sh_client.specs.Wants.{want_of, IsWithin};
-ghost use Rattle.sh_world.specs.Turning.{asked, calls_after, is_idle, line_called, place_after, place_called, started, starts_next, place_stepped};
-ghost use Rattle.sh_world.specs.Seats.{CanAsk, CanSettle, CanStart};
+ghost use Rattle.sh_client.specs.{declared.state.Phase.TheVariants.{Idle}, Feeds.{fed_by, turned_by}, Giving.{makes}, Steps.{HasLoaded, HasStepped}, Wants.{want_of, IsWithin}};
+ghost use Rattle.sh_world.specs.{Turning.{asked, calls_after, is_idle, line_called, place_after, place_called, started, starts_next, place_stepped}, Seats.{CanAsk, CanSettle, CanStart}};
 
 use crate::lines::behind;
 use crate::points::point_of;

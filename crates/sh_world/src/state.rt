@@ -59,8 +59,7 @@ pub struct World {
 
 impl Model for World {
     ghost use Rattle.std.specs.Vec.{vec_capacity};
-    ghost use Rattle.sh_world.specs.States.{State};
-    ghost use Rattle.sh_world.specs.Running.{IsWorld};
+    ghost use Rattle.sh_world.specs.{States.{State}, Running.{IsWorld}};
 
     ghost Value = { State };
 

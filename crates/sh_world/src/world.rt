@@ -3,8 +3,7 @@ ghost use Rattle.std.specs.Prelude.{◌≡◌, ◌+◌, ◌-◌, ◌^◌, ◌<�
 ghost use Rattle.sh_base.specs.Parts.{parts_of};
 ghost use Rattle.sh_map.specs.Calls.{IsInRange};
 ghost use Rattle.sh_image.specs.Laid.{AreLaid};
-ghost use Rattle.sh_world.specs.States.{dones_by, dones_of, fresh_state, IsBlank};
-ghost use Rattle.sh_world.specs.Turning.{answer_of, give_of, is_idle_at, tally_at, turn_of, IsTurn};
+ghost use Rattle.sh_world.specs.{States.{dones_by, dones_of, fresh_state, IsBlank}, Turning.{answer_of, give_of, is_idle_at, tally_at, turn_of, IsTurn}};
 
 use crate::laid::{ended_calls, free_lines, fresh_seats, laid_words};
 use crate::lines::{line_at, wanted_lock};

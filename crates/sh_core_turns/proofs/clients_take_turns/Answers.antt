@@ -1,14 +1,8 @@
 use Rattle.std.proofs.Common.{[], length, None, Some, refl, inl, inr, sym}
-use Rattle.sh_base.specs.Layout.{lock_of}
-use Rattle.sh_base.specs.Memory.{found_by}
-use Rattle.sh_core.specs.Actors.{actor_begun, rested, actor_stepped, actor_turned}
-use Rattle.sh_core.specs.Opening.{entered}
-use Rattle.sh_core.specs.Listed.{HasAt, OutAt, without}
-use Rattle.sh_core_turns.proofs.Opening.{laid_keeps, enter_keeps}
-use Rattle.sh_core_turns.proofs.Calls.{begin_keeps, rest_keeps}
-use Rattle.sh_core_turns.proofs.Turns.{turn_keeps}
-use Rattle.sh_core_turns.proofs.LocalLaws.{local_keeps, look_keeps, take_keeps, part_keeps}
+use Rattle.sh_base.specs.{Layout.{lock_of}, Memory.{found_by}}
+use Rattle.sh_core.specs.{Actors.{actor_begun, rested, actor_stepped, actor_turned}, Opening.{entered}, Listed.{HasAt, OutAt, without}}
 use Rattle.sh_core.proofs.Lists.{none_at, list_moves, push_moves, end_is_free, without_back, without_on}
+use Rattle.sh_core_turns.proofs.{Opening.{laid_keeps, enter_keeps}, Calls.{begin_keeps, rest_keeps}, Turns.{turn_keeps}, LocalLaws.{local_keeps, look_keeps, take_keeps, part_keeps}}
 use Rattle.sh_core_turns.proofs.clients_take_turns.Goals as goal
 
 pub returns-clause-laid : goal.returns-clause-laid

@@ -1,7 +1,5 @@
-use Rattle.std.proofs.Common.{sym, ap, ◌∙◌, length, map, arith}
-use Rattle.std.proofs.lemmas.List.{same_lists, length-map}
-use Rattle.sh_edit.specs.Rewriting.{cleared}
-use Rattle.sh_edit.proofs.FindLemmas.{length_of_keys}
+use Rattle.std.proofs.{Common.{sym, ap, ◌∙◌, length, map, arith}, lemmas.List.{same_lists, length-map}}
+use Rattle.sh_edit.{specs.Rewriting.{cleared}, proofs.FindLemmas.{length_of_keys}}
 use Rattle.sh_edit.proofs.cleared.Goals as goal
 
 pub returns : goal.returns

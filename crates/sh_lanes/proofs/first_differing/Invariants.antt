@@ -1,5 +1,4 @@
-use Rattle.std.proofs.Common.{ℕ, ◌<◌, ◌≤◌, ◌-◌, ◌≡◌, length}
-use Rattle.std.specs.Prelude.{slice_index}
+use Rattle.std.{proofs.Common.{ℕ, ◌<◌, ◌≤◌, ◌-◌, ◌≡◌, length}, specs.Prelude.{slice_index}}
 use Rattle.sh_lanes.proofs.first_differing.Given as goal
 
 abbrev pub invariant-fours : goal.invariant-fours

@@ -1,6 +1,5 @@
 use Rattle.std.proofs.Common.{◌≢◌}
-use Rattle.sh_state.specs.TreeState.{Seat}
-use Rattle.sh_state.proofs.Joins.{nothing_done, join_after, join_before}
+use Rattle.sh_state.{specs.TreeState.{Seat}, proofs.Joins.{nothing_done, join_after, join_before}}
 use Rattle.sh_state.proofs.acts_join.Goals as goal
 
 pub returns-clause-none : goal.returns-clause-none

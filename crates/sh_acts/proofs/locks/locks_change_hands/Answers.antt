@@ -1,11 +1,7 @@
 use Rattle.std.proofs.Common.{ℕ, List, sym, subst, ◌∙◌}
 use Rattle.sh_base.specs.Places.{Lock}
-use Rattle.sh_state.specs.TreeState.{Held, Seat, hold_word}
-use Rattle.sh_state.specs.Ground.{Ground}
-use Rattle.sh_state.specs.Change.{Change}
-use Rattle.sh_acts.specs.Acts.{with_hold}
-use Rattle.sh_acts.proofs.Holds.{take_act, free_act, hand_act}
-use Rattle.sh_acts.proofs.Events.{exchanged, not_exchanged, free_lock, held_lock}
+use Rattle.sh_state.specs.{TreeState.{Held, Seat, hold_word}, Ground.{Ground}, Change.{Change}}
+use Rattle.sh_acts.{specs.Acts.{with_hold}, proofs.{Holds.{take_act, free_act, hand_act}, Events.{exchanged, not_exchanged, free_lock, held_lock}}}
 use Rattle.sh_acts.proofs.locks.locks_change_hands.Goals as goal
 
 pub returns-clause-free : goal.returns-clause-free

@@ -1,11 +1,7 @@
 use Rattle.std.proofs.Common.{ℕ, List, sym, subst, ◌∙◌}
 use Rattle.sh_base.specs.Places.{Root}
-use Rattle.sh_state.specs.Ground.{Ground}
-use Rattle.sh_state.specs.Change.{Change}
-use Rattle.sh_acts.specs.Acts.{grown}
-use Rattle.sh_acts.proofs.Posts.{skip_act}
-use Rattle.sh_acts.proofs.Roots.{taller, root_act}
-use Rattle.sh_acts.proofs.Events.{exchanged, not_exchanged}
+use Rattle.sh_state.specs.{Ground.{Ground}, Change.{Change}}
+use Rattle.sh_acts.{specs.Acts.{grown}, proofs.{Posts.{skip_act}, Roots.{taller, root_act}, Events.{exchanged, not_exchanged}}}
 use Rattle.sh_acts.proofs.locks.posts_and_roots.Goals as goal
 
 pub returns-clause-skipped : goal.returns-clause-skipped

@@ -1,10 +1,7 @@
 use Rattle.std.proofs.Common.{◌≤◌, subst, ◌∙◌}
-use Rattle.sh_base.specs.Layout.{lock_of}
-use Rattle.sh_base.specs.Places.{Node}
+use Rattle.sh_base.specs.{Layout.{lock_of}, Places.{Node}}
 use Rattle.sh_read.specs.Moments.{word}
-use Rattle.sh_state.specs.TreeState.{writing_of}
-use Rattle.sh_state.specs.Nodes.{Orderly}
-use Rattle.sh_state.proofs.Scenes.{moment_of}
+use Rattle.sh_state.{specs.{TreeState.{writing_of}, Nodes.{Orderly}}, proofs.Scenes.{moment_of}}
 use Rattle.sh_acts.proofs.Holds.{writer_held, writer_writes, go_act}
 use Rattle.sh_acts.proofs.locks.writes_go_on.Goals as goal
 

@@ -1,5 +1,4 @@
-use Rattle.std.proofs.Common.{◌≡◌, ◌≤◌, length}
-use Rattle.std.specs.Vec.{vec_capacity}
+use Rattle.std.{proofs.Common.{◌≡◌, ◌≤◌, length}, specs.Vec.{vec_capacity}}
 use Rattle.sh_cache.proofs.cache.blank_images.Given as goal
 
 abbrev pub invariant-loop : goal.invariant-loop

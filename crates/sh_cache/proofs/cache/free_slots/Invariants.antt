@@ -1,5 +1,4 @@
-use Rattle.std.proofs.Common.{◌≤◌}
-use Rattle.std.specs.Vec.{vec_capacity}
+use Rattle.std.{proofs.Common.{◌≤◌}, specs.Vec.{vec_capacity}}
 use Rattle.sh_cache.specs.Columns.{AreNumbers}
 use Rattle.sh_cache.proofs.cache.free_slots.Given as goal
 

@@ -1,5 +1,4 @@
-use Rattle.sh_cache.proofs.FindLemmas.{found_by}
-use Rattle.sh_cache.proofs.RowLemmas.{forgotten_gone}
+use Rattle.sh_cache.proofs.{FindLemmas.{found_by}, RowLemmas.{forgotten_gone}}
 use Rattle.sh_cache.proofs.laws.rows_are_exact.Goals as goal
 
 pub returns-clause-found : goal.returns-clause-found

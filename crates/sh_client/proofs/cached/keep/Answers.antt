@@ -1,7 +1,6 @@
 use Rattle.std.proofs.Common.{subst}
 use Rattle.sh_base.specs.Parts.{parts_of}
-use Rattle.sh_image.specs.Inner.{IsInner}
-use Rattle.sh_image.specs.Node.{IsImage}
+use Rattle.sh_image.specs.{Inner.{IsInner}, Node.{IsImage}}
 use Rattle.sh_cache.proofs.RowLemmas.{kept_all}
 use Rattle.sh_client.proofs.cached.keep.Goals as goal
 

@@ -1,5 +1,4 @@
-use Rattle.sh_client.proofs.CachedLemmas.{begins_by, fed_learns, turned_learns}
-use Rattle.sh_client.proofs.ShownLemmas.{fed_forgets, fed_keeps_shown, fed_shows, fed_stays}
+use Rattle.sh_client.proofs.{CachedLemmas.{begins_by, fed_learns, turned_learns}, ShownLemmas.{fed_forgets, fed_keeps_shown, fed_shows, fed_stays}}
 use Rattle.sh_client.proofs.laws.cached_nodes_lead_to_leaves.Goals as goal
 
 pub returns-clause-begin : goal.returns-clause-begin

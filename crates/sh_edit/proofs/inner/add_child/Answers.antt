@@ -1,5 +1,4 @@
-use Rattle.std.proofs.Common.{◌+◌, ◌-◌, ◌∙◌, take, drop, arith}
-use Rattle.std.specs.List.{insert}
+use Rattle.std.{proofs.Common.{◌+◌, ◌-◌, ◌∙◌, take, drop, arith}, specs.List.{insert}}
 use Rattle.sh_image.specs.declared.inner.Pair.{Pair}
 use Rattle.sh_edit.proofs.PairLemmas.{pushed_fresh, whole_with}
 use Rattle.sh_edit.proofs.inner.add_child.Goals as goal

@@ -1,5 +1,4 @@
-use Rattle.std.proofs.Common.{arith}
-use Rattle.std.proofs.lemmas.List.Edits.{length-insert}
+use Rattle.std.proofs.{Common.{arith}, lemmas.List.Edits.{length-insert}}
 use Rattle.sh_edit.proofs.PairLemmas.{pushed_none, pushed_more, pushed_room, pushed_all}
 use Rattle.sh_edit.proofs.inner.push_pairs.Goals as goal
 

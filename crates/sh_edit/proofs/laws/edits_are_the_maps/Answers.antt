@@ -1,6 +1,5 @@
 use Rattle.std.proofs.Common.{◌∙◌}
-use Rattle.sh_edit.proofs.HeldLemmas.{get-map_of_entries, held_at, held_none}
-use Rattle.sh_edit.proofs.RewriteLemmas.{rewritten_over, rewritten_new, rewritten_removed, rewritten_once, rewritten_lawful}
+use Rattle.sh_edit.proofs.{HeldLemmas.{get-map_of_entries, held_at, held_none}, RewriteLemmas.{rewritten_over, rewritten_new, rewritten_removed, rewritten_once, rewritten_lawful}}
 use Rattle.sh_edit.proofs.RoomLemmas.{room_is_size}
 use Rattle.sh_edit.proofs.laws.edits_are_the_maps.Goals as goal
 

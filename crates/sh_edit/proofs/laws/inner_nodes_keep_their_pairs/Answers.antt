@@ -1,6 +1,5 @@
 use Rattle.std.proofs.lemmas.List.{take-append-drop}
-use Rattle.sh_edit.specs.Pairing.{pairs_with}
-use Rattle.sh_edit.proofs.RiseLemmas.{kept, with_lawful, middle_within, left_inner_lawful, right_inner_lawful, root_lawful}
+use Rattle.sh_edit.{specs.Pairing.{pairs_with}, proofs.RiseLemmas.{kept, with_lawful, middle_within, left_inner_lawful, right_inner_lawful, root_lawful}}
 use Rattle.sh_edit.proofs.laws.inner_nodes_keep_their_pairs.Goals as goal
 
 pub returns-clause-kept : goal.returns-clause-kept

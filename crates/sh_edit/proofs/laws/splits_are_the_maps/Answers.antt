@@ -1,6 +1,5 @@
 use Rattle.std.proofs.Common.{◌≡◌, ℕ, ◌≤◌, arith}
-use Rattle.sh_edit.proofs.SplitLemmas.{halves_are_put, sides}
-use Rattle.sh_edit.proofs.HalvesLemmas.{left_once, right_once, separator_within, left_lawful, right_lawful}
+use Rattle.sh_edit.proofs.{SplitLemmas.{halves_are_put, sides}, HalvesLemmas.{left_once, right_once, separator_within, left_lawful, right_lawful}}
 use Rattle.sh_edit.proofs.laws.splits_are_the_maps.Goals as goal
 
 is_key : (key : ℕ) → 1 ≤ key → key ≡ 0 → ⊥

@@ -1,6 +1,5 @@
 use Rattle.std.proofs.Common.{ap, sym, ◌∙◌}
-use Rattle.sh_image.specs.Leaf.{leaf_words}
-use Rattle.sh_image.proofs.LeafLemmas.{leaf_in-leaf_words, length-leaf_words, spelled_one, values_of}
+use Rattle.sh_image.{specs.Leaf.{leaf_words}, proofs.LeafLemmas.{leaf_in-leaf_words, length-leaf_words, spelled_one, values_of}}
 use Rattle.sh_image.proofs.laws.leaves_spelled_once.Goals as goal
 
 pub returns-clause-read_back : goal.returns-clause-read_back

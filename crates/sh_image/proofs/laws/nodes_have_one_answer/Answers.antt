@@ -1,5 +1,4 @@
-use Rattle.sh_image.proofs.LeafLemmas.{values_of}
-use Rattle.sh_image.proofs.NodeLemmas.{one_answer, seen_image, odd_spells_none, spelled_twice, read_again, length-words_of}
+use Rattle.sh_image.proofs.{LeafLemmas.{values_of}, NodeLemmas.{one_answer, seen_image, odd_spells_none, spelled_twice, read_again, length-words_of}}
 use Rattle.sh_image.proofs.laws.nodes_have_one_answer.Goals as goal
 
 pub returns-clause-one : goal.returns-clause-one

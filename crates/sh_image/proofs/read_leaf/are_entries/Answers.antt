@@ -1,8 +1,6 @@
 use Rattle.std.proofs.Common.{[], refl, sym, subst, arith}
 use mathlib.Core.Bool.{false≢true}
-use Rattle.sh_image.specs.declared.leaf.LeafEntry.{LeafEntry}
-use Rattle.sh_image.specs.Leaf.{IsEntry}
-use Rattle.sh_image.proofs.FillLemmas.{entry_here, rules_more, spelled_many}
+use Rattle.sh_image.{specs.{declared.leaf.LeafEntry.{LeafEntry}, Leaf.{IsEntry}}, proofs.FillLemmas.{entry_here, rules_more, spelled_many}}
 use Rattle.sh_image.proofs.read_leaf.are_entries.Goals as goal
 
 pub returns-then-not-is_entry : goal.returns-then-not-is_entry

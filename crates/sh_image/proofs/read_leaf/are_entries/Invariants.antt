@@ -1,7 +1,5 @@
 use Rattle.std.proofs.Common.{ℕ, ◌<◌, get_or, drop}
-use Rattle.sh_image.specs.declared.leaf.LeafEntry.{LeafEntry}
-use Rattle.sh_image.specs.Entries.{entries_in}
-use Rattle.sh_image.specs.Leaf.{IsEntry}
+use Rattle.sh_image.specs.{declared.leaf.LeafEntry.{LeafEntry}, Entries.{entries_in}, Leaf.{IsEntry}}
 use Rattle.sh_image.proofs.read_leaf.are_entries.Given as goal
 
 abbrev pub invariant-loop-index : goal.invariant-loop-index

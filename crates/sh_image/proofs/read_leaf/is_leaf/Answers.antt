@@ -1,8 +1,5 @@
-use Rattle.std.proofs.Common.{arith}
-use Rattle.std.proofs.lemmas.Bool.Decides.{nat_tests}
-use Rattle.std.proofs.lemmas.List.Elements.{All-from_recursion, recursion_from_All}
-use Rattle.sh_image.specs.Leaf.{IsEntry}
-use Rattle.sh_image.proofs.FillLemmas.{spelled_many}
+use Rattle.std.proofs.{Common.{arith}, lemmas.{Bool.Decides.{nat_tests}, List.Elements.{All-from_recursion, recursion_from_All}}}
+use Rattle.sh_image.{specs.Leaf.{IsEntry}, proofs.FillLemmas.{spelled_many}}
 use Rattle.sh_image.proofs.read_leaf.is_leaf.Goals as goal
 
 pub returns : goal.returns

@@ -1,8 +1,5 @@
 use Rattle.std.proofs.Common.{refl, sym, subst}
-use Rattle.sh_image.specs.Leaf.{IsLeaf, Spells}
-use Rattle.sh_image.proofs.FillLemmas.{read_whole}
-use Rattle.sh_image.proofs.LeafLemmas.{spelled_one}
-use Rattle.sh_image.proofs.ReadLemmas.{words_from_untorn}
+use Rattle.sh_image.{specs.Leaf.{IsLeaf, Spells}, proofs.{FillLemmas.{read_whole}, LeafLemmas.{spelled_one}, ReadLemmas.{words_from_untorn}}}
 use Rattle.sh_image.proofs.read_leaf.read_leaf.Goals as goal
 
 pub returns-then-not-is_leaf-clause-always : goal.returns-then-not-is_leaf-clause-always

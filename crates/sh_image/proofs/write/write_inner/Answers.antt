@@ -1,10 +1,7 @@
 use Rattle.std.proofs.Common.{◌≡◌, ◌<◌, ◌≤◌, ◌+◌, ◌-◌, ◌*◌, ◌++◌, ◌∷◌, [], take, sym, ap, ◌∙◌, length, append_assoc, arith}
-use Rattle.std.specs.List.{flat_map}
-use Rattle.std.proofs.lemmas.List.{length-set}
+use Rattle.std.{specs.List.{flat_map}, proofs.lemmas.List.{length-set}}
 use Rattle.sh_base.proofs.LayoutLemmas.{node_size_is, rear_at_low}
-use Rattle.sh_image.specs.Inner.{inner_header, pair_words, words_behind}
-use Rattle.sh_image.proofs.InnerLemmas.{pairs_room}
-use Rattle.sh_image.proofs.WriteLemmas.{zeros, zero_more, last_word}
+use Rattle.sh_image.{specs.Inner.{inner_header, pair_words, words_behind}, proofs.{InnerLemmas.{pairs_room}, WriteLemmas.{zeros, zero_more, last_word}}}
 use Rattle.sh_image.proofs.write.write_inner.Goals as goal
 
 pub write_inner_header-requires : goal.write_inner_header-requires

@@ -1,6 +1,5 @@
 use Rattle.std.proofs.Common.{◌≡◌, ◌+◌, ◌-◌, ◌*◌, ◌++◌, length, take}
-use Rattle.std.specs.Prelude.{replicate}
-use Rattle.std.specs.List.{flat_map}
+use Rattle.std.specs.{Prelude.{replicate}, List.{flat_map}}
 use Rattle.sh_image.specs.Inner.{inner_header, pair_words}
 use Rattle.sh_image.proofs.write.write_inner.Given as goal
 

@@ -1,14 +1,7 @@
-use Rattle.std.proofs.Common.{◌≡◌, ◌<◌, ◌≤◌, ◌+◌, ◌-◌, ◌++◌, length, take, drop, sym, ap, ◌∙◌, arith}
-use Rattle.std.specs.List.{flat_map}
-use Rattle.std.proofs.lemmas.List.{take_all, length-take-le, length-drop}
+use Rattle.std.{proofs.{Common.{◌≡◌, ◌<◌, ◌≤◌, ◌+◌, ◌-◌, ◌++◌, length, take, drop, sym, ap, ◌∙◌, arith}, lemmas.List.{take_all, length-take-le, length-drop}}, specs.List.{flat_map}}
 use Rattle.std.proofs.lemmas.Option.{get_or_from_slice_get}
-use Rattle.sh_base.specs.Layout.{entry_at}
-use Rattle.sh_base.proofs.LayoutLemmas.{entry_high, node_size_is, rear_at_low, entry_size_is, entry_at_first, entry_at_more, entry_at_last}
-use Rattle.sh_image.specs.declared.leaf.LeafEntry.{LeafEntry}
-use Rattle.sh_image.specs.Leaf.{header}
-use Rattle.sh_image.specs.Entries.{entry_words}
-use Rattle.sh_image.proofs.EntriesLemmas.{value_at}
-use Rattle.sh_image.proofs.WriteLemmas.{piece_more, pieces_more, last_word}
+use Rattle.sh_base.{specs.Layout.{entry_at}, proofs.LayoutLemmas.{entry_high, node_size_is, rear_at_low, entry_size_is, entry_at_first, entry_at_more, entry_at_last}}
+use Rattle.sh_image.{specs.{declared.leaf.LeafEntry.{LeafEntry}, Leaf.{header}, Entries.{entry_words}}, proofs.{EntriesLemmas.{value_at}, WriteLemmas.{piece_more, pieces_more, last_word}}}
 use Rattle.sh_image.proofs.write.write_leaf.Goals as goal
 
 pub write_header-requires : goal.write_header-requires

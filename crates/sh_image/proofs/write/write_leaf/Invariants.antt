@@ -1,8 +1,6 @@
-use Rattle.std.proofs.Common.{◌≡◌, ◌++◌, take}
-use Rattle.std.specs.List.{flat_map}
+use Rattle.std.{proofs.Common.{◌≡◌, ◌++◌, take}, specs.List.{flat_map}}
 use Rattle.sh_base.specs.Layout.{entry_at}
-use Rattle.sh_image.specs.Entries.{entry_words}
-use Rattle.sh_image.specs.Leaf.{header}
+use Rattle.sh_image.specs.{Entries.{entry_words}, Leaf.{header}}
 use Rattle.sh_image.proofs.write.write_leaf.Given as goal
 
 -- the header and the entries so far

@@ -1,9 +1,6 @@
 use Rattle.std.proofs.Common.{◌<◌, ◌+◌, ◌*◌, ◌∙◌, length, set, arith}
-use Rattle.std.proofs.lemmas.List.{length-set}
-use Rattle.std.proofs.lemmas.Option.{get_or_from_slice_get}
-use Rattle.sh_image.specs.declared.inner.Pair.{Pair}
-use Rattle.sh_image.specs.Inner.{inner_header}
-use Rattle.sh_image.proofs.WriteLemmas.{pair_more}
+use Rattle.std.proofs.lemmas.{List.{length-set}, Option.{get_or_from_slice_get}}
+use Rattle.sh_image.{specs.{declared.inner.Pair.{Pair}, Inner.{inner_header}}, proofs.WriteLemmas.{pair_more}}
 use Rattle.sh_image.proofs.write.write_pairs.Goals as goal
 
 pub loop-index-preserved : goal.loop-index-preserved

@@ -1,7 +1,5 @@
-use Rattle.std.proofs.Common.{ap, sym, ◌∙◌}
-use Rattle.std.specs.FinMap.{empty}
-use Rattle.sh_map.specs.Log.{changed}
-use Rattle.sh_map.proofs.LogLemmas.{map_from_more}
+use Rattle.std.{proofs.Common.{ap, sym, ◌∙◌}, specs.FinMap.{empty}}
+use Rattle.sh_map.{specs.Log.{changed}, proofs.LogLemmas.{map_from_more}}
 use Rattle.sh_judge.proofs.last.tree_of.Goals as goal
 
 pub loop-entry-preserved : goal.loop-entry-preserved

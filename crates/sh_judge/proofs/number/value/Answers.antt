@@ -1,5 +1,4 @@
-use Rattle.std.proofs.Common.{arith, ◌∙◌}
-use Rattle.std.proofs.lemmas.List.{length-set, take_more_set}
+use Rattle.std.proofs.{Common.{arith, ◌∙◌}, lemmas.List.{length-set, take_more_set}}
 use Rattle.sh_judge.proofs.Numbers.{cut_more, too_many_parts}
 use Rattle.sh_judge.proofs.number.value.Goals as goal
 

@@ -1,6 +1,5 @@
 use Rattle.std.proofs.Common.{◌≡◌, ◌≤◌, ◌-◌, length, take, option_map}
-use Rattle.sh_judge.specs.Fields.{parts_behind}
-use Rattle.sh_judge.proofs.Numbers.{IsCut}
+use Rattle.sh_judge.{specs.Fields.{parts_behind}, proofs.Numbers.{IsCut}}
 use Rattle.sh_judge.proofs.number.value.Given as goal
 
 abbrev pub invariant-parts : goal.invariant-parts

@@ -1,8 +1,6 @@
 use Rattle.std.proofs.Common.{◌+◌, ◌-◌, ◌*◌, ◌∙◌, ap, sym, arith, drop, get_or}
-use Rattle.std.proofs.lemmas.Bool.Decides.{nat_tests}
-use Rattle.std.proofs.lemmas.List.{drop_all}
-use Rattle.sh_sheet.specs.Number.{are_digits, value_from}
-use Rattle.sh_sheet.proofs.Digits.{value_from-ge, value_from_more}
+use Rattle.std.proofs.lemmas.{Bool.Decides.{nat_tests}, List.{drop_all}}
+use Rattle.sh_sheet.{specs.Number.{are_digits, value_from}, proofs.Digits.{value_from-ge, value_from_more}}
 use Rattle.sh_judge.proofs.Numbers.{wide_of_digits, wide_of_large}
 use Rattle.sh_judge.proofs.number.wide.Goals as goal
 

@@ -1,6 +1,4 @@
-use Rattle.std.proofs.Common.{◌≡◌, ◌≤◌}
-use Rattle.std.specs.Prelude.{vec_len}
-use Rattle.std.specs.Vec.{vec_capacity}
+use Rattle.std.{proofs.Common.{◌≡◌, ◌≤◌}, specs.{Prelude.{vec_len}, Vec.{vec_capacity}}}
 use Rattle.sh_judge.specs.Places.{log_to}
 use Rattle.sh_judge.proofs.places.log_of.Given as goal
 

@@ -1,8 +1,6 @@
 use Rattle.std.proofs.Common.{subst, sym, ◌∙◌, ◌+◌, take}
-use Rattle.sh_judge.specs.Tables.{AreOwners}
-use Rattle.sh_judge.proofs.Owners.{owners_kept_at, owners_set_at}
+use Rattle.sh_judge.{specs.Tables.{AreOwners}, proofs.{Owners.{owners_kept_at, owners_set_at}, places.owners.Goals.{then-is_below, else-is_below}}}
 use Rattle.sh_judge.proofs.places.owners.Goals as goal
-use Rattle.sh_judge.proofs.places.owners.Goals.{then-is_below, else-is_below}
 
 pub loop-at-preserved : goal.loop-at-preserved
 loop-at-preserved c = elim c.if-is_below.branch [

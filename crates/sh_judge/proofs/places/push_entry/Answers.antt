@@ -1,6 +1,4 @@
-use Rattle.std.proofs.Common.{sym}
-use Rattle.std.proofs.lemmas.List.{append-nil}
-use Rattle.std.proofs.lemmas.Option.{slice_get_past}
+use Rattle.std.proofs.{Common.{sym}, lemmas.{List.{append-nil}, Option.{slice_get_past}}}
 use Rattle.sh_judge.proofs.places.push_entry.Goals as goal
 
 pub returns-else-at-dones-clause-items : goal.returns-else-at-dones-clause-items

@@ -1,7 +1,5 @@
 use Rattle.std.proofs.Common.{◌≡◌, ◌≤◌, ◌+◌, length}
-use Rattle.sh_judge.specs.Fields.{parts_at}
-use Rattle.sh_judge.specs.Reading.{reading_from, reading_of}
-use Rattle.sh_judge.specs.Reader.{HasLeast, told_of}
+use Rattle.sh_judge.specs.{Fields.{parts_at}, Reading.{reading_from, reading_of}, Reader.{HasLeast, told_of}}
 use Rattle.sh_judge.proofs.read.read_text.Given as goal
 
 abbrev pub invariant-lines : goal.invariant-lines

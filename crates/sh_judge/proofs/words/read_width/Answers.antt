@@ -1,5 +1,4 @@
-use Rattle.std.proofs.Common.{◌≡◌, map, ap, Err}
-use Rattle.std.proofs.lemmas.Result.{err_from_is_err_and}
+use Rattle.std.proofs.{Common.{◌≡◌, map, ap, Err}, lemmas.Result.{err_from_is_err_and}}
 use Rattle.sh_options.specs.declared.order.WordFault.TheVariants.{Usage}
 use Rattle.sh_judge.proofs.WordLemmas.{names_are, no_width, width_is}
 use Rattle.sh_judge.proofs.words.read_width.Goals as goal

@@ -1,6 +1,4 @@
-use Rattle.std.proofs.Common.{◌≡◌, ◌-◌, ℕ, ◌<◌, false, get_or}
-use Rattle.std.specs.Mem.Slots.{slots_filled, slots_items, slots_len}
-use Rattle.std.specs.Mem.Slots.Ownership.{Filled}
+use Rattle.std.{proofs.Common.{◌≡◌, ◌-◌, ℕ, ◌<◌, false, get_or}, specs.Mem.Slots.{slots_filled, slots_items, slots_len, Ownership.{Filled}}}
 use Rattle.sh_local.specs.Chairs.{AllNone}
 use Rattle.sh_local.proofs.queues.discard.Given as goal
 

@@ -1,6 +1,5 @@
 use Rattle.std.proofs.Common.{◌≡◌, ◌-◌, ap, arith}
-use Rattle.sh_local.specs.declared.view.View.{View}
-use Rattle.sh_local.proofs.Regroup.{splits}
+use Rattle.sh_local.{specs.declared.view.View.{View}, proofs.Regroup.{splits}}
 use Rattle.sh_local.proofs.queues.seat_all.Goals as goal
 
 pub split_seat-requires : goal.split_seat-requires

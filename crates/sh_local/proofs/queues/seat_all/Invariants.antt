@@ -1,7 +1,5 @@
-use Rattle.std.proofs.Common.{◌≡◌, ◌-◌, ◌≤◌, [], replicate}
-use Rattle.std.specs.Vec.{vec_capacity}
-use Rattle.sh_local.specs.Calls.{opener}
-use Rattle.sh_local.specs.Chairs.{fresh_chair}
+use Rattle.std.{proofs.Common.{◌≡◌, ◌-◌, ◌≤◌, [], replicate}, specs.Vec.{vec_capacity}}
+use Rattle.sh_local.specs.{Calls.{opener}, Chairs.{fresh_chair}}
 use Rattle.sh_local.proofs.queues.seat_all.Given as goal
 
 abbrev pub invariant-loop-made : goal.invariant-loop-made

@@ -1,9 +1,5 @@
 use Rattle.std.proofs.Common.{◌≡◌, ap, sym, ◌∙◌, subst}
-use Rattle.sh_local.specs.declared.view.View.{View}
-use Rattle.sh_local.specs.Calls.{both}
-use Rattle.sh_local.specs.Chairs.{Sitting, AllFree, TakenIn}
-use Rattle.sh_local.proofs.Regroup.{joins}
-use Rattle.sh_local.proofs.Taking.{all_free_snoc, taken_step, taken_first}
+use Rattle.sh_local.{specs.{declared.view.View.{View}, Calls.{both}, Chairs.{Sitting, AllFree, TakenIn}}, proofs.{Regroup.{joins}, Taking.{all_free_snoc, taken_step, taken_first}}}
 use Rattle.sh_local.proofs.queues.take_in.Goals as goal
 
 pub loop-chair-init : goal.loop-chair-init

@@ -1,11 +1,6 @@
-use Rattle.std.proofs.Common.{◌≡◌, ℕ, ◌+◌, ◌%◌, ◌^◌, List, [], ◌∷◌, Option, arith, ap, subst, ◌∙◌, sym}
-use Rattle.std.proofs.Math.Nat.{mod-add-mod}
+use Rattle.std.proofs.{Common.{◌≡◌, ℕ, ◌+◌, ◌%◌, ◌^◌, List, [], ◌∷◌, Option, arith, ap, subst, ◌∙◌, sym}, Math.Nat.{mod-add-mod}}
 use Rattle.atomic_table.specs.Table.{Me, Allows, rest}
-use Rattle.sh_local.specs.declared.view.View.{View}
-use Rattle.sh_local.specs.Calls.{held}
-use Rattle.sh_local.specs.Steps.{LeavesQueue}
-use Rattle.sh_local.specs.Chairs.{MayLeave}
-use Rattle.sh_local.proofs.Allowed.{allows_leave, Holds}
+use Rattle.sh_local.{specs.{declared.view.View.{View}, Calls.{held}, Steps.{LeavesQueue}, Chairs.{MayLeave}}, proofs.Allowed.{allows_leave, Holds}}
 use Rattle.sh_local.proofs.steps.leave.Goals as goal
 
 pub store-requires : goal.store-requires

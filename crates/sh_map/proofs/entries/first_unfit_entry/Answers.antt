@@ -1,7 +1,5 @@
 use Rattle.std.proofs.Common.{below_more, length, ◌<◌, refl, ap, sym, ◌∙◌, arith}
-use Rattle.sh_map.specs.Log.{changed}
-use Rattle.sh_map.proofs.EntryLemmas.{next_here}
-use Rattle.sh_map.proofs.ReplyLemmas.{map_next}
+use Rattle.sh_map.{specs.Log.{changed}, proofs.{EntryLemmas.{next_here}, ReplyLemmas.{map_next}}}
 use Rattle.sh_map.proofs.entries.first_unfit_entry.Goals as goal
 
 pub loop-at-preserved : goal.loop-at-preserved

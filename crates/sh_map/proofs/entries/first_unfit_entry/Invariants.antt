@@ -1,6 +1,5 @@
 use Rattle.std.proofs.Common.{◌≡◌, ℕ, ◌<◌}
-use Rattle.sh_map.specs.Log.{map_at}
-use Rattle.sh_map.specs.Judge.{FitsEntry}
+use Rattle.sh_map.specs.{Log.{map_at}, Judge.{FitsEntry}}
 use Rattle.sh_map.proofs.entries.first_unfit_entry.Given as goal
 
 -- the entries so far fit, and the map is theirs

@@ -1,6 +1,4 @@
-use Rattle.sh_map.proofs.BookLemmas.{IsLawful-push_entry, IsLawful-push_done}
-use Rattle.sh_map.proofs.LawfulLemmas.{no_misfit}
-use Rattle.sh_map.proofs.SeatLemmas.{seat_updates}
+use Rattle.sh_map.proofs.{BookLemmas.{IsLawful-push_entry, IsLawful-push_done}, LawfulLemmas.{no_misfit}, SeatLemmas.{seat_updates}}
 use Rattle.sh_map.proofs.laws.book_laws.Goals as goal
 
 pub returns-clause-entry : goal.returns-clause-entry

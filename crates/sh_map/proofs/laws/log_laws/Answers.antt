@@ -1,5 +1,4 @@
-use Rattle.sh_map.proofs.LogLemmas.{IsLegal-take}
-use Rattle.sh_map.proofs.LastLemmas.{get_by_last, get_by_none}
+use Rattle.sh_map.proofs.{LogLemmas.{IsLegal-take}, LastLemmas.{get_by_last, get_by_none}}
 use Rattle.sh_map.proofs.laws.log_laws.Goals as goal
 
 pub returns-clause-legal_before : goal.returns-clause-legal_before

@@ -1,11 +1,6 @@
-use Rattle.std.proofs.Common.{ℕ, ◌+◌, List, Option, take, sym, subst, ◌∙◌}
-use Rattle.std.proofs.lemmas.Bool.{false≢true}
-use Rattle.std.proofs.lemmas.List.{take_all}
-use Rattle.sh_map.specs.declared.book.Done.{Done}
-use Rattle.sh_map.specs.Judge.{FitsRule}
-use Rattle.sh_map.proofs.JudgeLemmas.{SoFar, kept_at, more_fit, more_unfit}
+use Rattle.std.proofs.{Common.{ℕ, ◌+◌, List, Option, take, sym, subst, ◌∙◌}, lemmas.{Bool.{false≢true}, List.{take_all}}}
+use Rattle.sh_map.{specs.{declared.book.Done.{Done}, Judge.{FitsRule}}, proofs.{JudgeLemmas.{SoFar, kept_at, more_fit, more_unfit}, misfit.least_unfit.Goals.{then-not-index, else-not-index}}}
 use Rattle.sh_map.proofs.misfit.least_unfit.Goals as goal
-use Rattle.sh_map.proofs.misfit.least_unfit.Goals.{then-not-index, else-not-index}
 
 pub loop-at-preserved : goal.loop-at-preserved
 loop-at-preserved c =

@@ -1,6 +1,5 @@
 use Rattle.std.proofs.Common.{take}
-use Rattle.sh_map.specs.Judge.{FitsRule}
-use Rattle.sh_map.proofs.JudgeLemmas.{SoFar}
+use Rattle.sh_map.{specs.Judge.{FitsRule}, proofs.JudgeLemmas.{SoFar}}
 use Rattle.sh_map.proofs.misfit.least_unfit.Given as goal
 
 abbrev pub invariant-loop-at : goal.invariant-loop-at

@@ -1,9 +1,5 @@
-use Rattle.std.proofs.Common.{subst, arith, ap, ◌∙◌}
-use Rattle.std.specs.Prelude.{unwrap_or}
-use Rattle.sh_map.specs.Judge.{FitsOrder}
-use Rattle.sh_map.specs.Tables.{AreKept}
-use Rattle.sh_map.proofs.OrderLemmas.{bounds_none, bounds_more, order_decides, kept_none, kept_more}
-use Rattle.std.proofs.lemmas.List.{take_all}
+use Rattle.std.{proofs.{Common.{subst, arith, ap, ◌∙◌}, lemmas.List.{take_all}}, specs.Prelude.{unwrap_or}}
+use Rattle.sh_map.{specs.{Judge.{FitsOrder}, Tables.{AreKept}}, proofs.OrderLemmas.{bounds_none, bounds_more, order_decides, kept_none, kept_more}}
 use Rattle.sh_map.proofs.order.are_in_order.Goals as goal
 
 pub loop-done-init : goal.loop-done-init

@@ -1,7 +1,5 @@
-use Rattle.std.proofs.Common.{◌+◌, ◌-◌, ◌≤◌, length, take}
-use Rattle.std.specs.Vec.{vec_capacity, vec_len}
-use Rattle.sh_map.specs.Judge.{FitsOrder}
-use Rattle.sh_map.specs.Tables.{AreKept, AreBounds}
+use Rattle.std.{proofs.Common.{◌+◌, ◌-◌, ◌≤◌, length, take}, specs.Vec.{vec_capacity, vec_len}}
+use Rattle.sh_map.specs.{Judge.{FitsOrder}, Tables.{AreKept, AreBounds}}
 use Rattle.sh_map.proofs.order.are_in_order.Given as goal
 
 abbrev pub invariant-loop-done : goal.invariant-loop-done

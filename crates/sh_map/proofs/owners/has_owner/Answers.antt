@@ -1,10 +1,6 @@
-use Rattle.std.proofs.Common.{◌∙◌, ap, sym, true, false, arith}
-use Rattle.std.proofs.lemmas.List.{get_or_default}
-use Rattle.std.proofs.lemmas.Bool.{false≢true}
-use Rattle.std.specs.Ordering.{nat_cmp}
+use Rattle.std.{proofs.{Common.{◌∙◌, ap, sym, true, false, arith}, lemmas.{List.{get_or_default}, Bool.{false≢true}}}, specs.Ordering.{nat_cmp}}
 use Rattle.std.specs.BTreeMap as tree
-use Rattle.sh_map.specs.declared.log.Entry.{Entry}
-use Rattle.sh_map.proofs.OwnerLemmas.{owner_decides}
+use Rattle.sh_map.{specs.declared.log.Entry.{Entry}, proofs.OwnerLemmas.{owner_decides}}
 use Rattle.sh_map.proofs.owners.has_owner.Goals as goal
 
 pub returns-else-owned-at : goal.returns-else-owned-at

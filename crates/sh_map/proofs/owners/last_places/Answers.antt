@@ -1,7 +1,5 @@
-use Rattle.std.proofs.Common.{subst}
-use Rattle.std.proofs.lemmas.List.{take_all}
-use Rattle.sh_map.specs.Tables.{AreLastPlaces}
-use Rattle.sh_map.proofs.OwnerLemmas.{last_none, lasts_more}
+use Rattle.std.proofs.{Common.{subst}, lemmas.List.{take_all}}
+use Rattle.sh_map.{specs.Tables.{AreLastPlaces}, proofs.OwnerLemmas.{last_none, lasts_more}}
 use Rattle.sh_map.proofs.owners.last_places.Goals as goal
 
 pub loop-at-init : goal.loop-at-init

@@ -1,10 +1,6 @@
-use Rattle.std.proofs.Common.{subst, sym, ◌∙◌, ◌+◌, take}
-use Rattle.std.proofs.lemmas.Bool.{false≢true}
-use Rattle.std.proofs.lemmas.List.{take_all}
-use Rattle.sh_map.specs.Tables.{AreOwned}
-use Rattle.sh_map.proofs.OwnerLemmas.{owned_none, owned_set, owned_kept}
+use Rattle.std.proofs.{Common.{subst, sym, ◌∙◌, ◌+◌, take}, lemmas.{Bool.{false≢true}, List.{take_all}}}
+use Rattle.sh_map.{specs.Tables.{AreOwned}, proofs.{OwnerLemmas.{owned_none, owned_set, owned_kept}, owners.owned_places.Goals.{then-owns_below, else-owns_below}}}
 use Rattle.sh_map.proofs.owners.owned_places.Goals as goal
-use Rattle.sh_map.proofs.owners.owned_places.Goals.{then-owns_below, else-owns_below}
 
 pub loop-done-init : goal.loop-done-init
 loop-done-init c = owned_none c.args.len _ (c.in_ok-owned.ensures.items_if_clones_equal (λ y h. h))

@@ -1,5 +1,4 @@
-use Rattle.std.proofs.Common.{rules}
-use Rattle.std.proofs.lemmas.List.Sorted.{answers_always}
+use Rattle.std.proofs.{Common.{rules}, lemmas.List.Sorted.{answers_always}}
 use Rattle.sh_map.proofs.RowsLemmas.{searched}
 use Rattle.sh_map.proofs.plain_map.search.Goals as goal
 

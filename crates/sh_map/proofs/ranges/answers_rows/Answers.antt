@@ -1,9 +1,5 @@
 use Rattle.std.proofs.Common.{refl, arith, ◌≤◌, ◌-◌, ℕ, length, take, drop, List, subst, IfOk, ◌↔◌, IsTrue}
-use Rattle.sh_map.specs.declared.book.Row.{Row}
-use Rattle.sh_map.specs.Book.{AnswersRange}
-use Rattle.sh_map.specs.Rows.{RowHasPoint}
-use Rattle.sh_map.proofs.RangeLemmas.{is_rising}
-use Rattle.sh_map.proofs.PointLemmas.{range_decides}
+use Rattle.sh_map.{specs.{declared.book.Row.{Row}, Book.{AnswersRange}, Rows.{RowHasPoint}}, proofs.{RangeLemmas.{is_rising}, PointLemmas.{range_decides}}}
 use Rattle.sh_map.proofs.ranges.answers_rows.Goals as goal
 
 pub have_points-requires-clause-rising : goal.have_points-requires-clause-rising

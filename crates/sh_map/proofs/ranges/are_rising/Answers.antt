@@ -1,10 +1,6 @@
-use Rattle.std.proofs.Common.{◌<◌, arith, subst, ap, refl}
-use Rattle.std.specs.Prelude.{AllPairs}
-use Rattle.std.proofs.lemmas.List.{take_all}
-use Rattle.sh_map.specs.declared.book.Row.{Row}
-use Rattle.sh_map.proofs.RangeLemmas.{rising_more}
+use Rattle.std.{proofs.{Common.{◌<◌, arith, subst, ap, refl}, lemmas.List.{take_all}}, specs.Prelude.{AllPairs}}
+use Rattle.sh_map.{specs.declared.book.Row.{Row}, proofs.{RangeLemmas.{rising_more}, ranges.are_rising.Goals.{else-at-gt0-via-then-at-gt0+else-row-rows, else-at-gt0-via-else-at-gt0}}}
 use Rattle.sh_map.proofs.ranges.are_rising.Goals as goal
-use Rattle.sh_map.proofs.ranges.are_rising.Goals.{else-at-gt0-via-then-at-gt0+else-row-rows, else-at-gt0-via-else-at-gt0}
 
 pub loop-at-preserved : goal.loop-at-preserved
 loop-at-preserved c =

@@ -1,5 +1,4 @@
-use Rattle.std.proofs.Common.{◌<◌, take}
-use Rattle.std.specs.Prelude.{AllPairs}
+use Rattle.std.{proofs.Common.{◌<◌, take}, specs.Prelude.{AllPairs}}
 use Rattle.sh_map.proofs.ranges.are_rising.Given as goal
 
 abbrev pub invariant-loop-at : goal.invariant-loop-at

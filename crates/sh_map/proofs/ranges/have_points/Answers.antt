@@ -1,7 +1,5 @@
-use Rattle.std.proofs.Common.{subst, List, ℕ, ◌↔◌}
-use Rattle.std.specs.Prelude.{IsTrue, All}
-use Rattle.sh_map.specs.Tables.{IsGivenValue}
-use Rattle.sh_map.proofs.PointLemmas.{points_decide}
+use Rattle.std.{proofs.Common.{subst, List, ℕ, ◌↔◌}, specs.Prelude.{IsTrue, All}}
+use Rattle.sh_map.{specs.Tables.{IsGivenValue}, proofs.PointLemmas.{points_decide}}
 use Rattle.sh_map.proofs.ranges.have_points.Goals as goal
 
 pub returns : goal.returns

@@ -1,10 +1,6 @@
-use Rattle.std.proofs.Common.{subst, sym, ap, ◌∙◌, ◌+◌, take}
-use Rattle.std.proofs.lemmas.Bool.{false≢true}
-use Rattle.std.proofs.lemmas.List.{take_all}
-use Rattle.sh_map.specs.Tables.{AreMet, given_value}
-use Rattle.sh_map.proofs.RangeLemmas.{met_none, met_more, met_same}
+use Rattle.std.proofs.{Common.{subst, sym, ap, ◌∙◌, ◌+◌, take}, lemmas.{Bool.{false≢true}, List.{take_all}}}
+use Rattle.sh_map.{specs.Tables.{AreMet, given_value}, proofs.{RangeLemmas.{met_none, met_more, met_same}, ranges.keys_met.Goals.{then-same+in_ok-insert, else-same}}}
 use Rattle.sh_map.proofs.ranges.keys_met.Goals as goal
-use Rattle.sh_map.proofs.ranges.keys_met.Goals.{then-same+in_ok-insert, else-same}
 
 pub loop-entry-init : goal.loop-entry-init
 loop-entry-init c = met_none c.args.rows.now _ c.new-met.ensures.empty

@@ -1,10 +1,5 @@
-use Rattle.std.proofs.Common.{◌≡◌, ◌⊎◌, Some, sym, subst, ◌<◌, length, get_or, ℕ, List, arith}
-use Rattle.std.specs.Prelude.{All, Any, slice_get}
-use Rattle.std.proofs.lemmas.List.{get_or_default, take_all}
-use Rattle.sh_map.specs.declared.book.Done.{Done}
-use Rattle.sh_map.specs.declared.sweep.Due.{Due}
-use Rattle.sh_map.specs.Judge.{AsksNothing}
-use Rattle.sh_map.proofs.SweepLemmas.{AreSwept, swept_none, swept_more, swept_all}
+use Rattle.std.{proofs.{Common.{◌≡◌, ◌⊎◌, Some, sym, subst, ◌<◌, length, get_or, ℕ, List, arith}, lemmas.List.{get_or_default, take_all}}, specs.Prelude.{All, Any, slice_get}}
+use Rattle.sh_map.{specs.{declared.{book.Done.{Done}, sweep.Due.{Due}}, Judge.{AsksNothing}}, proofs.SweepLemmas.{AreSwept, swept_none, swept_more, swept_all}}
 use Rattle.sh_map.proofs.sweep.are_right.Goals as goal
 
 pub loop-one-init : goal.loop-one-init

@@ -1,6 +1,5 @@
 use Rattle.std.proofs.Common.{◌≡◌, ◌≤◌, length, take}
-use Rattle.sh_map.specs.Log.{map_at}
-use Rattle.sh_map.proofs.SweepLemmas.{AreSwept}
+use Rattle.sh_map.{specs.Log.{map_at}, proofs.SweepLemmas.{AreSwept}}
 use Rattle.sh_map.proofs.sweep.are_right.Given as goal
 
 -- those so far were judged rightly, and the map is that of where the sweep stands

@@ -1,10 +1,6 @@
-use Rattle.std.proofs.Common.{refl, sym, subst, arith, ◌+◌, ◌-◌, ◌≤◌, length, take, List}
-use Rattle.std.proofs.lemmas.List.{take_all}
-use Rattle.std.specs.Vec.{vec_capacity, vec_len}
-use Rattle.sh_map.specs.declared.book.Done.{Done}
-use Rattle.sh_map.proofs.SweepLemmas.{AreDue, due_none, due_more, due_kept, due_sorted}
+use Rattle.std.{proofs.{Common.{refl, sym, subst, arith, ◌+◌, ◌-◌, ◌≤◌, length, take, List}, lemmas.List.{take_all}}, specs.Vec.{vec_capacity, vec_len}}
+use Rattle.sh_map.{specs.declared.book.Done.{Done}, proofs.{SweepLemmas.{AreDue, due_none, due_more, due_kept, due_sorted}, sweep.by_points.Goals.{then-is_asked, else-is_asked}}}
 use Rattle.sh_map.proofs.sweep.by_points.Goals as goal
-use Rattle.sh_map.proofs.sweep.by_points.Goals.{then-is_asked, else-is_asked}
 
 pub loop-place-init : goal.loop-place-init
 loop-place-init c = (due_none c.args.part _ c.in_ok-due.ensures.items, omega (arith, c.in_ok-due.ensures.len, c.in_ok-due.ensures.capacity))

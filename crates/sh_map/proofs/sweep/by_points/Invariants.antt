@@ -1,5 +1,4 @@
-use Rattle.std.proofs.Common.{◌+◌, ◌-◌, ◌≤◌, length, take}
-use Rattle.std.specs.Vec.{vec_capacity, vec_len}
+use Rattle.std.{proofs.Common.{◌+◌, ◌-◌, ◌≤◌, length, take}, specs.Vec.{vec_capacity, vec_len}}
 use Rattle.sh_map.proofs.SweepLemmas.{AreDue}
 use Rattle.sh_map.proofs.sweep.by_points.Given as goal
 

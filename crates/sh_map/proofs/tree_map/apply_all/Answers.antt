@@ -1,6 +1,5 @@
 use Rattle.std.proofs.Common.{ap, sym, ◌∙◌}
-use Rattle.sh_map.specs.Log.{changed}
-use Rattle.sh_map.proofs.LogLemmas.{map_from_more}
+use Rattle.sh_map.{specs.Log.{changed}, proofs.LogLemmas.{map_from_more}}
 use Rattle.sh_map.proofs.tree_map.apply_all.Goals as goal
 
 pub loop-entry-preserved : goal.loop-entry-preserved

@@ -1,6 +1,5 @@
 use Rattle.std.proofs.Common.{ap, ◌∙◌, ◌-◌, take, drop}
-use Rattle.sh_map.specs.Log.{map_from}
-use Rattle.sh_map.proofs.LogLemmas.{map_at_on, ok_weaker}
+use Rattle.sh_map.{specs.Log.{map_from}, proofs.LogLemmas.{map_at_on, ok_weaker}}
 use Rattle.sh_map.proofs.tree_map.move_to.Goals as goal
 
 pub returns : goal.returns

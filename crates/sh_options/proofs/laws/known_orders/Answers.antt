@@ -1,8 +1,6 @@
 use Rattle.std.proofs.Common.{refl}
-use Rattle.sh_base.specs.Faults.{first_outside, outside}
-use Rattle.sh_base.specs.Setting.{entry_size, node_size, pool_words}
-use Rattle.sh_options.specs.Order.{order_of}
-use Rattle.sh_options.specs.Uses.{uses_from}
+use Rattle.sh_base.specs.{Faults.{first_outside, outside}, Setting.{entry_size, node_size, pool_words}}
+use Rattle.sh_options.specs.{Order.{order_of}, Uses.{uses_from}}
 use Rattle.sh_options.proofs.laws.known_orders.Goals as goal
 
 pub returns : goal.returns

@@ -1,7 +1,6 @@
 use Rattle.std.proofs.Common.{refl, ap}
 use Rattle.sh_sheet.specs.declared.item.Mode.TheVariants.{Replay}
-use Rattle.sh_options.specs.Order.{names_for}
-use Rattle.sh_options.specs.Uses.{after_word, said_of, uses_from}
+use Rattle.sh_options.specs.{Order.{names_for}, Uses.{after_word, said_of, uses_from}}
 use Rattle.sh_options.proofs.laws.known_uses.Goals as goal
 
 pub returns : goal.returns

@@ -1,8 +1,6 @@
-use Rattle.std.proofs.Common.{codes, refl, ap, ◌∙◌, true}
-use Rattle.std.specs.Prelude.{option_and_then}
+use Rattle.std.{proofs.Common.{codes, refl, ap, ◌∙◌, true}, specs.Prelude.{option_and_then}}
 use Rattle.sh_sheet.specs.Number.{number_of}
-use Rattle.sh_options.specs.Uses.{has_use}
-use Rattle.sh_options.proofs.OrderLemmas.{given_is}
+use Rattle.sh_options.{specs.Uses.{has_use}, proofs.OrderLemmas.{given_is}}
 use Rattle.sh_options.proofs.order.read_given.Goals as goal
 
 pub returns : goal.returns

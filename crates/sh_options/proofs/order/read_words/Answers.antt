@@ -1,7 +1,5 @@
-use Rattle.std.proofs.Common.{◌≡◌, ◌∙◌, map, ap, Err}
-use Rattle.std.proofs.lemmas.Result.{err_from_is_err_and}
-use Rattle.sh_options.specs.declared.order.WordFault.TheVariants.{Usage}
-use Rattle.sh_options.proofs.OrderLemmas.{names_are, no_order, order_is}
+use Rattle.std.proofs.{Common.{◌≡◌, ◌∙◌, map, ap, Err}, lemmas.Result.{err_from_is_err_and}}
+use Rattle.sh_options.{specs.declared.order.WordFault.TheVariants.{Usage}, proofs.OrderLemmas.{names_are, no_order, order_is}}
 use Rattle.sh_options.proofs.order.read_words.Goals as goal
 
 pub returns-in_err-matches-clause-usage : goal.returns-in_err-matches-clause-usage

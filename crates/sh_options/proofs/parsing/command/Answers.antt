@@ -1,6 +1,5 @@
 use Rattle.std.proofs.Common.{rules, [], map}
-use Rattle.sh_options.specs.Command.{app_with, flag_rule, option_rule}
-use Rattle.sh_options.proofs.Chain.{rule_added}
+use Rattle.sh_options.{specs.Command.{app_with, flag_rule, option_rule}, proofs.Chain.{rule_added}}
 use Rattle.sh_options.proofs.parsing.command.Goals as goal
 
 pub loop-name-init : goal.loop-name-init

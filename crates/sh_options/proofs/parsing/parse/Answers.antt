@@ -1,7 +1,5 @@
 use Rattle.std.proofs.Common.{map, sym, ◌≡◌, ◌∙◌}
-use Rattle.sh_options.specs.declared.order.WordFault.TheVariants.{Usage}
-use Rattle.sh_options.specs.Holds.{names_of}
-use Rattle.sh_options.proofs.Parsed.{end_told, holds_at, refused_at}
+use Rattle.sh_options.{specs.{declared.order.WordFault.TheVariants.{Usage}, Holds.{names_of}}, proofs.Parsed.{end_told, holds_at, refused_at}}
 use Rattle.sh_options.proofs.parsing.parse.Goals as goal
 
 pub returns-then-ends_options-clause-usage : goal.returns-then-ends_options-clause-usage

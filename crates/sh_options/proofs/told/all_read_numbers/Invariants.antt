@@ -1,6 +1,4 @@
-use Rattle.std.proofs.Common.{◌≡◌, map, drop, true}
-use Rattle.std.specs.List.{list_all}
-use Rattle.std.specs.Option.{option_map_or}
+use Rattle.std.{proofs.Common.{◌≡◌, map, drop, true}, specs.{List.{list_all}, Option.{option_map_or}}}
 use Rattle.clap.specs.Words.{first_value, found_of}
 use Rattle.sh_sheet.specs.Number.{is_number}
 use Rattle.sh_options.proofs.told.all_read_numbers.Given as goal

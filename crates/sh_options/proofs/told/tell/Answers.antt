@@ -1,6 +1,5 @@
 use Rattle.std.proofs.Common.{map}
-use Rattle.sh_options.specs.Holds.{names_of}
-use Rattle.sh_options.proofs.AllNumbers.{told_at, untold_at}
+use Rattle.sh_options.{specs.Holds.{names_of}, proofs.AllNumbers.{told_at, untold_at}}
 use Rattle.sh_options.proofs.told.tell.Goals as goal
 
 pub returns-then-all_read_numbers-clause-told : goal.returns-then-all_read_numbers-clause-told

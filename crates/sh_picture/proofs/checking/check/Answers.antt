@@ -1,8 +1,6 @@
 use Rattle.std.proofs.Common.{◌∙◌, ap, length, drop, sym, arith}
-use Rattle.sh_base.specs.Parts.{parts_of}
-use Rattle.sh_base.specs.Setting.{pool_words}
-use Rattle.sh_picture.proofs.PictureLemmas.{numbers_long}
-use Rattle.sh_picture.proofs.FaultLemmas.{lawful_of, refused_of}
+use Rattle.sh_base.specs.{Parts.{parts_of}, Setting.{pool_words}}
+use Rattle.sh_picture.proofs.{PictureLemmas.{numbers_long}, FaultLemmas.{lawful_of, refused_of}}
 use Rattle.sh_picture.proofs.checking.check.Goals as goal
 
 pub first_in_pool-requires : goal.first_in_pool-requires

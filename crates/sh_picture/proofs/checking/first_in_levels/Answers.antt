@@ -1,12 +1,7 @@
-use Rattle.std.proofs.Common.{◌≡◌, ◌∙◌, ◌-◌, ◌≤◌, ℕ, List, Vec, Global, length, map, get_or, sym, subst, arith}
-use Rattle.std.proofs.lemmas.List.{length-map}
+use Rattle.std.proofs.{Common.{◌≡◌, ◌∙◌, ◌-◌, ◌≤◌, ℕ, List, Vec, Global, length, map, get_or, sym, subst, arith}, lemmas.List.{length-map}}
 use Rattle.sh_base.specs.Parts.{parts_of}
 use Rattle.sh_tree.specs.Tree.{leaves_of}
-use Rattle.sh_picture.specs.Walk.{root_of}
-use Rattle.sh_picture.specs.Tree.{AllOnce, IsFirstTwice}
-use Rattle.sh_picture.specs.Marks.{AreLeaves}
-use Rattle.sh_picture.proofs.LookLemmas.{item_is, last_is, walked_leaves}
-use Rattle.sh_picture.proofs.TreeLemmas.{walked_tree}
+use Rattle.sh_picture.{specs.{Walk.{root_of}, Tree.{AllOnce, IsFirstTwice}, Marks.{AreLeaves}}, proofs.{LookLemmas.{item_is, last_is, walked_leaves}, TreeLemmas.{walked_tree}}}
 use Rattle.sh_picture.proofs.checking.first_in_levels.Goals as goal
 
 abbrev items : Vec ℕ Global → List ℕ

@@ -1,7 +1,6 @@
 use Rattle.std.proofs.Common.{arith}
 use Rattle.sh_base.specs.Parts.{parts_of}
-use Rattle.sh_picture.specs.Tree.{IsOnce}
-use Rattle.sh_picture.proofs.LookLemmas.{good_more, leaf_once, leaf_twice}
+use Rattle.sh_picture.{specs.Tree.{IsOnce}, proofs.LookLemmas.{good_more, leaf_once, leaf_twice}}
 use Rattle.sh_picture.proofs.keys.first_twice.Goals as goal
 
 pub returns-then-key-ne0 : goal.returns-then-key-ne0

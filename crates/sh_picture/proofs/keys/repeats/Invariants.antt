@@ -1,5 +1,4 @@
-use Rattle.std.proofs.Common.{◌≢◌, ◌<◌, ℕ}
-use Rattle.std.specs.Prelude.{slice_index}
+use Rattle.std.{proofs.Common.{◌≢◌, ◌<◌, ℕ}, specs.Prelude.{slice_index}}
 use Rattle.sh_picture.proofs.keys.repeats.Given as goal
 
 abbrev pub invariant-loop-behind : goal.invariant-loop-behind

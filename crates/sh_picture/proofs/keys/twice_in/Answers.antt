@@ -1,10 +1,7 @@
 use Rattle.std.proofs.Common.{◌≡◌, ◌∙◌, ℕ, List, ap, subst, sym}
 use Rattle.sh_base.specs.Parts.{parts_of}
-use Rattle.sh_image.specs.Entries.{keys_of}
-use Rattle.sh_image.specs.Leaf.{Leaf, Spells}
-use Rattle.sh_image.proofs.UntornLemmas.{seen_spelled}
-use Rattle.sh_tree.specs.Nodes.{leaf_at}
-use Rattle.sh_tree.proofs.HoldLemmas.{leaf_read, part_is}
+use Rattle.sh_image.{specs.{Entries.{keys_of}, Leaf.{Leaf, Spells}}, proofs.UntornLemmas.{seen_spelled}}
+use Rattle.sh_tree.{specs.Nodes.{leaf_at}, proofs.HoldLemmas.{leaf_read, part_is}}
 use Rattle.sh_picture.specs.Marks.{TwiceBy}
 use Rattle.sh_picture.proofs.keys.twice_in.Goals as goal
 

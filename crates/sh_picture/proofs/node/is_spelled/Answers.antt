@@ -1,9 +1,6 @@
 use Rattle.std.proofs.Common.{List, ℕ, refl, subst, arith}
 use Rattle.sh_base.specs.Parts.{parts_of}
-use Rattle.sh_image.specs.declared.inner.Image.TheVariants.{Leaf as LeafImage, Inner as InnerImage}
-use Rattle.sh_image.specs.Leaf.{Spells}
-use Rattle.sh_image.specs.Inner.{SpellsInner}
-use Rattle.sh_image.specs.Seen.{SeenBy}
+use Rattle.sh_image.specs.{declared.inner.Image.TheVariants.{Leaf as LeafImage, Inner as InnerImage}, Leaf.{Spells}, Inner.{SpellsInner}, Seen.{SeenBy}}
 use Rattle.sh_tree.proofs.HoldLemmas.{part_is}
 use Rattle.sh_picture.proofs.NodeLemmas.{not_seen}
 use Rattle.sh_picture.proofs.node.is_spelled.Goals as goal

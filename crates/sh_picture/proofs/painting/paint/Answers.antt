@@ -1,5 +1,4 @@
-use Rattle.std.proofs.Common.{◌≤◌, ◌∙◌, arith}
-use Rattle.std.proofs.lemmas.Result.{err_from_is_err_and}
+use Rattle.std.proofs.{Common.{◌≤◌, ◌∙◌, arith}, lemmas.Result.{err_from_is_err_and}}
 use Rattle.sh_base.specs.Parts.{parts_of}
 use Rattle.sh_picture.proofs.PaintLemmas.{front_first, front_later, piece_more}
 use Rattle.sh_picture.proofs.painting.paint.Goals as goal

@@ -1,5 +1,4 @@
-use Rattle.std.proofs.Common.{length, take, ◌-◌, ◌≤◌, ◌≡◌}
-use Rattle.std.specs.Io.KnownBytes.{Appends}
+use Rattle.std.{proofs.Common.{length, take, ◌-◌, ◌≤◌, ◌≡◌}, specs.Io.KnownBytes.{Appends}}
 use Rattle.sh_picture.specs.Picture.{picture_of}
 use Rattle.sh_picture.proofs.painting.paint.Given as goal
 

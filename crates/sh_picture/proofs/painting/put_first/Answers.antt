@@ -1,5 +1,4 @@
-use Rattle.std.proofs.Common.{◌∙◌, ◌++◌, length, drop, ap, sym, length-append, arith}
-use Rattle.std.proofs.lemmas.List.{length-take-le}
+use Rattle.std.proofs.{Common.{◌∙◌, ◌++◌, length, drop, ap, sym, length-append, arith}, lemmas.List.{length-take-le}}
 use Rattle.sh_picture.proofs.PictureLemmas.{header_long, put_behind}
 use Rattle.sh_base.specs.Parts.{parts_of}
 use Rattle.sh_picture.proofs.painting.put_first.Goals as goal

@@ -1,8 +1,6 @@
-use Rattle.std.proofs.Common.{◌∙◌, ◌++◌, length, drop, ap, length-drop, length-append, arith}
-use Rattle.std.specs.List.{flat_map}
+use Rattle.std.{proofs.Common.{◌∙◌, ◌++◌, length, drop, ap, length-drop, length-append, arith}, specs.List.{flat_map}}
 use Rattle.byteorder.specs.Endian.{big_bytes}
-use Rattle.sh_picture.specs.Picture.{header_of, numbers_of}
-use Rattle.sh_picture.proofs.PictureLemmas.{put_behind}
+use Rattle.sh_picture.{specs.Picture.{header_of, numbers_of}, proofs.PictureLemmas.{put_behind}}
 use Rattle.sh_picture.proofs.painting.write_header.Goals as goal
 
 pub returns : goal.returns

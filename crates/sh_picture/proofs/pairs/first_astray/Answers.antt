@@ -1,11 +1,6 @@
-use Rattle.std.proofs.Common.{◌≡◌, ◌∙◌, ◌-◌, ◌<◌, ℕ, suc, List, Vec, Global, length, map, sym, subst, arith}
-use Rattle.std.specs.Prelude.{slice_index}
-use Rattle.std.proofs.lemmas.List.{length-map}
-use Rattle.sh_base.specs.Parts.{parts_of}
-use Rattle.sh_base.specs.Setting.{IsNode}
-use Rattle.sh_picture.specs.Walk.{root_of}
-use Rattle.sh_picture.specs.Marks.{AreInner}
-use Rattle.sh_picture.proofs.LookLemmas.{astray_of, item_is, lead_on, walked_inner, walked_nodes}
+use Rattle.std.{proofs.{Common.{◌≡◌, ◌∙◌, ◌-◌, ◌<◌, ℕ, suc, List, Vec, Global, length, map, sym, subst, arith}, lemmas.List.{length-map}}, specs.Prelude.{slice_index}}
+use Rattle.sh_base.specs.{Parts.{parts_of}, Setting.{IsNode}}
+use Rattle.sh_picture.{specs.{Walk.{root_of}, Marks.{AreInner}}, proofs.LookLemmas.{astray_of, item_is, lead_on, walked_inner, walked_nodes}}
 use Rattle.sh_picture.proofs.pairs.first_astray.Goals as goal
 
 abbrev items : Vec ℕ Global → List ℕ

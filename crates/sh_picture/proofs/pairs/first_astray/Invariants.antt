@@ -1,7 +1,6 @@
 use Rattle.std.proofs.Common.{◌≡◌, ◌+◌, ◌<◌, ℕ, suc, length, map}
 use Rattle.sh_base.specs.Setting.{nodes}
-use Rattle.sh_picture.specs.Tree.{LevelLeads}
-use Rattle.sh_picture.specs.Marks.{AreUnder}
+use Rattle.sh_picture.specs.{Tree.{LevelLeads}, Marks.{AreUnder}}
 use Rattle.sh_picture.proofs.pairs.first_astray.Given as goal
 
 abbrev pub invariant-loop-depth : goal.invariant-loop-depth

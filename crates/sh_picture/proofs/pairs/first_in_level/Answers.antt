@@ -1,8 +1,6 @@
-use Rattle.std.proofs.Common.{ℕ, refl, arith}
-use Rattle.std.specs.Prelude.{slice_index}
+use Rattle.std.{proofs.Common.{ℕ, refl, arith}, specs.Prelude.{slice_index}}
 use Rattle.sh_base.specs.Parts.{parts_of}
-use Rattle.sh_picture.specs.Tree.{AllLeadBelow}
-use Rattle.sh_picture.proofs.LookLemmas.{good_more}
+use Rattle.sh_picture.{specs.Tree.{AllLeadBelow}, proofs.LookLemmas.{good_more}}
 use Rattle.sh_picture.proofs.pairs.first_in_level.Goals as goal
 
 pub returns-in-Some : goal.returns-in-Some

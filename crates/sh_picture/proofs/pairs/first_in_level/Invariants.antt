@@ -1,7 +1,5 @@
-use Rattle.std.proofs.Common.{ℕ, List, ◌<◌}
-use Rattle.std.specs.Prelude.{slice_index}
-use Rattle.sh_picture.specs.Tree.{AllLeadBelow}
-use Rattle.sh_picture.specs.Marks.{AreMarked}
+use Rattle.std.{proofs.Common.{ℕ, List, ◌<◌}, specs.Prelude.{slice_index}}
+use Rattle.sh_picture.specs.{Tree.{AllLeadBelow}, Marks.{AreMarked}}
 use Rattle.sh_picture.proofs.pairs.first_in_level.Given as goal
 
 abbrev pub invariant-loop-node : goal.invariant-loop-node

@@ -1,13 +1,8 @@
-use Rattle.std.proofs.Common.{◌≡◌, ◌<◌, ℕ, List, subst, sym, length, arith}
-use Rattle.std.specs.Prelude.{MatchOption}
+use Rattle.std.{proofs.Common.{◌≡◌, ◌<◌, ℕ, List, subst, sym, length, arith}, specs.Prelude.{MatchOption}}
 use Rattle.sh_base.specs.Parts.{parts_of}
-use Rattle.sh_image.specs.Inner.{Inner, SpellsInner}
-use Rattle.sh_image.proofs.InnerLemmas.{inner_spelled_one}
-use Rattle.sh_image.proofs.UntornLemmas.{seen_inner}
-use Rattle.sh_tree.specs.Nodes.{inner_at}
-use Rattle.sh_tree.proofs.HoldLemmas.{part_is}
-use Rattle.sh_picture.specs.Marks.{PairLeads}
-use Rattle.sh_picture.specs.Tree.{IsFirstBad}
+use Rattle.sh_image.{specs.Inner.{Inner, SpellsInner}, proofs.{InnerLemmas.{inner_spelled_one}, UntornLemmas.{seen_inner}}}
+use Rattle.sh_tree.{specs.Nodes.{inner_at}, proofs.HoldLemmas.{part_is}}
+use Rattle.sh_picture.specs.{Marks.{PairLeads}, Tree.{IsFirstBad}}
 use Rattle.sh_picture.proofs.pairs.first_in_node.Goals as goal
 
 pub returns-in-Inner : goal.returns-in-Inner

@@ -2,8 +2,7 @@ use Rattle.std.proofs.Common.{◌∙◌, ◌≡◌, get_or, sym, subst, true, fa
 use Rattle.sh_base.specs.Parts.{parts_of}
 use Rattle.sh_image.specs.Inner.{no_pair}
 use Rattle.sh_tree.specs.Tree.{IsChildIn}
-use Rattle.sh_picture.specs.Marks.{PairLeads}
-use Rattle.sh_picture.proofs.LookLemmas.{good_more, pair_is}
+use Rattle.sh_picture.{specs.Marks.{PairLeads}, proofs.LookLemmas.{good_more, pair_is}}
 use Rattle.sh_picture.proofs.pairs.first_of_pairs.Goals as goal
 
 pub returns-then-not-leads : goal.returns-then-not-leads

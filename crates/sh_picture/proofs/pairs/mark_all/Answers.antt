@@ -1,5 +1,4 @@
-use Rattle.std.proofs.Common.{◌∙◌, ◌<◌, get_or, length, arith}
-use Rattle.std.proofs.lemmas.List.{length-set}
+use Rattle.std.proofs.{Common.{◌∙◌, ◌<◌, get_or, length, arith}, lemmas.List.{length-set}}
 use Rattle.sh_picture.proofs.LookLemmas.{marks_step, under_more}
 use Rattle.sh_picture.proofs.pairs.mark_all.Goals as goal
 

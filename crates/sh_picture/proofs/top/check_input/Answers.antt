@@ -1,6 +1,5 @@
 use Rattle.std.proofs.Common.{subst, List, ℕ}
-use Rattle.sh_picture.specs.Verdict.{VerdictOf}
-use Rattle.sh_picture.proofs.TopLemmas.{ended_well}
+use Rattle.sh_picture.{specs.Verdict.{VerdictOf}, proofs.TopLemmas.{ended_well}}
 use Rattle.sh_picture.proofs.top.check_input.Goals as goal
 
 pub returns-in-Ok-write_verdict : goal.returns-in-Ok-write_verdict

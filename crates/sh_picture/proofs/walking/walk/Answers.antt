@@ -1,5 +1,4 @@
-use Rattle.std.proofs.Common.{◌∙◌, ◌+◌, ◌∷◌, [], ℕ, List, Vec, Global, map, sym, ap, subst, arith}
-use Rattle.std.proofs.lemmas.List.{map-append}
+use Rattle.std.proofs.{Common.{◌∙◌, ◌+◌, ◌∷◌, [], ℕ, List, Vec, Global, map, sym, ap, subst, arith}, lemmas.List.{map-append}}
 use Rattle.sh_base.specs.Parts.{parts_of}
 use Rattle.sh_picture.proofs.GoingLemmas.{IsGoing, going_more, whole_of}
 use Rattle.sh_picture.proofs.walking.walk.Goals as goal

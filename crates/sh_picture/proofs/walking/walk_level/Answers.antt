@@ -1,8 +1,6 @@
 use Rattle.std.proofs.Common.{rules}
 use Rattle.sh_base.specs.Parts.{parts_of}
-use Rattle.sh_picture.specs.Walk.{IsSound}
-use Rattle.sh_picture.proofs.NodeLemmas.{spelled_fit}
-use Rattle.sh_picture.proofs.WalkLemmas.{along_more, along_here}
+use Rattle.sh_picture.{specs.Walk.{IsSound}, proofs.{NodeLemmas.{spelled_fit}, WalkLemmas.{along_more, along_here}}}
 use Rattle.sh_picture.proofs.walking.walk_level.Goals as goal
 
 pub nodes-preserved : goal.nodes-preserved

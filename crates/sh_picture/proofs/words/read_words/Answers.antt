@@ -1,7 +1,6 @@
 use Rattle.std.proofs.Common.{arith}
 use Rattle.sh_picture.proofs.PictureLemmas.{words_are}
-use Rattle.sh_base.specs.Parts.{parts_of}
-use Rattle.sh_base.specs.Setting.{pool_words}
+use Rattle.sh_base.specs.{Parts.{parts_of}, Setting.{pool_words}}
 use Rattle.sh_picture.proofs.words.read_words.Goals as goal
 
 pub returns : goal.returns

@@ -1,5 +1,4 @@
-use Rattle.std.proofs.Common.{◌≡◌, ◌+◌, ◌++◌, take, vec_len}
-use Rattle.std.specs.Vec.{vec_capacity}
+use Rattle.std.{proofs.Common.{◌≡◌, ◌+◌, ◌++◌, take, vec_len}, specs.Vec.{vec_capacity}}
 use Rattle.sh_port.proofs.list.push_all.Given as goal
 
 abbrev pub invariant-loop-byte : goal.invariant-loop-byte

@@ -1,5 +1,4 @@
-use Rattle.std.proofs.Common.{◌+◌, ◌-◌, ◌≤◌, ◌≡◌, vec_len}
-use Rattle.std.specs.Io.KnownBytes.{Consumes}
+use Rattle.std.{proofs.Common.{◌+◌, ◌-◌, ◌≤◌, ◌≡◌, vec_len}, specs.Io.KnownBytes.{Consumes}}
 use Rattle.sh_port.proofs.loops.read_up_to.Given as goal
 
 abbrev pub invariant-reads : goal.invariant-reads

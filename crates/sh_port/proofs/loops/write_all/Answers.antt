@@ -1,6 +1,4 @@
-use Rattle.std.proofs.Common.{arith, drop, length-drop, length-take, sym, take, ◌∙◌}
-use Rattle.std.proofs.lemmas.List.{take-append-drop}
-use Rattle.std.proofs.lemmas.Result.{err_from_is_err_and}
+use Rattle.std.proofs.{Common.{arith, drop, length-drop, length-take, sym, take, ◌∙◌}, lemmas.{List.{take-append-drop}, Result.{err_from_is_err_and}}}
 use Rattle.sh_port.proofs.Bytes.{appends_keeps, appends_take}
 use Rattle.sh_port.proofs.loops.write_all.Goals as goal
 

@@ -1,5 +1,4 @@
-use Rattle.sh_read.proofs.CauseLemmas.{answered_by, image_spelled}
-use Rattle.sh_read.proofs.JudgingLemmas.{judged_by, seen_once}
+use Rattle.sh_read.proofs.{CauseLemmas.{answered_by, image_spelled}, JudgingLemmas.{judged_by, seen_once}}
 use Rattle.sh_read.proofs.laws.judged_by_causes.Goals as goal
 
 pub returns-clause-cause : goal.returns-clause-cause

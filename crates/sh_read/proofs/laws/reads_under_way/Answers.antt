@@ -1,5 +1,4 @@
-use Rattle.sh_read.specs.Reading.{StoodWith}
-use Rattle.sh_read.proofs.Read.{FitsRead-begin, stood-next, stood-load, stood-more, accepted}
+use Rattle.sh_read.{specs.Reading.{StoodWith}, proofs.Read.{FitsRead-begin, stood-next, stood-load, stood-more, accepted}}
 use Rattle.sh_read.proofs.laws.reads_under_way.Goals as goal
 
 pub returns-clause-begin : goal.returns-clause-begin

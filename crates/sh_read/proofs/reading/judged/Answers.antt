@@ -1,6 +1,5 @@
 use Rattle.std.proofs.Common.{◌∙◌}
-use Rattle.sh_read.proofs.JudgingLemmas.{judged_by, seen_once}
-use Rattle.sh_read.proofs.KeptLemmas.{found_seen}
+use Rattle.sh_read.proofs.{JudgingLemmas.{judged_by, seen_once}, KeptLemmas.{found_seen}}
 use Rattle.sh_read.proofs.reading.judged.Goals as goal
 
 pub returns-clause-progress : goal.returns-clause-progress

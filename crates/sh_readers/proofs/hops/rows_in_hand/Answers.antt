@@ -1,11 +1,8 @@
 use Rattle.std.proofs.Common.{◌≢◌, refl}
-use Rattle.sh_image.specs.declared.inner.Image.TheVariants.{Inner as InnerImage}
-use Rattle.sh_image.specs.Inner.{Inner}
+use Rattle.sh_image.specs.{declared.inner.Image.TheVariants.{Inner as InnerImage}, Inner.{Inner}}
 use Rattle.sh_state.specs.TreeState.{Seat}
-use Rattle.sh_readers.specs.Hand.{IsImageOf}
-use Rattle.sh_readers.proofs.HandLemmas.{down_named}
+use Rattle.sh_readers.{specs.Hand.{IsImageOf}, proofs.{HandLemmas.{down_named}, RowLemmas.{rows_on, own_low, row_found}}}
 use Rattle.sh_cache.proofs.RowLemmas.{kept_all, forgotten_all}
-use Rattle.sh_readers.proofs.RowLemmas.{rows_on, own_low, row_found}
 use Rattle.sh_readers.proofs.hops.rows_in_hand.Goals as goal
 
 pub returns-clause-act : goal.returns-clause-act

@@ -1,6 +1,4 @@
-use Rattle.std.proofs.Common.{◌<◌, length, arith, refl, sym, subst, ◌∙◌}
-use Rattle.std.specs.Io.KnownBytes.{Appends}
-use Rattle.std.proofs.lemmas.Option.{get_or_from_slice_get}
+use Rattle.std.{proofs.{Common.{◌<◌, length, arith, refl, sym, subst, ◌∙◌}, lemmas.Option.{get_or_from_slice_get}}, specs.Io.KnownBytes.{Appends}}
 use Rattle.sh_port.proofs.Bytes.{appends_more}
 use Rattle.sh_text.proofs.Fronts.{front_more}
 use Rattle.sh_world.specs.States.{rows_at, with_rows}

@@ -1,5 +1,4 @@
-use Rattle.std.proofs.Common.{◌≡◌, take}
-use Rattle.std.specs.Io.KnownBytes.{Appends}
+use Rattle.std.{proofs.Common.{◌≡◌, take}, specs.Io.KnownBytes.{Appends}}
 use Rattle.sh_replay.specs.Output.{lines_from}
 use Rattle.sh_replay.proofs.output.write_given_calls.Given as goal
 

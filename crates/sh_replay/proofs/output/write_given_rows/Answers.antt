@@ -1,5 +1,4 @@
-use Rattle.std.proofs.Common.{◌∙◌, subst, sym}
-use Rattle.std.specs.Io.KnownBytes.{Appends}
+use Rattle.std.{proofs.Common.{◌∙◌, subst, sym}, specs.Io.KnownBytes.{Appends}}
 use Rattle.sh_port.proofs.Bytes.{appends_more}
 use Rattle.sh_text.proofs.Fronts.{front_more}
 use Rattle.sh_world.specs.States.{rows_at}

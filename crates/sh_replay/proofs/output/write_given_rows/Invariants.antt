@@ -1,6 +1,4 @@
-use Rattle.std.proofs.Common.{◌≡◌, take}
-use Rattle.std.specs.List.{flat_map}
-use Rattle.std.specs.Io.KnownBytes.{Appends}
+use Rattle.std.{proofs.Common.{◌≡◌, take}, specs.{List.{flat_map}, Io.KnownBytes.{Appends}}}
 use Rattle.sh_text.specs.Text.{row_line}
 use Rattle.sh_world.specs.States.{rows_at}
 use Rattle.sh_replay.proofs.output.write_given_rows.Given as goal

@@ -1,6 +1,5 @@
-use Rattle.sh_replay.specs.Output.{text_of}
+use Rattle.sh_replay.{specs.Output.{text_of}, proofs.OutputLemmas.{front_of_first}}
 use Rattle.sh_text.proofs.Fronts.{front_behind}
-use Rattle.sh_replay.proofs.OutputLemmas.{front_of_first}
 use Rattle.sh_replay.proofs.output.write_lines.Goals as goal
 
 pub returns-in-Ok-clause-err : goal.returns-in-Ok-clause-err

@@ -1,11 +1,7 @@
-use Rattle.std.proofs.Common.{◌∙◌, refl, ap, subst}
+use Rattle.std.{proofs.Common.{◌∙◌, refl, ap, subst}, specs.Io.KnownBytes.{Appends}}
 use Rattle.sh_base.specs.Parts.{parts_of}
-use Rattle.sh_replay.specs.Serving.{first_unserved}
+use Rattle.sh_replay.{specs.{Serving.{first_unserved}, Output.{text_of}}, proofs.{ReplayLemmas.{ended_unwritten, ended_well, served_of}, ServingLemmas.{servable_all}}}
 use Rattle.sh_options.specs.Order.{asked_of}
-use Rattle.sh_replay.specs.Output.{text_of}
-use Rattle.sh_replay.proofs.ReplayLemmas.{ended_unwritten, ended_well, served_of}
-use Rattle.sh_replay.proofs.ServingLemmas.{servable_all}
-use Rattle.std.specs.Io.KnownBytes.{Appends}
 use Rattle.sh_port.specs.Port.{AppendsFront}
 use Rattle.sh_replay.proofs.replay.replay.Goals as goal
 

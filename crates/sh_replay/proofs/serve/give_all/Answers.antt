@@ -1,8 +1,6 @@
 use Rattle.std.proofs.Common.{length, take, sym, ap, subst, ◌∙◌, arith}
 use Rattle.sh_map.specs.Calls.{IsInRange}
-use Rattle.sh_replay.specs.Course.{given_by}
-use Rattle.sh_replay.proofs.ItemLemmas.{few_given, given_seats, given_setting, item_more, no_call, served_at}
-use Rattle.sh_replay.proofs.serve.give_all.Goals.{in-Ask+in_ok-give, in_default}
+use Rattle.sh_replay.{specs.Course.{given_by}, proofs.{ItemLemmas.{few_given, given_seats, given_setting, item_more, no_call, served_at}, serve.give_all.Goals.{in-Ask+in_ok-give, in_default}}}
 use Rattle.sh_replay.proofs.serve.give_all.Goals as goal
 
 pub give-requires-clause-seat : goal.give-requires-clause-seat

@@ -1,5 +1,4 @@
-use Rattle.std.proofs.Common.{◌≡◌, take}
-use Rattle.std.specs.List.{fold}
+use Rattle.std.{proofs.Common.{◌≡◌, take}, specs.List.{fold}}
 use Rattle.sh_replay.specs.Course.{given_by}
 use Rattle.sh_replay.proofs.serve.give_all.Given as goal
 

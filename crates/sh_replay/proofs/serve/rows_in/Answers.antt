@@ -1,6 +1,5 @@
 use Rattle.std.proofs.Common.{subst}
-use Rattle.sh_replay.specs.Served.{HasEnded}
-use Rattle.sh_replay.proofs.ServeLemmas.{rows_of_words}
+use Rattle.sh_replay.{specs.Served.{HasEnded}, proofs.ServeLemmas.{rows_of_words}}
 use Rattle.sh_replay.proofs.serve.rows_in.Goals as goal
 
 pub returns-in-Done : goal.returns-in-Done

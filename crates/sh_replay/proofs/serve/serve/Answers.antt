@@ -1,6 +1,5 @@
 use Rattle.std.proofs.Common.{length, ap, ◌∙◌, arith}
-use Rattle.sh_replay.proofs.ItemLemmas.{turned_seats}
-use Rattle.sh_replay.proofs.ServeLemmas.{after_laid, given_count, given_laid, has_served, rounds_end, rounds_last, rows_taken}
+use Rattle.sh_replay.proofs.{ItemLemmas.{turned_seats}, ServeLemmas.{after_laid, given_count, given_laid, has_served, rounds_end, rounds_last, rows_taken}}
 use Rattle.sh_replay.proofs.serve.serve.Goals as goal
 
 pub budget_of-budget-requires : goal.budget_of-budget-requires

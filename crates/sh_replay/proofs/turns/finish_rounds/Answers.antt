@@ -1,7 +1,5 @@
 use Rattle.std.proofs.Common.{length, sym, ap, ◌∙◌, arith}
-use Rattle.sh_replay.specs.Course.{have_ended, Rounds}
-use Rattle.sh_replay.proofs.EndLemmas.{none_left}
-use Rattle.sh_replay.proofs.RoundLemmas.{last_seats}
+use Rattle.sh_replay.{specs.Course.{have_ended, Rounds}, proofs.{EndLemmas.{none_left}, RoundLemmas.{last_seats}}}
 use Rattle.sh_replay.proofs.turns.finish_rounds.Goals as goal
 
 pub keeps_the_laws-requires-2 : goal.keeps_the_laws-requires-2

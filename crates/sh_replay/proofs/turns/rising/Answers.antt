@@ -1,5 +1,4 @@
-use Rattle.std.proofs.Common.{◌∙◌, arith}
-use Rattle.std.proofs.lemmas.List.{length-set}
+use Rattle.std.proofs.{Common.{◌∙◌, arith}, lemmas.List.{length-set}}
 use Rattle.sh_replay.proofs.RoundLemmas.{rising_more}
 use Rattle.sh_replay.proofs.turns.rising.Goals as goal
 

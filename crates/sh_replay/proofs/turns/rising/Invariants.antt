@@ -1,5 +1,4 @@
-use Rattle.std.proofs.Common.{◌≡◌, length, take}
-use Rattle.std.specs.List.{range_with_len}
+use Rattle.std.{proofs.Common.{◌≡◌, length, take}, specs.List.{range_with_len}}
 use Rattle.sh_replay.proofs.turns.rising.Given as goal
 
 abbrev pub invariant-loop-seat : goal.invariant-loop-seat

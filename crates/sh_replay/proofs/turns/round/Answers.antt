@@ -1,6 +1,5 @@
 use Rattle.std.proofs.Common.{sym, ◌∙◌, ◌<◌, length, refl, arith, rules}
-use Rattle.sh_replay.proofs.RoundLemmas.{ended, next_below, round_idle, round_spent, round_turn, so_far_at}
-use Rattle.sh_replay.proofs.turns.round.Goals.{in-Idle, in_default}
+use Rattle.sh_replay.proofs.{RoundLemmas.{ended, next_below, round_idle, round_spent, round_turn, so_far_at}, turns.round.Goals.{in-Idle, in_default}}
 use Rattle.sh_replay.proofs.turns.round.Goals as goal
 
 pub loop-i-init : goal.loop-i-init

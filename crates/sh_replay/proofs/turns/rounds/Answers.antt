@@ -1,7 +1,5 @@
-use Rattle.std.proofs.Common.{refl, sym, subst, arith, take}
-use Rattle.std.specs.List.{range_with_len}
-use Rattle.sh_replay.specs.Thinning.{Thins}
-use Rattle.sh_replay.proofs.RoundLemmas.{rounds_idle, rounds_over, rounds_spent, rounds_step, seats_below, thins_all}
+use Rattle.std.{proofs.Common.{refl, sym, subst, arith, take}, specs.List.{range_with_len}}
+use Rattle.sh_replay.{specs.Thinning.{Thins}, proofs.RoundLemmas.{rounds_idle, rounds_over, rounds_spent, rounds_step, seats_below, thins_all}}
 use Rattle.sh_replay.proofs.turns.rounds.Goals as goal
 
 pub loop-turns-init : goal.loop-turns-init

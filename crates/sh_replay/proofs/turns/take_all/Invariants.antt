@@ -1,5 +1,4 @@
-use Rattle.std.proofs.Common.{◌≡◌, take}
-use Rattle.std.specs.List.{fold}
+use Rattle.std.{proofs.Common.{◌≡◌, take}, specs.List.{fold}}
 use Rattle.sh_replay.specs.TurnRows.{made_by}
 use Rattle.sh_replay.proofs.turns.take_all.Given as goal
 

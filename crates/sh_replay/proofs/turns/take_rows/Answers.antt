@@ -1,7 +1,5 @@
 use Rattle.std.proofs.Common.{sym, ap, ◌∙◌}
-use Rattle.sh_replay.specs.Course.{turned_by}
-use Rattle.sh_replay.proofs.ItemLemmas.{item_more, no_turns}
-use Rattle.sh_replay.proofs.turns.take_rows.Goals.{in-Turn, in_default}
+use Rattle.sh_replay.{specs.Course.{turned_by}, proofs.{ItemLemmas.{item_more, no_turns}, turns.take_rows.Goals.{in-Turn, in_default}}}
 use Rattle.sh_replay.proofs.turns.take_rows.Goals as goal
 
 pub loop-item-preserved : goal.loop-item-preserved

@@ -1,9 +1,6 @@
-use Rattle.std.proofs.Common.{◌≡◌, ◌+◌, ◌-◌, length, sym, ap, ◌∙◌, arith}
-use Rattle.std.proofs.lemmas.Option.{slice_get_past}
-use Rattle.sh_world.specs.Turning.{is_idle_at}
-use Rattle.sh_replay.specs.Course.{turns_by}
-use Rattle.sh_world.proofs.LawLemmas.{turn_idle}
-use Rattle.sh_replay.proofs.TurnLemmas.{turn_seats, turns_idle, turns_more}
+use Rattle.std.proofs.{Common.{◌≡◌, ◌+◌, ◌-◌, length, sym, ap, ◌∙◌, arith}, lemmas.Option.{slice_get_past}}
+use Rattle.sh_world.{specs.Turning.{is_idle_at}, proofs.LawLemmas.{turn_idle}}
+use Rattle.sh_replay.{specs.Course.{turns_by}, proofs.TurnLemmas.{turn_seats, turns_idle, turns_more}}
 use Rattle.sh_replay.proofs.turns.take_turns.Goals as goal
 
 pub returns-then-seat-seats : goal.returns-then-seat-seats

@@ -1,8 +1,5 @@
 use Rattle.std.proofs.Common.{◌++◌, ◌∙◌, ◌∷◌, [], Global, Vec, ap, sym}
-use Rattle.sh_replay.specs.declared.turns.TurnRow.{TurnRow}
-use Rattle.sh_replay.specs.TurnRows.{turn_rows}
-use Rattle.sh_replay.proofs.ItemLemmas.{no_row, rows_more}
-use Rattle.sh_replay.proofs.turns.turn_rows.Goals.{in-Turn+in_ok-push, in_default}
+use Rattle.sh_replay.{specs.{declared.turns.TurnRow.{TurnRow}, TurnRows.{turn_rows}}, proofs.{ItemLemmas.{no_row, rows_more}, turns.turn_rows.Goals.{in-Turn+in_ok-push, in_default}}}
 use Rattle.sh_replay.proofs.turns.turn_rows.Goals as goal
 
 pub loop-item-preserved : goal.loop-item-preserved

@@ -1,6 +1,5 @@
 use Rattle.std.proofs.Common.{◌∙◌, arith, ap, sym}
-use Rattle.sh_sheet.specs.Generate.{next_number}
-use Rattle.sh_sheet.proofs.MadeLemmas.{made_more, number_first, number_more}
+use Rattle.sh_sheet.{specs.Generate.{next_number}, proofs.MadeLemmas.{made_more, number_first, number_more}}
 use Rattle.sh_sheet.proofs.made.made_items.Goals as goal
 
 pub loop-place-init : goal.loop-place-init

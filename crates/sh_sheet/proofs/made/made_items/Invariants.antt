@@ -1,6 +1,4 @@
-use Rattle.std.proofs.Common.{◌≡◌, ◌≤◌, ◌+◌, ◌-◌, map, vec_len}
-use Rattle.std.specs.List.{range_with_len}
-use Rattle.std.specs.Vec.{vec_capacity}
+use Rattle.std.{proofs.Common.{◌≡◌, ◌≤◌, ◌+◌, ◌-◌, map, vec_len}, specs.{List.{range_with_len}, Vec.{vec_capacity}}}
 use Rattle.sh_base.specs.Parts.{parts_of}
 use Rattle.sh_sheet.specs.Generate.{made_item, drawn_number}
 use Rattle.sh_sheet.proofs.made.made_items.Given as goal

@@ -1,5 +1,4 @@
-use Rattle.std.proofs.Common.{arith, refl, ◌+◌, ◌∙◌}
-use Rattle.std.proofs.lemmas.List.{length-set}
+use Rattle.std.proofs.{Common.{arith, refl, ◌+◌, ◌∙◌}, lemmas.List.{length-set}}
 use Rattle.sh_sheet.proofs.MadeLemmas.{words_more}
 use Rattle.sh_sheet.proofs.made.value_from.Goals as goal
 

@@ -1,5 +1,4 @@
-use Rattle.std.proofs.Common.{◌≡◌, length, take}
-use Rattle.std.specs.List.{range_with_len}
+use Rattle.std.{proofs.Common.{◌≡◌, length, take}, specs.List.{range_with_len}}
 use Rattle.sh_sheet.proofs.made.value_from.Given as goal
 
 abbrev pub invariant-loop-place : goal.invariant-loop-place

@@ -1,8 +1,6 @@
 use Rattle.std.proofs.Common.{◌+◌, ◌-◌, ◌*◌, ◌∙◌, ap, arith, drop, get_or}
-use Rattle.std.proofs.lemmas.Bool.Decides.{nat_tests}
-use Rattle.std.proofs.lemmas.List.{drop_all}
-use Rattle.sh_sheet.specs.Number.{are_digits, value_from}
-use Rattle.sh_sheet.proofs.Digits.{value_from-ge, value_from_more, number_of_large, number_of_digits}
+use Rattle.std.proofs.lemmas.{Bool.Decides.{nat_tests}, List.{drop_all}}
+use Rattle.sh_sheet.{specs.Number.{are_digits, value_from}, proofs.Digits.{value_from-ge, value_from_more, number_of_large, number_of_digits}}
 use Rattle.sh_sheet.proofs.number.parse_number.Goals as goal
 
 pub returns-in_err-checked_mul : goal.returns-in_err-checked_mul

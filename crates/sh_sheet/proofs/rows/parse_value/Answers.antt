@@ -1,5 +1,4 @@
-use Rattle.std.proofs.Common.{arith, ◌∙◌}
-use Rattle.std.proofs.lemmas.List.{length-set, take_more_set}
+use Rattle.std.proofs.{Common.{arith, ◌∙◌}, lemmas.List.{length-set, take_more_set}}
 use Rattle.sh_sheet.proofs.ColonParts.{cut_more, too_many_parts}
 use Rattle.sh_sheet.proofs.rows.parse_value.Goals as goal
 

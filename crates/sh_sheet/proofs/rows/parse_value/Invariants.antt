@@ -1,6 +1,5 @@
 use Rattle.std.proofs.Common.{◌≡◌, ◌≤◌, ◌-◌, length, take, option_map}
-use Rattle.sh_sheet.specs.Parts.{parts_behind}
-use Rattle.sh_sheet.proofs.ColonParts.{IsCut}
+use Rattle.sh_sheet.{specs.Parts.{parts_behind}, proofs.ColonParts.{IsCut}}
 use Rattle.sh_sheet.proofs.rows.parse_value.Given as goal
 
 abbrev pub invariant-parts : goal.invariant-parts

@@ -1,8 +1,7 @@
 use Rattle.std.proofs.Common.{◌∙◌, [], refl, inr}
 use Rattle.csv.specs.Reading.{strip_bom}
 use Rattle.sh_base.specs.Parts.{parts_of}
-use Rattle.sh_sheet.specs.Records.{records_in}
-use Rattle.sh_sheet.proofs.RowSteps.{fault_kept, taking_more, taking_stops, taking_ends}
+use Rattle.sh_sheet.{specs.Records.{records_in}, proofs.RowSteps.{fault_kept, taking_more, taking_stops, taking_ends}}
 use Rattle.sh_sheet.proofs.sheet.read_rows.Goals as goal
 
 pub loop-read-init : goal.loop-read-init

@@ -1,7 +1,6 @@
 use Rattle.std.proofs.Common.{Bor, List, ℕ, Some}
 use Rattle.sh_base.specs.Parts.{parts_of}
-use Rattle.sh_sheet.specs.Reader.{HasMarks}
-use Rattle.sh_sheet.proofs.RowSteps.{IsTaking}
+use Rattle.sh_sheet.{specs.Reader.{HasMarks}, proofs.RowSteps.{IsTaking}}
 use Rattle.sh_sheet.proofs.sheet.read_rows.Given as goal
 
 abbrev pub invariant-loop-read : goal.invariant-loop-read

@@ -1,6 +1,5 @@
 use Rattle.sh_base.specs.Parts.{parts_of}
-use Rattle.sh_sheet.specs.Records.{records_in}
-use Rattle.sh_sheet.proofs.Lawful.{rows_lawful}
+use Rattle.sh_sheet.{specs.Records.{records_in}, proofs.Lawful.{rows_lawful}}
 use Rattle.sh_sheet.proofs.sheet.read_sheet.Goals as goal
 
 pub returns-clause-lawful : goal.returns-clause-lawful

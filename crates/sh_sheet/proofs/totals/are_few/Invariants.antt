@@ -1,6 +1,4 @@
-use Rattle.std.proofs.Common.{◌≡◌, ◌-◌, ◌^◌, take}
-use Rattle.std.specs.Prelude.{min}
-use Rattle.std.specs.List.{sum_by}
+use Rattle.std.{proofs.Common.{◌≡◌, ◌-◌, ◌^◌, take}, specs.{Prelude.{min}, List.{sum_by}}}
 use Rattle.sh_base.specs.Parts.{parts_of}
 use Rattle.sh_sheet.specs.Sheet.{item_calls, rows_of, item_turns}
 use Rattle.sh_sheet.proofs.totals.are_few.Given as goal

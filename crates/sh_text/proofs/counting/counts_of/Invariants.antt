@@ -1,6 +1,5 @@
 use Rattle.std.proofs.Common.{◌≡◌, take}
-use Rattle.sh_text.specs.Counts.{counts_of}
-use Rattle.sh_text.proofs.CountLemmas.{AreFew}
+use Rattle.sh_text.{specs.Counts.{counts_of}, proofs.CountLemmas.{AreFew}}
 use Rattle.sh_text.proofs.counting.counts_of.Given as goal
 
 abbrev pub invariant-loop-done : goal.invariant-loop-done

@@ -1,7 +1,4 @@
-use Rattle.std.proofs.Common.{◌≡◌, ◌++◌, take}
-use Rattle.std.specs.Prelude.{codes, string_bytes}
-use Rattle.std.specs.Fmt.{decimal}
-use Rattle.std.specs.List.{flat_map}
+use Rattle.std.{proofs.Common.{◌≡◌, ◌++◌, take}, specs.{Prelude.{codes, string_bytes}, Fmt.{decimal}, List.{flat_map}}}
 use Rattle.sh_text.proofs.push.push_more_words.Given as goal
 
 abbrev pub invariant-loop-word : goal.invariant-loop-word

@@ -1,6 +1,4 @@
-use Rattle.std.proofs.Common.{◌≡◌, take}
-use Rattle.std.specs.List.{flat_map}
-use Rattle.std.specs.Io.KnownBytes.{Appends}
+use Rattle.std.{proofs.Common.{◌≡◌, take}, specs.{List.{flat_map}, Io.KnownBytes.{Appends}}}
 use Rattle.sh_text.specs.Text.{call_text}
 use Rattle.sh_text.proofs.write.write_calls.Given as goal
 

@@ -1,5 +1,4 @@
-use Rattle.sh_text.specs.Text.{map_line}
-use Rattle.sh_text.proofs.Fronts.{front_more, front_so_far, part_at, parts_at}
+use Rattle.sh_text.{specs.Text.{map_line}, proofs.Fronts.{front_more, front_so_far, part_at, parts_at}}
 use Rattle.sh_text.proofs.write.write_map.Goals as goal
 
 pub returns-in_default-clause-err : goal.returns-in_default-clause-err

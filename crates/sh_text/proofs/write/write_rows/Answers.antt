@@ -1,5 +1,4 @@
-use Rattle.sh_text.specs.Text.{row_line}
-use Rattle.sh_text.proofs.Fronts.{front_more, part_at}
+use Rattle.sh_text.{specs.Text.{row_line}, proofs.Fronts.{front_more, part_at}}
 use Rattle.sh_text.proofs.write.write_rows.Goals as goal
 
 pub returns-in-Err-clause-err : goal.returns-in-Err-clause-err

@@ -1,8 +1,6 @@
 use Rattle.std.proofs.Common.{◌∙◌, ◌*◌, ◌≤◌, ap, length, arith}
-use Rattle.std.proofs.Math.Nat.{min-le_right}
-use Rattle.std.proofs.lemmas.List.{take_all}
-use Rattle.sh_tree.specs.Tree.{children_of}
-use Rattle.sh_tree.proofs.CountLemmas.{pairs_more}
+use Rattle.std.proofs.{Math.Nat.{min-le_right}, lemmas.List.{take_all}}
+use Rattle.sh_tree.{specs.Tree.{children_of}, proofs.CountLemmas.{pairs_more}}
 use Rattle.sh_tree.proofs.count.pairs_of_level.Goals as goal
 
 pub loop-node-preserved : goal.loop-node-preserved

@@ -1,9 +1,5 @@
-use Rattle.std.proofs.Common.{◌≡◌, ◌∙◌, ◌<◌, ◌+◌, ◌-◌, [], get_or, ap, length, map, arith}
-use Rattle.std.proofs.lemmas.List.{get_or-map, length-map}
-use Rattle.sh_tree.specs.Lists.{first_of}
-use Rattle.sh_tree.specs.Tree.{children_of}
-use Rattle.sh_tree.proofs.ChainLemmas.{all_nodes, top_chain}
-use Rattle.sh_tree.proofs.CountLemmas.{left_few, left_more, level_at, level_few, all_counted}
+use Rattle.std.proofs.{Common.{◌≡◌, ◌∙◌, ◌<◌, ◌+◌, ◌-◌, [], get_or, ap, length, map, arith}, lemmas.List.{get_or-map, length-map}}
+use Rattle.sh_tree.{specs.{Lists.{first_of}, Tree.{children_of}}, proofs.{ChainLemmas.{all_nodes, top_chain}, CountLemmas.{left_few, left_more, level_at, level_few, all_counted}}}
 use Rattle.sh_base.proofs.LayoutLemmas.{nodes_small}
 use Rattle.sh_tree.proofs.count.unposted.Goals as goal
 

@@ -1,6 +1,5 @@
 use Rattle.std.proofs.Common.{◌≡◌, ◌+◌, ℕ, List, drop}
-use Rattle.sh_tree.specs.Tree.{IsTree}
-use Rattle.sh_tree.proofs.CountLemmas.{left_over}
+use Rattle.sh_tree.{specs.Tree.{IsTree}, proofs.CountLemmas.{left_over}}
 use Rattle.sh_tree.proofs.count.unposted.Given as goal
 
 abbrev pub invariant-loop-first : goal.invariant-loop-first

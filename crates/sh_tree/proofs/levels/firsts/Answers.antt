@@ -1,9 +1,6 @@
 use Rattle.std.proofs.Common.{◌≤◌, ℕ, List, length, arith}
-use Rattle.sh_base.specs.declared.config.ConfigParts.{ConfigParts}
-use Rattle.sh_base.specs.Setting.{nodes}
-use Rattle.sh_tree.specs.Tree.{IsTree}
-use Rattle.sh_tree.proofs.ChainLemmas.{few_levels, all_nodes}
-use Rattle.sh_tree.proofs.WalkLemmas.{has_root, gathered_none, gathered_more, down_none, down_more, down_all}
+use Rattle.sh_base.specs.{declared.config.ConfigParts.{ConfigParts}, Setting.{nodes}}
+use Rattle.sh_tree.{specs.Tree.{IsTree}, proofs.{ChainLemmas.{few_levels, all_nodes}, WalkLemmas.{has_root, gathered_none, gathered_more, down_none, down_more, down_all}}}
 use Rattle.sh_tree.proofs.levels.firsts.Goals as goal
 
 few : (p : ConfigParts) (words : List ℕ) (levels : List (List ℕ)) → IsTree p words levels → length levels ≤ nodes p

@@ -1,6 +1,5 @@
 use Rattle.std.proofs.Common.{ℕ, List}
-use Rattle.sh_tree.specs.Tree.{IsTree}
-use Rattle.sh_tree.proofs.WalkLemmas.{IsGathered, IsDown}
+use Rattle.sh_tree.{specs.Tree.{IsTree}, proofs.WalkLemmas.{IsGathered, IsDown}}
 use Rattle.sh_tree.proofs.levels.firsts.Given as goal
 
 abbrev pub invariant-loop : goal.invariant-loop

@@ -1,8 +1,5 @@
-use Rattle.std.proofs.Common.{◌≡◌, ◌∙◌, ◌-◌, ap, length, get_or, map, arith}
-use Rattle.std.proofs.lemmas.List.{get_or_read, length-map}
-use Rattle.sh_tree.specs.Lists.{first_of}
-use Rattle.sh_tree.specs.Tree.{leaves_of}
-use Rattle.sh_tree.proofs.ChainLemmas.{leaf_chain, few_leaves, all_nodes, first_leaf}
+use Rattle.std.proofs.{Common.{◌≡◌, ◌∙◌, ◌-◌, ap, length, get_or, map, arith}, lemmas.List.{get_or_read, length-map}}
+use Rattle.sh_tree.{specs.{Lists.{first_of}, Tree.{leaves_of}}, proofs.ChainLemmas.{leaf_chain, few_leaves, all_nodes, first_leaf}}
 use Rattle.sh_tree.proofs.levels.leaves.Goals as goal
 
 pub returns-clause-leaves : goal.returns-clause-leaves

@@ -1,7 +1,5 @@
 use Rattle.std.proofs.Common.{◌≡◌, ℕ, List}
-use Rattle.sh_tree.specs.Lists.{first_of}
-use Rattle.sh_tree.specs.Tree.{IsChain}
-use Rattle.sh_tree.proofs.WalkLemmas.{IsGathered, IsAlong}
+use Rattle.sh_tree.{specs.{Lists.{first_of}, Tree.{IsChain}}, proofs.WalkLemmas.{IsGathered, IsAlong}}
 use Rattle.sh_tree.proofs.levels.level_from.Given as goal
 
 abbrev pub invariant-loop : goal.invariant-loop

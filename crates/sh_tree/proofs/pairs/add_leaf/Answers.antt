@@ -1,9 +1,6 @@
-use Rattle.std.proofs.Common.{sym, subst, List, ℕ}
-use Rattle.std.specs.Prelude.{OnOk}
-use Rattle.sh_image.specs.Leaf.{Leaf, Spells}
-use Rattle.sh_image.proofs.UntornLemmas.{seen_spelled}
-use Rattle.sh_tree.specs.Adding.{Adds}
-use Rattle.sh_tree.proofs.HoldLemmas.{leaf_read, part_is}
+use Rattle.std.{proofs.Common.{sym, subst, List, ℕ}, specs.Prelude.{OnOk}}
+use Rattle.sh_image.{specs.Leaf.{Leaf, Spells}, proofs.UntornLemmas.{seen_spelled}}
+use Rattle.sh_tree.{specs.Adding.{Adds}, proofs.HoldLemmas.{leaf_read, part_is}}
 use Rattle.sh_tree.proofs.pairs.add_leaf.Goals as goal
 
 pub returns-in-Leaf : goal.returns-in-Leaf

@@ -1,10 +1,6 @@
-use Rattle.std.proofs.Common.{◌≡◌, ◌∙◌, get_or, subst, sym}
-use Rattle.sh_tree.specs.Nodes.{leaf_at}
-use Rattle.sh_tree.specs.Tree.{leaves_of, IsChain, IsLeafOf}
-use Rattle.std.specs.List.{AllByRecursion}
+use Rattle.std.{proofs.Common.{◌≡◌, ◌∙◌, get_or, subst, sym}, specs.List.{AllByRecursion}}
+use Rattle.sh_tree.{specs.{Nodes.{leaf_at}, Tree.{leaves_of, IsChain, IsLeafOf}}, proofs.{ChainLemmas.{leaf_chain}, HoldLemmas.{leaf_more}}}
 use Rattle.sh_logic.proofs.Lists.{all_at}
-use Rattle.sh_tree.proofs.ChainLemmas.{leaf_chain}
-use Rattle.sh_tree.proofs.HoldLemmas.{leaf_more}
 use Rattle.sh_tree.proofs.pairs.pairs_in.Goals as goal
 
 pub loop-leaf-preserved : goal.loop-leaf-preserved

@@ -1,5 +1,4 @@
-use Rattle.std.proofs.Common.{◌≡◌, ℕ, List, take}
-use Rattle.std.specs.FinMap.{from_entries}
+use Rattle.std.{proofs.Common.{◌≡◌, ℕ, List, take}, specs.FinMap.{from_entries}}
 use Rattle.sh_tree.specs.Tree.{pairs_along, IsTree}
 use Rattle.sh_tree.proofs.pairs.pairs_in.Given as goal
 

@@ -1,5 +1,4 @@
-use Rattle.std.proofs.Common.{rules, arith}
-use Rattle.std.proofs.lemmas.Slice.{drop-put_mid, overwrites}
+use Rattle.std.proofs.{Common.{rules, arith}, lemmas.Slice.{drop-put_mid, overwrites}}
 use Rattle.sh_world.proofs.columns.write_words.Goals as goal
 
 pub returns-clause-written : goal.returns-clause-written

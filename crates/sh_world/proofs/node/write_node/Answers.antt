@@ -1,8 +1,5 @@
-use Rattle.std.proofs.Common.{◌+◌, ◌<◌, length, sym, ◌∙◌, arith}
-use Rattle.std.proofs.lemmas.Grind.{same_number_lists}
-use Rattle.std.proofs.lemmas.List.{length-set}
-use Rattle.sh_base.specs.Layout.{node_word}
-use Rattle.sh_base.proofs.LayoutLemmas.{length_part, node_word_high, part_word}
+use Rattle.std.proofs.{Common.{◌+◌, ◌<◌, length, sym, ◌∙◌, arith}, lemmas.{Grind.{same_number_lists}, List.{length-set}}}
+use Rattle.sh_base.{specs.Layout.{node_word}, proofs.LayoutLemmas.{length_part, node_word_high, part_word}}
 use Rattle.sh_world.proofs.NodeLemmas.{body_of, body_is, steps_of, stored_more, others_more}
 use Rattle.sh_world.proofs.node.write_node.Goals as goal
 

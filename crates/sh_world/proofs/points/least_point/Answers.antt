@@ -1,8 +1,7 @@
 use Rattle.std.proofs.Common.{◌≡◌, ◌≢◌, arith}
 use Rattle.sh_map.specs.Log.{change_key}
-use Rattle.sh_world.proofs.PointLemmas.{ends, finds, other, passes}
+use Rattle.sh_world.proofs.{PointLemmas.{ends, finds, other, passes}, points.least_point.Goals.{then-key+else-same, else-key}}
 use Rattle.sh_world.proofs.points.least_point.Goals as goal
-use Rattle.sh_world.proofs.points.least_point.Goals.{then-key+else-same, else-key}
 
 pub returns-then-same : goal.returns-then-same
 returns-then-same c =

@@ -1,6 +1,5 @@
 use Rattle.std.proofs.Common.{◌≡◌, ◌+◌, ◌*◌, ◌≤◌, ◌++◌, take}
-use Rattle.std.specs.List.{flat_map}
-use Rattle.std.specs.Vec.{vec_len, vec_capacity}
+use Rattle.std.specs.{List.{flat_map}, Vec.{vec_len, vec_capacity}}
 use Rattle.sh_world.specs.Columns.{row_words}
 use Rattle.sh_world.proofs.rows.push_rows.Given as goal
 

@@ -1,5 +1,4 @@
-use Rattle.std.proofs.Common.{◌-◌, ap, arith}
-use Rattle.std.proofs.lemmas.Nat.{one_shl}
+use Rattle.std.proofs.{Common.{◌-◌, ap, arith}, lemmas.Nat.{one_shl}}
 use Rattle.sh_base.proofs.config.Config.last_version.Goals as goal
 
 pub returns : goal.returns

@@ -1,7 +1,5 @@
-use Rattle.std.proofs.Common.{refl, sym, ◌∙◌, ap, arith}
-use Rattle.sh_base.specs.declared.config.ConfigFault.TheVariants.{TooLarge}
-use Rattle.std.proofs.Common.{Some}
-use Rattle.sh_base.proofs.FaultLemmas.{fault_stays, ranged_from_none, size_decides}
+use Rattle.std.proofs.Common.{refl, sym, ◌∙◌, ap, arith, Some}
+use Rattle.sh_base.{specs.declared.config.ConfigFault.TheVariants.{TooLarge}, proofs.FaultLemmas.{fault_stays, ranged_from_none, size_decides}}
 use Rattle.sh_base.proofs.config.Config.new.Goals as goal
 
 pub returns-in-Some : goal.returns-in-Some

@@ -1,6 +1,5 @@
 use Rattle.std.proofs.Common.{arith}
-use Rattle.sh_base.specs.Layout.{node_word}
-use Rattle.sh_base.proofs.LayoutLemmas.{node_row_small}
+use Rattle.sh_base.{specs.Layout.{node_word}, proofs.LayoutLemmas.{node_row_small}}
 use Rattle.sh_base.proofs.config.Config.node_word.Goals as goal
 
 pub overflow_mul-result : goal.overflow_mul-result

@@ -1,6 +1,5 @@
 use Rattle.std.proofs.Common.{arith}
-use Rattle.sh_base.proofs.LayoutLemmas.{entry_high, node_size_is}
-use Rattle.sh_base.proofs.PlanLemmas.{falls_over, rises_over}
+use Rattle.sh_base.proofs.{LayoutLemmas.{entry_high, node_size_is}, PlanLemmas.{falls_over, rises_over}}
 use Rattle.sh_base.proofs.config.Config.verbs_in_order.Goals as goal
 
 pub returns-clause-read : goal.returns-clause-read

@@ -1,8 +1,6 @@
 use Rattle.std.proofs.Common.{◌≡◌, ◌<◌, length, ap, sym, subst, ◌∙◌, ◌++◌, ◌∷◌, [], arith}
 use Rattle.sh_lanes.specs.Scans.{LacksWord}
-use Rattle.sh_cache.specs.Cached.{Rows}
-use Rattle.sh_cache.specs.Columns.{lows_of, rows_in}
-use Rattle.sh_cache.proofs.ColumnLemmas.{cache_push, push_rows}
+use Rattle.sh_cache.{specs.{Cached.{Rows}, Columns.{lows_of, rows_in}}, proofs.ColumnLemmas.{cache_push, push_rows}}
 use Rattle.sh_cache.proofs.cache.Cache.add.Goals as goal
 
 less : (c : goal.After-self-1) → let i = c.self.inside in length (rows_in i.images.items i.slots.items (length i.lows.items)) < i.room

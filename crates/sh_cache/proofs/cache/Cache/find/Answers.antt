@@ -1,8 +1,5 @@
 use Rattle.std.proofs.Common.{◌≡◌, ◌∙◌, ap, sym, subst, length, Some}
-use Rattle.sh_cache.specs.Cached.{found, Rows}
-use Rattle.sh_cache.specs.Columns.{rows_in, IsFoundAt}
-use Rattle.sh_cache.proofs.FindLemmas.{found_has}
-use Rattle.sh_cache.proofs.ColumnLemmas.{image_found, HasLevel1}
+use Rattle.sh_cache.{specs.{Cached.{found, Rows}, Columns.{rows_in, IsFoundAt}}, proofs.{FindLemmas.{found_has}, ColumnLemmas.{image_found, HasLevel1}}}
 use Rattle.sh_cache.proofs.cache.Cache.find.Goals as goal
 
 here : (c : goal.After-index-2) → let i = c.self.inside in Some c.index-2.result.now ≡ found (rows_in i.images.items i.slots.items (length i.lows.items)) c.args.key

@@ -1,8 +1,6 @@
 use Rattle.std.proofs.Common.{ap, sym, subst, ◌∙◌, ◌++◌, ◌∷◌, [], ◌<◌, arith}
 use Rattle.sh_lanes.specs.Scans.{LacksWord, IsFirst}
-use Rattle.sh_cache.specs.Cached.{Rows}
-use Rattle.sh_cache.specs.Columns.{lows_of}
-use Rattle.sh_cache.proofs.RowLemmas.{kept_there, kept_new, lacks_behind}
+use Rattle.sh_cache.{specs.{Cached.{Rows}, Columns.{lows_of}}, proofs.RowLemmas.{kept_there, kept_new, lacks_behind}}
 use Rattle.sh_cache.proofs.cache.Cache.keep.Goals as goal
 
 pub add-requires-clause-other : goal.add-requires-clause-other

@@ -1,8 +1,6 @@
 use Rattle.std.proofs.Common.{ℕ, List, length, ap, ◌∙◌, arith}
 use Rattle.sh_base.specs.declared.config.ConfigParts.{ConfigParts}
-use Rattle.sh_cache.proofs.ColumnLemmas.{cache_empty}
-use Rattle.sh_cache.proofs.SlotLemmas.{no_rows}
-use Rattle.sh_cache.specs.Columns.{rows_in}
+use Rattle.sh_cache.{proofs.{ColumnLemmas.{cache_empty}, SlotLemmas.{no_rows}}, specs.Columns.{rows_in}}
 use Rattle.sh_cache.proofs.cache.Cache.new.Goals as goal
 
 pub invariant_of-result : goal.invariant_of-result

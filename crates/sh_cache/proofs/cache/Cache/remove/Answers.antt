@@ -1,7 +1,5 @@
-use Rattle.std.proofs.Common.{ap, sym, subst, ◌∙◌, ◌++◌, ◌∷◌, [], length, ◌<◌, arith}
-use Rattle.std.specs.List.{remove}
-use Rattle.sh_cache.specs.Cached.{Rows}
-use Rattle.sh_cache.proofs.ColumnLemmas.{cache_remove, remove_rows}
+use Rattle.std.{proofs.Common.{ap, sym, subst, ◌∙◌, ◌++◌, ◌∷◌, [], length, ◌<◌, arith}, specs.List.{remove}}
+use Rattle.sh_cache.{specs.Cached.{Rows}, proofs.ColumnLemmas.{cache_remove, remove_rows}}
 use Rattle.sh_cache.proofs.cache.Cache.remove.Goals as goal
 
 pub invariant_of-self : goal.invariant_of-self

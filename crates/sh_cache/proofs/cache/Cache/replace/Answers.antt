@@ -1,9 +1,6 @@
-use Rattle.std.proofs.Common.{ap, sym, subst, ◌∙◌}
-use Rattle.std.specs.Prelude.{slice_set}
+use Rattle.std.{proofs.Common.{ap, sym, subst, ◌∙◌}, specs.Prelude.{slice_set}}
 use Rattle.sh_lanes.specs.Scans.{IsFirst}
-use Rattle.sh_cache.specs.Cached.{Rows}
-use Rattle.sh_cache.specs.Columns.{lows_of}
-use Rattle.sh_cache.proofs.ColumnLemmas.{cache_set, set_rows}
+use Rattle.sh_cache.{specs.{Cached.{Rows}, Columns.{lows_of}}, proofs.ColumnLemmas.{cache_set, set_rows}}
 use Rattle.sh_cache.proofs.cache.Cache.replace.Goals as goal
 
 pub invariant_of-self : goal.invariant_of-self

@@ -2,8 +2,7 @@ use Rattle.std.proofs.Common.{◌≡◌, Some, ap, ◌∙◌, subst}
 use Rattle.sh_base.specs.declared.config.ConfigParts.{ConfigParts}
 use Rattle.sh_read.specs.Reads.{accepted}
 use Rattle.sh_decide.specs.Ways.{way_of}
-use Rattle.sh_client.specs.Machine.{Machine}
-use Rattle.sh_client.proofs.PhaseLemmas.{arrives}
+use Rattle.sh_client.{specs.Machine.{Machine}, proofs.PhaseLemmas.{arrives}}
 use Rattle.sh_client.proofs.state.Client.arrive.Goals as goal
 
 pub returns : goal.returns

@@ -2,8 +2,7 @@ use Rattle.std.proofs.Common.{◌≡◌, Some, subst}
 use Rattle.sh_base.specs.declared.config.ConfigParts.{ConfigParts}
 use Rattle.sh_read.specs.Reads.{accepted}
 use Rattle.sh_decide.specs.Deciding.{decision_of}
-use Rattle.sh_client.specs.Machine.{Machine}
-use Rattle.sh_client.proofs.PhaseLemmas.{decides}
+use Rattle.sh_client.{specs.Machine.{Machine}, proofs.PhaseLemmas.{decides}}
 use Rattle.sh_client.proofs.state.Client.decide.Goals as goal
 
 pub returns : goal.returns

@@ -1,8 +1,7 @@
 use Rattle.std.proofs.Common.{◌<◌, ◌∙◌, ap, sym, subst, arith}
 use Rattle.sh_base.specs.declared.config.ConfigParts.{ConfigParts}
 use Rattle.sh_alloc.specs.Spares.{without_lowest}
-use Rattle.sh_client.specs.Machine.{Machine}
-use Rattle.sh_client.proofs.ImageLemmas.{chunk_is_in, spare_left}
+use Rattle.sh_client.{specs.Machine.{Machine}, proofs.ImageLemmas.{chunk_is_in, spare_left}}
 use Rattle.sh_client.proofs.state.Client.fill.Goals as goal
 
 pub fill-requires-clause-low : goal.fill-requires-clause-low

@@ -1,8 +1,6 @@
 use Rattle.std.proofs.Common.{◌∙◌, ap, arith, subst}
 use Rattle.sh_base.specs.Setting.{pool_words}
-use Rattle.sh_client.specs.Machine.{Machine}
-use Rattle.sh_client.specs.Sound.{KeepsLock}
-use Rattle.sh_client.proofs.WithinLemmas.{lock_within}
+use Rattle.sh_client.{specs.{Machine.{Machine}, Sound.{KeepsLock}}, proofs.WithinLemmas.{lock_within}}
 use Rattle.sh_client.proofs.state.Client.grab_step.Goals as goal
 
 pub bounds-words-at : goal.bounds-words-at

@@ -1,10 +1,8 @@
-use Rattle.std.proofs.Common.{◌≡◌, sym, subst}
-use Rattle.std.specs.Prelude.{Some}
+use Rattle.std.{proofs.Common.{◌≡◌, sym, subst}, specs.Prelude.{Some}}
 use Rattle.sh_base.specs.Setting.{IsNode}
 use Rattle.sh_image.specs.Inner.{IsInner}
 use Rattle.sh_descend.proofs.ChildLemmas.{child_is_node}
-use Rattle.sh_cache.specs.Cached.{found}
-use Rattle.sh_cache.proofs.FindLemmas.{covers_fences, found_covers, found_has}
+use Rattle.sh_cache.{specs.Cached.{found}, proofs.FindLemmas.{covers_fences, found_covers, found_has}}
 use Rattle.sh_client.specs.Machine.{Machine}
 use Rattle.sh_client.proofs.state.Client.origin_for.Goals as goal
 

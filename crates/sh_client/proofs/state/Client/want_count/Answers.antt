@@ -1,10 +1,7 @@
 use Rattle.std.proofs.Common.{◌<◌, subst}
 use Rattle.sh_alloc.specs.Chunks.{setting_of, IsWantOf}
-use Rattle.sh_base.specs.declared.config.ConfigParts.{ConfigParts}
-use Rattle.sh_base.specs.Memory.{at_of}
-use Rattle.sh_base.specs.Setting.{pool_words}
-use Rattle.sh_client.specs.Machine.{Machine}
-use Rattle.sh_client.proofs.WithinLemmas.{counter_within}
+use Rattle.sh_base.specs.{declared.config.ConfigParts.{ConfigParts}, Memory.{at_of}, Setting.{pool_words}}
+use Rattle.sh_client.{specs.Machine.{Machine}, proofs.WithinLemmas.{counter_within}}
 use Rattle.sh_client.proofs.state.Client.want_count.Goals as goal
 
 pub returns-in-Event-clause-within : goal.returns-in-Event-clause-within

@@ -1,8 +1,6 @@
 use Rattle.std.proofs.Common.{◌∙◌, ◌<◌, subst}
-use Rattle.sh_base.specs.Memory.{at_of}
-use Rattle.sh_base.specs.Setting.{pool_words}
-use Rattle.sh_client.specs.Machine.{Machine}
-use Rattle.sh_client.proofs.WithinLemmas.{grab_within}
+use Rattle.sh_base.specs.{Memory.{at_of}, Setting.{pool_words}}
+use Rattle.sh_client.{specs.Machine.{Machine}, proofs.WithinLemmas.{grab_within}}
 use Rattle.sh_client.proofs.state.Client.want_grab.Goals as goal
 
 pub returns-clause-within : goal.returns-clause-within

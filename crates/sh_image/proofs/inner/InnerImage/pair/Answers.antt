@@ -1,9 +1,5 @@
-use Rattle.std.proofs.Common.{Some, length, ap, ◌∙◌, sym, arith}
-use Rattle.std.proofs.lemmas.Option.{slice_get-get_or}
-use Rattle.std.specs.Prelude.{slice_get}
-use Rattle.sh_image.specs.Inner.{Inner}
-use Rattle.sh_image.specs.PairColumns.{pair_at, pairs_of_columns}
-use Rattle.sh_image.proofs.PairLemmas.{length_pairs_of, get_or_pairs_of}
+use Rattle.std.{proofs.{Common.{Some, length, ap, ◌∙◌, sym, arith}, lemmas.Option.{slice_get-get_or}}, specs.Prelude.{slice_get}}
+use Rattle.sh_image.{specs.{Inner.{Inner}, PairColumns.{pair_at, pairs_of_columns}}, proofs.PairLemmas.{length_pairs_of, get_or_pairs_of}}
 use Rattle.sh_image.proofs.inner.InnerImage.pair.Goals as goal
 
 pub prove-unreachable-requires : goal.prove-unreachable-requires

@@ -1,6 +1,5 @@
 use Rattle.std.proofs.Common.{length, ap, ◌∙◌, sym}
-use Rattle.sh_image.specs.Inner.{Inner}
-use Rattle.sh_image.proofs.PairLemmas.{length_pairs_of}
+use Rattle.sh_image.{specs.Inner.{Inner}, proofs.PairLemmas.{length_pairs_of}}
 use Rattle.sh_image.proofs.inner.InnerImage.pairs.Goals as goal
 
 pub returns-clause-pairs : goal.returns-clause-pairs

@@ -1,6 +1,5 @@
 use Rattle.std.proofs.Common.{length, ap, ◌∙◌, ◌++◌, ◌∷◌, [], arith}
-use Rattle.sh_image.specs.Inner.{Inner}
-use Rattle.sh_image.proofs.PairLemmas.{length_pairs_of, pairs_of_push}
+use Rattle.sh_image.{specs.Inner.{Inner}, proofs.PairLemmas.{length_pairs_of, pairs_of_push}}
 use Rattle.sh_image.proofs.inner.InnerImage.push.Goals as goal
 
 pub prove-unreachable-requires : goal.prove-unreachable-requires

@@ -1,6 +1,5 @@
 use Rattle.std.proofs.Common.{length, ap, ◌∙◌, sym}
-use Rattle.sh_image.specs.Leaf.{Leaf}
-use Rattle.sh_image.proofs.ColumnLemmas.{length_entries_of}
+use Rattle.sh_image.{specs.Leaf.{Leaf}, proofs.ColumnLemmas.{length_entries_of}}
 use Rattle.sh_image.proofs.leaf.LeafImage.entries.Goals as goal
 
 pub returns : goal.returns

@@ -1,10 +1,5 @@
-use Rattle.std.proofs.Common.{Some, [], length, ap, ◌∙◌, sym, arith}
-use Rattle.std.proofs.lemmas.List.{get_or_default}
-use Rattle.std.proofs.lemmas.Option.{slice_get-get_or}
-use Rattle.std.specs.Prelude.{slice_get}
-use Rattle.sh_image.specs.Leaf.{Leaf}
-use Rattle.sh_image.specs.Columns.{entry_of_columns, entries_of_columns}
-use Rattle.sh_image.proofs.ColumnLemmas.{length_entries_of, get_or_entries_of}
+use Rattle.std.{proofs.{Common.{Some, [], length, ap, ◌∙◌, sym, arith}, lemmas.{List.{get_or_default}, Option.{slice_get-get_or}}}, specs.Prelude.{slice_get}}
+use Rattle.sh_image.{specs.{Leaf.{Leaf}, Columns.{entry_of_columns, entries_of_columns}}, proofs.ColumnLemmas.{length_entries_of, get_or_entries_of}}
 use Rattle.sh_image.proofs.leaf.LeafImage.entry.Goals as goal
 
 pub prove-unreachable-requires : goal.prove-unreachable-requires

@@ -1,7 +1,5 @@
 use Rattle.std.proofs.Common.{ap, ◌∙◌, sym, arith}
-use Rattle.sh_image.specs.Entries.{keys_of}
-use Rattle.sh_image.specs.Leaf.{Leaf}
-use Rattle.sh_image.proofs.ColumnLemmas.{keys_of_entries_of}
+use Rattle.sh_image.{specs.{Entries.{keys_of}, Leaf.{Leaf}}, proofs.ColumnLemmas.{keys_of_entries_of}}
 use Rattle.sh_image.proofs.leaf.LeafImage.keys.Goals as goal
 
 pub returns-clause-keys : goal.returns-clause-keys

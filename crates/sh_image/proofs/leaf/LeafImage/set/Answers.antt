@@ -1,7 +1,5 @@
-use Rattle.std.proofs.Common.{length, ap, ◌∙◌, arith}
-use Rattle.std.specs.Prelude.{slice_set}
-use Rattle.sh_image.specs.Leaf.{Leaf}
-use Rattle.sh_image.proofs.ColumnLemmas.{length_entries_of, entries_of_set}
+use Rattle.std.{proofs.Common.{length, ap, ◌∙◌, arith}, specs.Prelude.{slice_set}}
+use Rattle.sh_image.{specs.Leaf.{Leaf}, proofs.ColumnLemmas.{length_entries_of, entries_of_set}}
 use Rattle.sh_image.proofs.leaf.LeafImage.set.Goals as goal
 
 pub prove-unreachable-requires : goal.prove-unreachable-requires

@@ -1,5 +1,4 @@
-use Rattle.std.proofs.Common.{ap₂, ◌∙◌}
-use Rattle.std.specs.Prelude.{max}
+use Rattle.std.{proofs.Common.{ap₂, ◌∙◌}, specs.Prelude.{max}}
 use Rattle.sh_judge.proofs.FoundLemmas.{has_more}
 use Rattle.sh_judge.proofs.found.Found.add.Goals as goal
 

@@ -1,5 +1,4 @@
-use Rattle.std.proofs.Common.{◌≡◌, length, ◌∙◌, sym, ap}
-use Rattle.std.specs.Mem.Slots.{slots_items, slots_counts}
+use Rattle.std.{proofs.Common.{◌≡◌, length, ◌∙◌, sym, ap}, specs.Mem.Slots.{slots_items, slots_counts}}
 use Rattle.sh_local.proofs.Taking.{ends_none, ends_gathered}
 use Rattle.sh_local.proofs.queues.Queues.gather.Goals as goal
 

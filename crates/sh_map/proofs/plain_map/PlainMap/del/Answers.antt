@@ -1,10 +1,7 @@
 use Rattle.std.proofs.Common.{ap, ◌∙◌, sym, subst}
-use Rattle.sh_map.specs.Map.{get, del}
-use Rattle.sh_map.specs.Rows.{IsRowAt, IsGapFor, map_of_rows}
-use Rattle.sh_map.proofs.MapLemmas.{del_absent}
-use Rattle.sh_map.proofs.RowsLemmas.{get_found, get_missed, rising_removed, view_removed}
-use Rattle.sh_map.proofs.plain_map.PlainMap.del.Goals as goal
+use Rattle.sh_map.{specs.{Map.{get, del}, Rows.{IsRowAt, IsGapFor, map_of_rows}}, proofs.{MapLemmas.{del_absent}, RowsLemmas.{get_found, get_missed, rising_removed, view_removed}}}
 use Rattle.sh_map.proofs.plain_map.PlainMap.del.Goals.{In-Ok, In-Err}
+use Rattle.sh_map.proofs.plain_map.PlainMap.del.Goals as goal
 
 at : (c : In-Ok) → IsRowAt c.self.inside.rows.items c.args.key c.in-Ok.at
 at c = subst (λ rs. IsRowAt rs c.args.key c.in-Ok.at) c.deref.ensures.value c.in-Ok.ensures.found

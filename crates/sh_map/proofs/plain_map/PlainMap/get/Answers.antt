@@ -1,7 +1,5 @@
 use Rattle.std.proofs.Common.{ap, ◌∙◌, subst}
-use Rattle.sh_map.specs.Map.{get}
-use Rattle.sh_map.specs.Rows.{IsRowAt, IsGapFor}
-use Rattle.sh_map.proofs.RowsLemmas.{get_found, get_missed}
+use Rattle.sh_map.{specs.{Map.{get}, Rows.{IsRowAt, IsGapFor}}, proofs.RowsLemmas.{get_found, get_missed}}
 use Rattle.sh_map.proofs.plain_map.PlainMap.get.Goals as goal
 
 pub returns-in-Ok : goal.returns-in-Ok

@@ -1,7 +1,5 @@
-use Rattle.std.proofs.Common.{ap, ◌∙◌, map}
-use Rattle.std.specs.FinMap.{entries}
-use Rattle.sh_map.specs.Map.{row_pair}
-use Rattle.sh_map.proofs.RowsLemmas.{entries_are}
+use Rattle.std.{proofs.Common.{ap, ◌∙◌, map}, specs.FinMap.{entries}}
+use Rattle.sh_map.{specs.Map.{row_pair}, proofs.RowsLemmas.{entries_are}}
 use Rattle.sh_map.proofs.plain_map.PlainMap.into_rows.Goals as goal
 
 pub returns : goal.returns

@@ -1,10 +1,7 @@
-use Rattle.std.proofs.Common.{ap, ◌∙◌, subst}
-use Rattle.std.specs.List.{insert}
-use Rattle.sh_map.specs.Map.{get, put}
-use Rattle.sh_map.specs.Rows.{IsRowAt, IsGapFor, map_of_rows}
-use Rattle.sh_map.proofs.RowsLemmas.{get_found, get_missed, put_over, put_in_gap, rising_put, view_put}
-use Rattle.sh_map.proofs.plain_map.PlainMap.put.Goals as goal
+use Rattle.std.{proofs.Common.{ap, ◌∙◌, subst}, specs.List.{insert}}
+use Rattle.sh_map.{specs.{Map.{get, put}, Rows.{IsRowAt, IsGapFor, map_of_rows}}, proofs.RowsLemmas.{get_found, get_missed, put_over, put_in_gap, rising_put, view_put}}
 use Rattle.sh_map.proofs.plain_map.PlainMap.put.Goals.{In-Ok, In-Err}
+use Rattle.sh_map.proofs.plain_map.PlainMap.put.Goals as goal
 
 at : (c : In-Ok) → IsRowAt c.self.inside.rows.items c.args.key c.in-Ok.at
 at c = subst (λ rs. IsRowAt rs c.args.key c.in-Ok.at) c.deref.ensures.value c.in-Ok.ensures.found

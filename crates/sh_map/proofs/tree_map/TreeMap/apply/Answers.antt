@@ -1,6 +1,5 @@
 use Rattle.std.proofs.Common.{ap, sym, ◌∙◌}
-use Rattle.sh_map.specs.Map.{get, put, del}
-use Rattle.sh_map.proofs.TreeLemmas.{tree_get, tree_put, tree_del}
+use Rattle.sh_map.{specs.Map.{get, put, del}, proofs.TreeLemmas.{tree_get, tree_put, tree_del}}
 use Rattle.sh_map.proofs.tree_map.TreeMap.apply.Goals as goal
 
 pub returns-in_ok-insert-in-Put-clause-ok : goal.returns-in_ok-insert-in-Put-clause-ok

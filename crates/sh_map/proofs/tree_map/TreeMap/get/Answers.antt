@@ -1,6 +1,5 @@
 use Rattle.std.proofs.Common.{ap, sym, ◌∙◌}
-use Rattle.sh_map.specs.Map.{get}
-use Rattle.sh_map.proofs.TreeLemmas.{tree_get}
+use Rattle.sh_map.{specs.Map.{get}, proofs.TreeLemmas.{tree_get}}
 use Rattle.sh_map.proofs.tree_map.TreeMap.get.Goals as goal
 
 pub returns : goal.returns

@@ -1,9 +1,5 @@
-use Rattle.std.proofs.Common.{◌∙◌, ap, sym, arith, ◌≡◌, ◌++◌, map, take}
-use Rattle.std.proofs.lemmas.Bool.{eqb-true}
-use Rattle.std.proofs.lemmas.List.{append-nil, take_all}
-use Rattle.std.proofs.lemmas.Option.{slice_get_within}
-use Rattle.sh_map.specs.Map.{get, row_pair}
-use Rattle.sh_map.proofs.TreeLemmas.{rows_give, rows_more}
+use Rattle.std.proofs.{Common.{◌∙◌, ap, sym, arith, ◌≡◌, ◌++◌, map, take}, lemmas.{Bool.{eqb-true}, List.{append-nil, take_all}, Option.{slice_get_within}}}
+use Rattle.sh_map.{specs.Map.{get, row_pair}, proofs.TreeLemmas.{rows_give, rows_more}}
 use Rattle.sh_map.proofs.tree_map.TreeMap.has_rows.Goals as goal
 
 pub loop-key-preserved : goal.loop-key-preserved

@@ -1,8 +1,5 @@
-use Rattle.std.proofs.Common.{ap, sym, subst, ◌≡◌, ◌∙◌, ◌++◌, ◌≤◌, ◌<◌}
-use Rattle.std.specs.Prelude.{All, Contains, IsSome}
-use Rattle.std.specs.Map.{keys_of}
-use Rattle.sh_map.specs.Map.{get}
-use Rattle.sh_map.proofs.TreeLemmas.{keys_more, keys_all, keys_within, keys_each, tree_get}
+use Rattle.std.{proofs.Common.{ap, sym, subst, ◌≡◌, ◌∙◌, ◌++◌, ◌≤◌, ◌<◌}, specs.{Prelude.{All, Contains, IsSome}, Map.{keys_of}}}
+use Rattle.sh_map.{specs.Map.{get}, proofs.TreeLemmas.{keys_more, keys_all, keys_within, keys_each, tree_get}}
 use Rattle.sh_map.proofs.tree_map.TreeMap.keys_in.Goals as goal
 
 pub loop-key-init : goal.loop-key-init

@@ -1,5 +1,4 @@
-use Rattle.std.proofs.Common.{◌≡◌, ◌++◌}
-use Rattle.std.specs.Map.{keys_of}
+use Rattle.std.{proofs.Common.{◌≡◌, ◌++◌}, specs.Map.{keys_of}}
 use Rattle.sh_map.proofs.tree_map.TreeMap.keys_in.Given as goal
 
 -- the keys so far and those that are left are the keys of the part

@@ -1,5 +1,4 @@
-use Rattle.std.proofs.Common.{length-drop, length-take, arith}
-use Rattle.std.proofs.lemmas.List.{drop_all}
+use Rattle.std.proofs.{Common.{length-drop, length-take, arith}, lemmas.List.{drop_all}}
 use Rattle.sh_port.proofs.Bytes.{drop_front}
 use Rattle.sh_port.proofs.list.ListSourceSource.read.Goals as goal
 

@@ -1,11 +1,7 @@
-use Rattle.std.proofs.Common.{◌≢◌, ◌≤◌, ◌∙◌, ◌-◌, ℕ, take, ap, refl, sym, subst, arith}
-use Rattle.std.specs.Prelude.{slice_index, slice_set, None}
-use Rattle.std.proofs.lemmas.List.{length-set}
+use Rattle.std.{proofs.{Common.{◌≢◌, ◌≤◌, ◌∙◌, ◌-◌, ℕ, take, ap, refl, sym, subst, arith}, lemmas.List.{length-set}}, specs.Prelude.{slice_index, slice_set, None}}
 use Rattle.sh_base.specs.Setting.{node_size}
 use Rattle.sh_image.specs.declared.read.Seen.{Seen}
-use Rattle.sh_read.specs.Reads.{Reader, answer_to, image_in, wanted}
-use Rattle.sh_read.specs.Judging.{seen_of}
-use Rattle.sh_read.specs.Kept.{image_at, left_after, KeepsImage}
+use Rattle.sh_read.specs.{Reads.{Reader, answer_to, image_in, wanted}, Judging.{seen_of}, Kept.{image_at, left_after, KeepsImage}}
 use Rattle.sh_read.proofs.KeptLemmas.{size_small, some_left, fed_more, answers_last, fed_last, kept_judged, left_after_within}
 use Rattle.sh_read.proofs.state.Reading.fed.Goals as goal
 

@@ -1,8 +1,6 @@
-use Rattle.std.proofs.Common.{◌+◌, ◌<◌, ◌∙◌, length, subst, sym, arith}
-use Rattle.std.proofs.lemmas.List.{length-set}
+use Rattle.std.proofs.{Common.{◌+◌, ◌<◌, ◌∙◌, length, subst, sym, arith}, lemmas.List.{length-set}}
 use Rattle.sh_base.specs.Setting.{node_size}
-use Rattle.sh_read.specs.Reads.{Reader}
-use Rattle.sh_read.proofs.KeptLemmas.{inside_is, kept_under_way, size_small}
+use Rattle.sh_read.{specs.Reads.{Reader}, proofs.KeptLemmas.{inside_is, kept_under_way, size_small}}
 use Rattle.sh_read.proofs.state.Reading.fed_inside.Goals as goal
 
 pub overflow_sub-left : goal.overflow_sub-left

@@ -1,7 +1,6 @@
 use Rattle.std.proofs.Common.{◌+◌, ◌≤◌, ◌-◌, ap, length, subst}
 use Rattle.sh_base.specs.Setting.{node_size}
-use Rattle.sh_read.specs.Reads.{Reader}
-use Rattle.sh_read.proofs.KeptLemmas.{loads_none, next_is}
+use Rattle.sh_read.{specs.Reads.{Reader}, proofs.KeptLemmas.{loads_none, next_is}}
 use Rattle.sh_read.proofs.state.Reading.next_inside.Goals as goal
 
 pub returns-then-self-le1 : goal.returns-then-self-le1

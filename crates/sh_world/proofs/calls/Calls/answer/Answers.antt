@@ -1,5 +1,4 @@
-use Rattle.std.proofs.Common.{◌<◌, ◌≤◌, ◌∙◌, arith, length, refl}
-use Rattle.std.proofs.lemmas.Option.{slice_get_read}
+use Rattle.std.proofs.{Common.{◌<◌, ◌≤◌, ◌∙◌, arith, length, refl}, lemmas.Option.{slice_get_read}}
 use Rattle.sh_world.proofs.KeptLemmas.{answered_is, answered_keeps, kept_long, room_reserved, rows_fit}
 use Rattle.sh_world.proofs.calls.Calls.answer.Goals as goal
 

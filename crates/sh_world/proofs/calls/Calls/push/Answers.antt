@@ -1,8 +1,5 @@
 use Rattle.std.proofs.Common.{◌∙◌, ◌++◌, ◌∷◌, [], ap, arith}
-use Rattle.sh_world.specs.declared.calls.ReplyKind.TheVariants.{Waiting}
-use Rattle.sh_world.specs.States.{fresh_call}
-use Rattle.sh_world.specs.Columns.{Listed}
-use Rattle.sh_world.proofs.KeptLemmas.{pushed_is, pushed_keeps}
+use Rattle.sh_world.{specs.{declared.calls.ReplyKind.TheVariants.{Waiting}, States.{fresh_call}, Columns.{Listed}}, proofs.KeptLemmas.{pushed_is, pushed_keeps}}
 use Rattle.sh_world.proofs.calls.Calls.push.Goals as goal
 
 pub invariant_of-self-2 : goal.invariant_of-self-2

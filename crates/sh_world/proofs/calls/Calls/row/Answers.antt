@@ -1,8 +1,7 @@
 use Rattle.std.proofs.Common.{◌≡◌, ◌+◌, ◌-◌, ◌*◌, ◌<◌, ◌∙◌, ℕ, List, ap, arith, drop, length, take}
 use Rattle.std.specs.Prelude.{slice_get}
 use Rattle.sh_map.specs.declared.book.Row.{Row}
-use Rattle.sh_world.proofs.RowLemmas.{row_read}
-use Rattle.sh_world.proofs.KeptLemmas.{kept_long, row_ends, row_of}
+use Rattle.sh_world.proofs.{RowLemmas.{row_read}, KeptLemmas.{kept_long, row_ends, row_of}}
 use Rattle.sh_world.proofs.calls.Calls.row.Goals as goal
 
 pub prove-unreachable-requires : goal.prove-unreachable-requires

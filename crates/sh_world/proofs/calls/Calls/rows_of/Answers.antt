@@ -1,6 +1,4 @@
-use Rattle.std.proofs.Common.{◌∙◌, ◌++◌, ◌∷◌, [], arith, sym}
-use Rattle.std.proofs.lemmas.List.{take_more}
-use Rattle.std.proofs.lemmas.Option.{get_or_from_slice_get}
+use Rattle.std.proofs.{Common.{◌∙◌, ◌++◌, ◌∷◌, [], arith, sym}, lemmas.{List.{take_more}, Option.{get_or_from_slice_get}}}
 use Rattle.sh_world.specs.States.{rows_at}
 use Rattle.sh_world.proofs.calls.Calls.rows_of.Goals as goal
 

@@ -1,8 +1,5 @@
-use Rattle.std.proofs.Common.{◌∙◌, ap, length, refl, sym}
-use Rattle.std.proofs.lemmas.Option.{slice_get_read}
-use Rattle.sh_world.specs.contracts.state.World.{the_view}
-use Rattle.sh_world.specs.States.{Place, State, dones_by, dones_of}
-use Rattle.sh_world.proofs.WorldLemmas.{running}
+use Rattle.std.proofs.{Common.{◌∙◌, ap, length, refl, sym}, lemmas.Option.{slice_get_read}}
+use Rattle.sh_world.{specs.{contracts.state.World.{the_view}, States.{Place, State, dones_by, dones_of}}, proofs.WorldLemmas.{running}}
 use Rattle.sh_world.proofs.state.World.done_calls.Goals as goal
 
 pub returns : goal.returns

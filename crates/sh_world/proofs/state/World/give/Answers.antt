@@ -1,12 +1,5 @@
-use Rattle.std.specs.Vec.{vec_len, vec_capacity}
-use Rattle.std.proofs.Common.{◌+◌, ◌-◌, ◌≤◌, ◌∙◌, ◌∷◌, ◌++◌, [], ℕ, List, ap, arith, refl}
-use Rattle.std.proofs.lemmas.Option.{slice_get_read}
-use Rattle.sh_world.specs.Columns.{Listed}
-use Rattle.sh_world.specs.States.{Place}
-use Rattle.sh_world.specs.Turning.{queued}
-use Rattle.sh_world.specs.contracts.state.World.{the_view}
-use Rattle.sh_world.proofs.GiveLemmas.{give_is, given_long, given_world}
-use Rattle.sh_world.proofs.RunLemmas.{log_few}
+use Rattle.std.{specs.Vec.{vec_len, vec_capacity}, proofs.{Common.{◌+◌, ◌-◌, ◌≤◌, ◌∙◌, ◌∷◌, ◌++◌, [], ℕ, List, ap, arith, refl}, lemmas.Option.{slice_get_read}}}
+use Rattle.sh_world.{specs.{Columns.{Listed}, States.{Place}, Turning.{queued}, contracts.state.World.{the_view}}, proofs.{GiveLemmas.{give_is, given_long, given_world}, RunLemmas.{log_few}}}
 use Rattle.sh_world.proofs.WorldLemmas.{running}
 use Rattle.sh_world.proofs.state.World.give.Goals as goal
 

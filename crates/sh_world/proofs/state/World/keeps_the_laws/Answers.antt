@@ -1,9 +1,5 @@
 use Rattle.std.proofs.Common.{subst}
-use Rattle.sh_world.specs.States.{State}
-use Rattle.sh_world.specs.Running.{IsRunning}
-use Rattle.sh_world.specs.Laws.{IdlesRight, IsLawfulWorld}
-use Rattle.sh_world.specs.contracts.state.World.{the_view}
-use Rattle.sh_world.proofs.LawLemmas.{extends, idle_at, lawful}
+use Rattle.sh_world.{specs.{States.{State}, Running.{IsRunning}, Laws.{IdlesRight, IsLawfulWorld}, contracts.state.World.{the_view}}, proofs.LawLemmas.{extends, idle_at, lawful}}
 use Rattle.sh_world.proofs.WorldLemmas.{running}
 use Rattle.sh_world.proofs.state.World.keeps_the_laws.Goals as goal
 

@@ -1,9 +1,6 @@
 use Rattle.std.proofs.Common.{◌<◌, ◌∙◌, arith, refl, subst}
 use Rattle.sh_base.specs.Setting.{all_locks}
-use Rattle.sh_world.specs.States.{Place}
-use Rattle.sh_world.specs.contracts.state.World.{the_view}
-use Rattle.sh_world.proofs.StepLemmas.{look_asked, look_within, looks_seen, wait_world}
-use Rattle.sh_world.proofs.WorldLemmas.{kept_is, turned}
+use Rattle.sh_world.{specs.{States.{Place}, contracts.state.World.{the_view}}, proofs.{StepLemmas.{look_asked, look_within, looks_seen, wait_world}, WorldLemmas.{kept_is, turned}}}
 use Rattle.sh_world.proofs.state.World.look_or_act.Goals as goal
 
 pub line_at-requires-clause-lock : goal.line_at-requires-clause-lock

@@ -1,8 +1,6 @@
 use Rattle.std.proofs.Common.{◌∙◌, ℕ, ap, length, refl, sym}
 use Rattle.sh_base.specs.Setting.{pool_words}
-use Rattle.sh_world.specs.declared.turn.Turn.TheVariants.{Event}
-use Rattle.sh_world.specs.contracts.state.World.{the_view}
-use Rattle.sh_world.proofs.StepLemmas.{seat_setting, step_asked, step_world, still_is, still_turns}
+use Rattle.sh_world.{specs.{declared.turn.Turn.TheVariants.{Event}, contracts.state.World.{the_view}}, proofs.StepLemmas.{seat_setting, step_asked, step_world, still_is, still_turns}}
 use Rattle.sh_world.proofs.WorldLemmas.{kept_is, running, turned}
 use Rattle.sh_world.proofs.state.World.store_or_look.Goals as goal
 

@@ -1,8 +1,6 @@
 use Rattle.std.proofs.Common.{◌∙◌, ℕ, ap, length, refl, sym}
 use Rattle.sh_base.specs.Setting.{pool_words}
-use Rattle.sh_world.specs.declared.turn.Turn.TheVariants.{Event}
-use Rattle.sh_world.specs.contracts.state.World.{the_view}
-use Rattle.sh_world.proofs.StepLemmas.{load_world, seat_setting, step_asked}
+use Rattle.sh_world.{specs.{declared.turn.Turn.TheVariants.{Event}, contracts.state.World.{the_view}}, proofs.StepLemmas.{load_world, seat_setting, step_asked}}
 use Rattle.sh_world.proofs.WorldLemmas.{kept_is, told_is, value_is, running}
 use Rattle.sh_world.proofs.state.World.turn.Goals as goal
 

@@ -22,12 +22,13 @@ done
 count_turns_in "$folder"
 ./run sherman_replay </dev/null >/dev/null
 built=crates/sherman_replay/out/sherman_replay
-# The least time of five runs of a sheet, in milliseconds.
+# The least time of five runs of a sheet with these words, in milliseconds.
 least_time() {
-  local least=999999999 start ms
+  local input=$1 least=999999999 start ms
+  shift
   for _ in 1 2 3 4 5; do
     start=$(date +%s%N)
-    "$built" --chunks 900 <"$1" >"$folder/lines"
+    "$built" --chunks 900 "$@" <"$input" >"$folder/lines"
     ms=$(( ($(date +%s%N) - start) / 1000000 ))
     least=$((ms < least ? ms : least))
   done
@@ -35,6 +36,12 @@ least_time() {
 }
 empty=$(least_time /dev/null)
 echo "an empty sheet: $empty ms"
+# Calls that are made: should take 2.5 seconds and 300 MB at most.
+ms=$(least_time /dev/null --make 1000000 --seed 7)
+echo "1000000 made calls: $ms ms, $(tail -n 1 "$folder/lines")"
+if [ -x /usr/bin/time ]; then
+  /usr/bin/time -f "1000000 made calls: %M KB at most" "$built" --chunks 900 --make 1000000 --seed 7 </dev/null >/dev/null
+fi
 for n in 10000 100000 1000000; do
   turns=$(count_turns --chunks 900 <"$folder/$n.csv" | cut -d " " -f 1)
   ms=$(least_time "$folder/$n.csv")

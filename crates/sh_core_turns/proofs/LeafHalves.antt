@@ -6,8 +6,8 @@ use Rattle.sh_map.specs.{declared.{call.{Call.{Call, TheVariants.{Get, Put, Del,
 use Rattle.sh_map.specs.{Log.{changed, change_key, map_of, HasOld}, Calls.{IsInRange}, Book.{made_entry}, Made.{entries_by}}
 use Rattle.sh_map.specs.declared.call.Reply.TheVariants as reply
 use Rattle.sh_map.specs.declared.log.Change.TheVariants as change
-use Rattle.sh_image.{specs.{declared.leaf.LeafEntry.{LeafEntry}, Entries.{entry_words}, Leaf.{Leaf, leaf_in, leaf_words}}, proofs.ReadLemmas.{entry_read}}
-use Rattle.sh_image.specs.declared.inner.Image.{Image, TheVariants.{Leaf as LeafImage}}
+use Rattle.sh_image.{specs.{declared.{leaf.LeafEntry.{LeafEntry}, inner.Image.{Image}}, Entries.{entry_words}, Leaf.{Leaf, leaf_in, leaf_words}}, proofs.ReadLemmas.{entry_read}}
+use Rattle.sh_image.specs.declared.inner.Image.TheVariants.{Leaf as LeafImage}
 use Rattle.sh_edit.specs.{Held.{held, key_at, map_of_entries, no_entry, HasKeysOnce}, Placing.{LacksKey, IsFirstWith, IsPlaceFor}, Rewriting.{rewritten}}
 use Rattle.sh_edit.{specs.Splitting.{IsSplit, left_half, right_half, separator_of}, proofs.HeldLemmas.{held_at, held_none}}
 use Rattle.sh_edit.proofs.RewriteLemmas.{rewritten_lawful, rewritten_new, rewritten_over, rewritten_removed}

@@ -27,7 +27,7 @@ module _ (p : ConfigParts) where
   drawn_in low high from below [] h k w = tt
   drawn_in low high from below (x ∷ xs) h k w = (record { value = h.0.value; version = h.0.version; within = inr (w.0.0, omega (arith, k.0), w.0.1) }, drawn_in low high from below xs h.1 k.1 w.1)
 
-  filled_lawful : (low high n : ℕ) (value : List ℕ) (xs : List (ℕ × List ℕ)) → length value ≡ p.value_words → AllByRecursion (IsPair p low high) xs → AllByRecursion (IsEntry p low high) (map entry_with xs ++ replicate n (empty_like value))
+  pub filled_lawful : (low high n : ℕ) (value : List ℕ) (xs : List (ℕ × List ℕ)) → length value ≡ p.value_words → AllByRecursion (IsPair p low high) xs → AllByRecursion (IsEntry p low high) (map entry_with xs ++ replicate n (empty_like value))
   filled_lawful low high zero value [] words h = tt
   filled_lawful low high (suc n) value [] words h = (record { value = length-replicate (length value) 0 ∙ words; version = omega arith; within = inl (refl, ap (λ k. replicate k 0) words) }, filled_lawful low high n value [] words h)
   filled_lawful low high n value (x ∷ xs) words h = (h.0, filled_lawful low high n value xs words h.1)
@@ -36,7 +36,7 @@ all_both : (P Q : ℕ × List ℕ → Type 0) (xs : List (ℕ × List ℕ)) → 
 all_both P Q [] h k = tt
 all_both P Q (x ∷ xs) h k = ((h.0, k.0), all_both P Q xs h.1 k.1)
 
-length-entries_from : (count : ℕ) (empty : LeafEntry) (xs : List (ℕ × List ℕ)) → length xs ≤ count → length (entries_from count empty xs) ≡ count
+pub length-entries_from : (count : ℕ) (empty : LeafEntry) (xs : List (ℕ × List ℕ)) → length xs ≤ count → length (entries_from count empty xs) ≡ count
 length-entries_from count empty xs room = omega (arith, length-append (map entry_with xs) (replicate (count - length xs) empty), length-map xs entry_with, length-replicate (count - length xs) empty)
 
 -- the separator lies above the first pair
@@ -60,7 +60,7 @@ none_above empty q (x ∷ xs) n z nz h zero below is = absurd (omega (arith, h.0
 none_above empty q (x ∷ xs) n z nz h (suc j) below is = none_above empty q xs n z nz h.1 j (omega arith) is
 
 -- pairs whose keys rise
-abbrev RiseFrom : List (ℕ × List ℕ) → Type 0
+abbrev pub RiseFrom : List (ℕ × List ℕ) → Type 0
 RiseFrom [] = Unit {0}
 RiseFrom (x ∷ xs) = AllByRecursion (λ y. x.0 < y.0) xs × RiseFrom xs
 
@@ -68,21 +68,21 @@ rise_above : (x : ℕ) (ps : List (ℕ × List ℕ)) → T (below_all nat_cmp x 
 rise_above x [] h = tt
 rise_above x (y ∷ ps) h = (less x y.0 (first _ _ h), rise_above x ps (second _ _ h))
 
-rise_sorted : (ps : List (ℕ × List ℕ)) → T (is_sorted nat_cmp ps) → RiseFrom ps
+pub rise_sorted : (ps : List (ℕ × List ℕ)) → T (is_sorted nat_cmp ps) → RiseFrom ps
 rise_sorted [] h = tt
 rise_sorted (x ∷ ps) h = (rise_above x.0 ps (first _ _ h), rise_sorted ps (second _ _ h))
 
-rise_take : (n : ℕ) (ps : List (ℕ × List ℕ)) → RiseFrom ps → RiseFrom (take n ps)
+pub rise_take : (n : ℕ) (ps : List (ℕ × List ℕ)) → RiseFrom ps → RiseFrom (take n ps)
 rise_take zero ps h = tt
 rise_take (suc n) [] h = tt
 rise_take (suc n) (x ∷ ps) h = (all_take (λ y. x.0 < y.0) n ps h.0, rise_take n ps h.1)
 
-rise_drop : (n : ℕ) (ps : List (ℕ × List ℕ)) → RiseFrom ps → RiseFrom (drop n ps)
+pub rise_drop : (n : ℕ) (ps : List (ℕ × List ℕ)) → RiseFrom ps → RiseFrom (drop n ps)
 rise_drop zero ps h = h
 rise_drop (suc n) [] h = tt
 rise_drop (suc n) (x ∷ ps) h = rise_drop n ps h.1
 
-once_filled : (empty : LeafEntry) (xs : List (ℕ × List ℕ)) (n : ℕ) → empty.key ≡ 0 → AllByRecursion (λ x. x.0 ≢ 0) xs → RiseFrom xs → HasKeysOnce (map entry_with xs ++ replicate n empty)
+pub once_filled : (empty : LeafEntry) (xs : List (ℕ × List ℕ)) (n : ℕ) → empty.key ≡ 0 → AllByRecursion (λ x. x.0 ≢ 0) xs → RiseFrom xs → HasKeysOnce (map entry_with xs ++ replicate n empty)
 once_filled empty [] zero z k h i j less below same = absurd (omega arith)
 once_filled empty [] (suc n) z k h i j less below same = once_cons empty (replicate n empty) (inl z) (once_filled empty [] n z k h) i j less below same
 once_filled empty (x ∷ xs) n z k h i j less below same = once_cons (entry_with x) (map entry_with xs ++ replicate n empty) (inr (none_above empty x.0 xs n z k.0 h.0)) (once_filled empty xs n z k.1 h.1) i j less below same

@@ -23,7 +23,7 @@ keys_from_none (x ∷ pairs) h = elim (cases_eq x.0 0) [
 ]
 
 -- pairs are read back from the entries that they make
-pairs_of-entries : (empty : LeafEntry) (pairs : List (ℕ × List ℕ)) (n : ℕ) → empty.key ≡ 0 → AreKeys pairs → pairs_of (map entry_with pairs ++ replicate n empty) ≡ pairs
+pub pairs_of-entries : (empty : LeafEntry) (pairs : List (ℕ × List ℕ)) (n : ℕ) → empty.key ≡ 0 → AreKeys pairs → pairs_of (map entry_with pairs ++ replicate n empty) ≡ pairs
 pairs_of-entries empty [] zero z h = refl
 pairs_of-entries empty [] (suc n) z h = ap (λ b. cond b (pairs_of (replicate n empty)) ((empty.key, empty.value) ∷ pairs_of (replicate n empty))) (eq-eqb empty.key 0 z) ∙ pairs_of-entries empty [] n z h
 pairs_of-entries empty (x ∷ pairs) n z h =

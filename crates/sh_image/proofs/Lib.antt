@@ -6,7 +6,7 @@ pub mod EntriesLemmas
 pub mod LeafLemmas
 pub mod ReadLemmas
 mod EmptyLemmas
-mod WriteLemmas
+pub mod WriteLemmas
 pub mod UntornLemmas
 mod NodeLemmas
 pub mod LaidLemmas

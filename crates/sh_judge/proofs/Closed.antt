@@ -3,7 +3,7 @@ use Rattle.std.{proofs.Common.{ℕ, zero, suc, ◌≡◌, ◌≢◌, ◌≤◌, 
 use Rattle.std.proofs.lemmas.{Bool.Decides.{nat_tests}, List.Folds.{Any-from_list_any}}
 use Rattle.sh_map.specs.{declared.{call.{Call.{Call, TheVariants.{Get, Put, Del, Range}}, Reply.{Reply}}, book.Done.{Done}}, Book.{IsClosed, IsOwn}, Made.{entries_by}}
 use Rattle.sh_map.specs.declared.call.Reply.TheVariants as reply
-use Rattle.sh_judge.specs.Places.{ArePlaced, count_at, entry_at, entry_of, is_at, log_of, log_to, updates}
+use Rattle.sh_judge.specs.Places.{ArePlaced, count_at, placed_entry, entry_of, is_at, log_of, log_to, update_count}
 
 one_entry : (seat : ℕ) (call : Call) (answer : Reply) → length (entries_by seat call answer) ≤ 1
 one_entry seat (Put key value) (reply.Some old) = omega arith
@@ -26,7 +26,7 @@ one_at (Some d) = one_entry d.seat d.call d.reply
 short : (dones : List Done) (n : ℕ) → length (log_to dones n) ≤ n
 unfolding log_to
 short dones zero = omega arith
-short dones (suc n) = omega (arith, length-append (log_to dones n) (entry_at dones n), short dones n, one_at (find (is_at n) dones))
+short dones (suc n) = omega (arith, length-append (log_to dones n) (placed_entry dones n), short dones n, one_at (find (is_at n) dones))
 
 counted : (p : ℕ) (dones : List Done) (d : Done) (t : Bool) → is_at p d ≡ t → count_at p (d ∷ dones) ≢ 0 → (count_at p dones ≢ 0 → list_any (is_at p) dones ≡ true) → list_any (is_at p) (d ∷ dones) ≡ true
 counted p dones d true e some rest = rw e refl
@@ -41,7 +41,7 @@ own p d e = grind (arith, nat_tests)
 
 pub closed : (dones : List Done) → ArePlaced dones → IsClosed (log_of dones) dones
 closed dones placed i within =
-    let small : i < updates dones = omega (arith, within, short dones (updates dones)) in
+    let small : i < update_count dones = omega (arith, within, short dones (update_count dones)) in
     let some : count_at i dones ≢ 0 = omega (arith, placed i small) in
     let any = Any-from_list_any (is_at i) dones (is_among i dones some) in
     (any.0, any.1, any.2, any.3, own i any.1 any.4)

@@ -2,7 +2,7 @@
 use Rattle.std.{proofs.Common.{ℕ, ◌≡◌, ◌≤◌, ◌<◌, ◌==◌, Bool, true, false, List, [], ◌∷◌, ◌++◌, get_or, set, replicate, refl, ap, sym, ◌∙◌, arith}, specs.Prelude.{max}}
 use Rattle.std.proofs.lemmas.{Bool.{eqb-true, eqb-false}, List.{get_or-set_same, get_or-set_other, get_or-replicate, length-set, length-replicate, Sums.{fold-append}}}
 use Rattle.sh_map.specs.declared.book.{Row.{Row}, Done.{Done}}
-use Rattle.sh_judge.specs.{Reading.{end_of, least_first, with_end, with_last_row, with_row}, Reader.{HasLeast}}
+use Rattle.sh_judge.specs.{Reading.{least_after, least_first, with_end, with_last_row, with_row}, Reader.{HasLeast}}
 
 least_more : (dones : List Done) (d : Done) (seat : ℕ) → least_first (dones ++ d ∷ []) seat ≡ with_end seat (least_first dones seat) d
 unfolding least_first
@@ -19,7 +19,7 @@ has_none ends is = rw is (record {
   each = λ seat small. get_or-replicate 64 seat 0 0 small ∙ sym (least_none seat);
 })
 
-module _ (ends : List ℕ) (dones : List Done) (d : Done) (small : d.seat ≤ 63) (was : HasLeast ends dones) (end : ℕ) (is : end ≡ max (least_first dones d.seat) (end_of d)) where
+module _ (ends : List ℕ) (dones : List Done) (d : Done) (small : d.seat ≤ 63) (was : HasLeast ends dones) (end : ℕ) (is : end ≡ max (least_first dones d.seat) (least_after d)) where
   more_at : (seat : ℕ) → seat < 64 → (t : Bool) → (d.seat == seat) ≡ t → get_or (set ends d.seat end) seat 0 ≡ least_first (dones ++ d ∷ []) seat
   more_at seat low true e =
       let same = eqb-true d.seat seat e in

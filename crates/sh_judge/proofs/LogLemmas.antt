@@ -1,13 +1,13 @@
 -- The log of calls, with one place more.
 use Rattle.std.{proofs.Common.{ℕ, ◌≡◌, ◌<◌, ◌+◌, List, [], ◌++◌, length, get_or, add-one, ap, refl, arith}, specs.Prelude.{find, slice_get}}
 use Rattle.sh_map.specs.declared.{log.Entry.{Entry}, book.Done.{Done}}
-use Rattle.sh_judge.specs.{Places.{entry_at, entry_of, is_at, log_to}, Tables.{AreOwners}}
+use Rattle.sh_judge.specs.{Places.{placed_entry, entry_of, is_at, log_to}, Tables.{AreOwners}}
 
 pub log_none : (dones : List Done) → [] ≡ log_to dones 0
 unfolding log_to
 log_none dones = refl
 
-log_more : (dones : List Done) (n : ℕ) → log_to dones n ++ entry_at dones n ≡ log_to dones (n + 1)
+log_more : (dones : List Done) (n : ℕ) → log_to dones n ++ placed_entry dones n ≡ log_to dones (n + 1)
 unfolding log_to
 log_more dones n = rw (add-one n) refl
 

@@ -2,7 +2,7 @@
 use Rattle.std.proofs.Common.{ℕ, ◌≡◌, ◌≤◌, ◌<◌, ◌+◌, ◌^◌, false, true, List, [], ◌∷◌, ◌++◌, length, Option, Some, None, refl, ap, sym, ◌∙◌, arith, option_map, append_assoc}
 use Rattle.std.proofs.lemmas.Bool.Decides.{nat_tests}
 use Rattle.sh_sheet.specs.{Number.{are_digits, value_from}, Row.{joined}}
-use Rattle.sh_judge.{specs.Fields.{has_zero, parts_at, value_of, wide_of, word_of, words_of}, proofs.Parts.{has_part}}
+use Rattle.sh_judge.{specs.Fields.{has_zero, parts_at, value_of, wide_of, word_of, words_spelled}, proofs.Parts.{has_part}}
 
 -- what is too large is no number
 pub wide_of_large : (bs : List ℕ) → 2 ^ 128 ≤ value_from 0 bs → None ≡ wide_of bs
@@ -19,7 +19,7 @@ behind ns more = option_map (λ ms. ns ++ ms) more
 -- the first parts of a text were so many words, and these parts are left
 pub record IsCut (text ns : List ℕ) (at : ℕ) (left : List (List ℕ)) : Type 0 where
   pub count : length (parts_at 58 text) ≡ at + length left
-  pub words : words_of (parts_at 58 text) ≡ behind ns (words_of left)
+  pub words : words_spelled (parts_at 58 text) ≡ behind ns (words_spelled left)
 
 behind_more : (ns : List ℕ) (n : ℕ) (o : Option (List ℕ)) → behind ns (joined (Some n) o) ≡ behind (ns ++ n ∷ []) o
 behind_more ns n None = refl
@@ -29,7 +29,7 @@ behind_more ns n (Some ms) = ap (λ t. Some t) (sym (append_assoc ns (n ∷ []) 
 pub cut_more : (text ns part : List ℕ) (at n : ℕ) (left more : List (List ℕ)) → IsCut text ns at left → left ≡ part ∷ more → Some n ≡ word_of part → IsCut text (ns ++ n ∷ []) (at + 1) more
 cut_more text ns part at n left more was parts word = record {
   count = was.count ∙ rw parts (omega arith);
-  words = was.words ∙ rw (parts, ← word) (behind_more ns n (words_of more));
+  words = was.words ∙ rw (parts, ← word) (behind_more ns n (words_spelled more));
 }
 
 -- more parts than words; a text has at least one part

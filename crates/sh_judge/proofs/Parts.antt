@@ -1,7 +1,7 @@
 -- Where a text is cut at a byte.
 use Rattle.std.{proofs.Common.{ℕ, ◌≡◌, ◌<◌, ◌≤◌, ◌+◌, ◌-◌, ◌==◌, Bool, true, false, List, [], ◌∷◌, length, take, drop, Option, Some, None, refl, arith}, specs.List.{position, position_or_len}}
 use Rattle.std.proofs.lemmas.{Bool.Decides.{nat_tests}, List.{take_rest, Splits.{slice_split_first, length-slice_split}}, Option.{cond_some}}
-use Rattle.sh_judge.specs.Fields.{parts_at, parts_behind, one_of}
+use Rattle.sh_judge.specs.Fields.{parts_at, text_parts, one_of}
 
 module _ (code : ℕ) where
   abbrev is_here : ℕ → Bool
@@ -38,5 +38,5 @@ two_parts first (part ∷ parts) some = refl
 pub not_one : (code : ℕ) (first more : List ℕ) → None ≡ one_of (first ∷ parts_at code more)
 not_one code first more = two_parts first (parts_at code more) (has_part code more)
 
-pub not_last : (code : ℕ) (first more : List ℕ) (rest : Option (List ℕ)) (parts : List (List ℕ)) → parts ≡ first ∷ parts_behind code rest → rest ≡ Some more → None ≡ one_of parts
+pub not_last : (code : ℕ) (first more : List ℕ) (rest : Option (List ℕ)) (parts : List (List ℕ)) → parts ≡ first ∷ text_parts code rest → rest ≡ Some more → None ≡ one_of parts
 not_last code first more rest parts are is = rw (are, is) (not_one code first more)

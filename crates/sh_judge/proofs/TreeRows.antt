@@ -4,7 +4,7 @@ use Rattle.std.specs.{Cmp.{nat_cmp_total}, FinMap.{entries, entries-from_sorted,
 use Rattle.std.proofs.lemmas.List.{append-nil, append_assoc}
 use Rattle.sh_logic.proofs.Tests.{both}
 use Rattle.sh_map.{specs.{declared.book.Row.{Row}, Map.{Map, pair_row}}, proofs.MapLemmas.{same_by_keys}}
-use Rattle.sh_judge.specs.Trees.{rows_in}
+use Rattle.sh_judge.specs.Trees.{map_rows}
 
 abbrev pub to_row : ℕ × List ℕ → Row
 to_row p = pair_row p.0 p.1
@@ -28,5 +28,5 @@ in_order es h =
 pub rows_more : (old : List Row) (rest new : List (ℕ × List ℕ)) (e : ℕ × List ℕ) (all : List Row) → old ++ map to_row rest ≡ all → rest ≡ e ∷ new → (old ++ to_row e ∷ []) ++ map to_row new ≡ all
 rows_more old rest new e all h is = append_assoc old (to_row e ∷ []) (map to_row new) ∙ ap (λ es. old ++ map to_row es) (sym is) ∙ h
 
-pub rows_all : (old : List Row) (rest es : List (ℕ × List ℕ)) → old ++ map to_row rest ≡ map to_row es → rest ≡ [] → IsStrictlySortedBy nat_cmp (keys_of es) → old ≡ rows_in (from_entries es)
+pub rows_all : (old : List Row) (rest es : List (ℕ × List ℕ)) → old ++ map to_row rest ≡ map to_row es → rest ≡ [] → IsStrictlySortedBy nat_cmp (keys_of es) → old ≡ map_rows (from_entries es)
 rows_all old rest es h is sorted = sym (append-nil old) ∙ ap (λ x. old ++ map to_row x) (sym is) ∙ h ∙ ap (map to_row) (sym (in_order es sorted))

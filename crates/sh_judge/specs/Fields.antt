@@ -7,9 +7,9 @@ abbrev pub parts_at : ℕ → List ℕ → List (List ℕ)
 parts_at code text = slice_split (λ b. b == code) text
 
 -- the parts behind such a byte, if there is one
-abbrev pub parts_behind : ℕ → Option (List ℕ) → List (List ℕ)
-parts_behind code None = []
-parts_behind code (Some text) = parts_at code text
+abbrev pub text_parts : ℕ → Option (List ℕ) → List (List ℕ)
+text_parts code None = []
+text_parts code (Some text) = parts_at code text
 
 -- the parts of a line between its commas
 abbrev pub fields_of : List ℕ → List (List ℕ)
@@ -32,13 +32,13 @@ abbrev pub wide_of : List ℕ → Option ℕ
 wide_of text = if not (has_zero text) && is_wide text then Some (value_from 0 text) else None
 
 -- the words of these parts, if each is one
-abbrev pub words_of : List (List ℕ) → Option (List ℕ)
-words_of [] = Some []
-words_of (part ∷ parts) = joined (word_of part) (words_of parts)
+abbrev pub words_spelled : List (List ℕ) → Option (List ℕ)
+words_spelled [] = Some []
+words_spelled (part ∷ parts) = joined (word_of part) (words_spelled parts)
 
 -- the value of so many words that a field says: its words joined by colons
 abbrev pub value_of : ℕ → List ℕ → Option (List ℕ)
-value_of count text = if length (parts_at 58 text) == count then words_of (parts_at 58 text) else None
+value_of count text = if length (parts_at 58 text) == count then words_spelled (parts_at 58 text) else None
 
 -- one field and no more, two, three and seven
 abbrev pub one_of : List (List ℕ) → Option (List ℕ)

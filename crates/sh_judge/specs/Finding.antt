@@ -1,17 +1,17 @@
 -- What is found of a printed replay.
 use Rattle.std.specs.{Prelude.{◌≡◌, ◌≢◌, ◌⊎◌, ℕ, ◌+◌, ◌-◌, List, [], length, take, sum, Some}, List.{slice_get, sum_by}}
 use Rattle.sh_map.specs.{declared.{book.Row.{Row}, log.Entry.{Entry}}, Log.{map_of}, Book.{IsLawful}, Judge.{IsFirstMisfit}}
-use Rattle.sh_judge.specs.{declared.{found.End.{End}, finding.Finding.{Finding}}, Places.{ArePlaced, IsLeastUnplaced, log_of}, Trees.{rows_in}}
-use Rattle.sh_judge.specs.Reading.{Reading, AllTold, Astray, Told, made_end, reading_of}
+use Rattle.sh_judge.specs.{declared.{found.End.{End}, finding.Finding.{Finding}}, Places.{ArePlaced, IsLeastUnplaced, log_of}, Trees.{map_rows}}
+use Rattle.sh_judge.specs.Reading.{Reading, AllTold, Astray, LinesTold, made_end, reading_of}
 use Rattle.sh_judge.specs.declared.finding.Finding.TheVariants as finding
 
 -- the keys and values of the map of a log, by rising keys
-abbrev pub rows_of : List Entry → List Row
-rows_of log = rows_in (map_of log)
+abbrev pub log_rows : List Entry → List Row
+log_rows log = map_rows (map_of log)
 
 -- the sum of all words of the rows' values
-abbrev pub sum_of : List Row → ℕ
-sum_of rows = sum_by (λ r. sum r.value) rows
+abbrev pub value_sum : List Row → ℕ
+value_sum rows = sum_by (λ r. sum r.value) rows
 
 -- the least place at which two lists are unlike: their items differ, or only one of them has an item there
 pub record AreUnlikeAt {X : Type 0} (xs ys : List X) (i : ℕ) : Type 0 where
@@ -19,35 +19,35 @@ pub record AreUnlikeAt {X : Type 0} (xs ys : List X) (i : ℕ) : Type 0 where
   pub before : take i xs ≡ take i ys
 
 -- the numbers that a last line has to have
-abbrev pub end_for : Told → List Row → End
-end_for t rows = made_end (length t.dones) (length rows) (sum_of rows)
+abbrev pub end_for : LinesTold → List Row → End
+end_for t rows = made_end (length t.dones) (length rows) (value_sum rows)
 
 -- each place is taken once, and the book of the log and the calls is lawful
-pub record HasLawfulBook (t : Told) : Type 0 where
+pub record HasLawfulBook (t : LinesTold) : Type 0 where
   pub placed : ArePlaced t.dones
   pub lawful : IsLawful (log_of t.dones) t.dones
 
 -- no line of the map is there, or they are these rows
-abbrev pub HasMap : Told → List Row → Type 0
+abbrev pub HasMap : LinesTold → List Row → Type 0
 HasMap t rows = (t.maps ≡ []) ⊎ (t.maps ≡ rows)
 
 -- lines of the map are there, and of so many lines this is the first that isn't one of these rows, or the last line where
 -- a row is wanting
-pub record IsWrongMap (t : Told) (rows : List Row) (lines line : ℕ) : Type 0 where
+pub record IsWrongMap (t : LinesTold) (rows : List Row) (lines line : ℕ) : Type 0 where
   pub place : ℕ
   pub some : t.maps ≢ []
   pub unlike : AreUnlikeAt t.maps rows place
   pub number : line ≡ lines - length t.maps + place
 
 -- what is found of so many lines that tell this
-abbrev pub IsFoundIn : Told → (lines : ℕ) → Finding → Type 0
+abbrev pub IsFoundIn : LinesTold → (lines : ℕ) → Finding → Type 0
 IsFoundIn t lines (finding.Lawful calls count) =
-    HasLawfulBook t × HasMap t (rows_of (log_of t.dones)) × (t.end ≡ Some (end_for t (rows_of (log_of t.dones)))) × (calls ≡ length t.dones) × (count ≡ length (log_of t.dones))
+    HasLawfulBook t × HasMap t (log_rows (log_of t.dones)) × (t.end ≡ Some (end_for t (log_rows (log_of t.dones)))) × (calls ≡ length t.dones) × (count ≡ length (log_of t.dones))
 IsFoundIn t lines (finding.Line at) = ⊥
 IsFoundIn t lines (finding.Place at) = IsLeastUnplaced t.dones at
 IsFoundIn t lines (finding.Misfit misfit) = ArePlaced t.dones × IsFirstMisfit (log_of t.dones) t.dones misfit
-IsFoundIn t lines (finding.Map line) = HasLawfulBook t × IsWrongMap t (rows_of (log_of t.dones)) lines line
-IsFoundIn t lines finding.End = HasLawfulBook t × HasMap t (rows_of (log_of t.dones)) × (t.end ≢ Some (end_for t (rows_of (log_of t.dones))))
+IsFoundIn t lines (finding.Map line) = HasLawfulBook t × IsWrongMap t (log_rows (log_of t.dones)) lines line
+IsFoundIn t lines finding.End = HasLawfulBook t × HasMap t (log_rows (log_of t.dones)) × (t.end ≢ Some (end_for t (log_rows (log_of t.dones))))
 
 -- what is found of a reading
 abbrev pub IsFoundOf : Reading → Finding → Type 0

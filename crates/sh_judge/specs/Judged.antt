@@ -16,9 +16,9 @@ judge_text (Served s) = status_text s
 judge_text NotLawful = []
 
 -- how a judge ends whose finding's line was written whole
-abbrev pub ended_by : Finding → JudgeStatus
-ended_by (finding.Lawful calls entries) = Served status.Ok
-ended_by found = NotLawful
+abbrev pub finding_status : Finding → JudgeStatus
+finding_status (finding.Lawful calls entries) = Served status.Ok
+finding_status found = NotLawful
 
 -- nothing was written
 pub record Unwritten (held after : Option (List ℕ)) (fell fallen : ℕ) : Type 0 where
@@ -35,7 +35,7 @@ pub record HasFound (width : ℕ) (left rest : Option (List ℕ)) (before now : 
 pub record WroteFinding (width : ℕ) (left rest : Option (List ℕ)) (before now : ℕ) (held after : Option (List ℕ)) (fell fallen : ℕ) (s : JudgeStatus) : Type 0 where
   pub found : Finding
   pub has : HasFound width left rest before now found
-  pub ends : ended_by found ≡ s
+  pub ends : finding_status found ≡ s
   pub written : Appends held after (finding_line found)
   pub count : fallen ≡ fell
 

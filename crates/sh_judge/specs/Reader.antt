@@ -1,10 +1,10 @@
 -- How far a text is read.
 use Rattle.std.specs.Prelude.{ℕ, ◌≡◌, ◌<◌, List, length, get_or}
 use Rattle.sh_map.specs.declared.book.Done.{Done}
-use Rattle.sh_judge.specs.{declared.{found.Found.{Found}, read.ReadFault.{ReadFault}}, Reading.{Reading, Astray, Told, least_first}}
+use Rattle.sh_judge.specs.{declared.{found.Found.{Found}, read.ReadFault.{ReadFault}}, Reading.{Reading, Astray, LinesTold, least_first}}
 use Rattle.sh_judge.specs.declared.read.ReadFault.TheVariants as fault
 
-abbrev pub told_of : Found → Told
+abbrev pub told_of : Found → LinesTold
 told_of f = record { dones = f.dones.items; maps = f.maps.items; end = f.end }
 
 -- for each seat, the least place at which its next call may begin

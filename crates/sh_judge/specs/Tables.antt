@@ -1,11 +1,11 @@
 -- Tables that are kept beside the calls of a text, so that each of them is placed quickly.
 use Rattle.std.specs.{Prelude.{◌≡◌, ℕ, ◌<◌, ◌&&◌, ◌==◌, nat_lt, Bool, List, length, get_or, min, find}, List.{slice_get}}
 use Rattle.sh_map.specs.declared.book.Done.{Done}
-use Rattle.sh_judge.specs.Places.{count_at, is_at, made_by}
+use Rattle.sh_judge.specs.Places.{count_at, is_at, entry_count}
 
 -- an updating call's point is below n
-abbrev pub is_below : ℕ → Done → Bool
-is_below n d = (made_by d == 1) && nat_lt d.point n
+abbrev pub is_placed_below : ℕ → Done → Bool
+is_placed_below n d = (entry_count d == 1) && nat_lt d.point n
 
 -- for each place below n how many updating calls have it as their point, where 2 stands for several
 pub record AreCounted (n : ℕ) (dones : List Done) (counts : List ℕ) : Type 0 where

@@ -1,7 +1,7 @@
 // The line of a call.
 ghost use Rattle.std.specs.Prelude.{◌≡◌, ◌≤◌, IfSome};
-ghost use Rattle.sh_judge.specs.{CallLine.{call_of, del_reply, done_of, ends_of, found_of, key_of, put_of, put_reply, range_of, range_reply, reply_of, seat_of, two_ends}, Reading.{least_first}};
-ghost use Rattle.sh_judge.specs.Reader.{HasLeast};
+ghost use Rattle.sh_judge.specs.CallLine.{call_spelled, del_reply, done_spelled, ends_of, found_of, key_spelled, put_of, put_reply, range_spelled, range_reply, reply_spelled, seat_of, two_ends};
+ghost use Rattle.sh_judge.specs.{Reading.{least_first}, Reader.{HasLeast}};
 
 use crate::cut::{SevenFields, two};
 use crate::found::Found;
@@ -18,7 +18,7 @@ pub struct Span {
 
 // The key that a field says.
 fn key(text: &[u8]) -> Option<u64>
-    ensures { result ≡ key_of text.now }
+    ensures { result ≡ key_spelled text.now }
 {
     let n = word(text)?;
     if 1 <= n && n < u64::MAX {
@@ -39,7 +39,7 @@ fn put(words: u32, a: &[u8], b: &[u8]) -> Option<Call>
 }
 
 fn range(a: &[u8], b: &[u8]) -> Option<Call>
-    ensures { result ≡ range_of a.now b.now }
+    ensures { result ≡ range_spelled a.now b.now }
 {
     let low = key(a)?;
     let high = word(b)?;
@@ -54,7 +54,7 @@ fn range(a: &[u8], b: &[u8]) -> Option<Call>
 fn call(words: u32, op: &[u8], a: &[u8], b: &[u8]) -> Option<Call>
     requires low { 1 ≤ words }
     requires high { words ≤ 8 }
-    ensures { result ≡ call_of words op.now a.now b.now }
+    ensures { result ≡ call_spelled words op.now a.now b.now }
 {
     if op == b"put".as_slice() {
         put(words, a, b)
@@ -146,7 +146,7 @@ fn range_reply(high: u64, reply: &[u8], text: &[u8]) -> Option<Reply>
 fn reply(words: u32, call: &Call, reply: &[u8], text: &[u8]) -> Option<Reply>
     requires low { 1 ≤ words }
     requires high { words ≤ 8 }
-    ensures { result ≡ reply_of words call.now reply.now text.now }
+    ensures { result ≡ reply_spelled words call.now reply.now text.now }
 {
     match *call {
         Call::Get { .. } => found(words, reply, text),
@@ -212,7 +212,7 @@ pub(crate) fn done(
     requires low { 1 ≤ words }
     requires high { words ≤ 8 }
     requires least { HasLeast found.now.ends.items found.now.dones.items }
-    ensures said { result ≡ done_of words n (least_first found.now.dones.items) (record { seat = fields.entry.seat.now; op = fields.entry.op.now; a = fields.entry.a.now; b = fields.entry.b.now; reply = fields.entry.reply.now; value = fields.entry.value.now; point = fields.entry.point.now }) }
+    ensures said { result ≡ done_spelled words n (least_first found.now.dones.items) (record { seat = fields.entry.seat.now; op = fields.entry.op.now; a = fields.entry.a.now; b = fields.entry.b.now; reply = fields.entry.reply.now; value = fields.entry.value.now; point = fields.entry.point.now }) }
     ensures seat { IfSome result (λ d. d.seat ≤ 63) }
 {
     let seat = seat(fields.seat)?;

@@ -1,6 +1,6 @@
 // Texts cut at a byte, part by part.
 ghost use Rattle.std.specs.{Prelude.{◌≡◌, ◌∷◌, ◌==◌, [], MatchOption, option_map}, List.{position}};
-ghost use Rattle.sh_judge.specs.Fields.{parts_at, parts_behind, one_of, seven_of, three_of, two_of};
+ghost use Rattle.sh_judge.specs.Fields.{parts_at, text_parts, one_of, seven_of, three_of, two_of};
 
 /// Where the first byte of this code stands.
 pub(crate) fn find(text: &[u8], code: u8) -> Option<usize>
@@ -11,7 +11,7 @@ pub(crate) fn find(text: &[u8], code: u8) -> Option<usize>
 
 /// The part of a text before its first byte of this code, and what stands behind that byte.
 pub(crate) fn cut(text: &[u8], code: u8) -> (&[u8], Option<&[u8]>)
-    ensures { parts_at code text.now ≡ result.0.now ∷ parts_behind code (option_map (λ b. b.now) result.1) }
+    ensures { parts_at code text.now ≡ result.0.now ∷ text_parts code (option_map (λ b. b.now) result.1) }
 {
     match find(text, code) {
         Some(at) => (&text[..at], Some(&text[at + 1..])),
@@ -29,8 +29,8 @@ pub(crate) struct Piece<'a> {
 /// The next part.
 pub(crate) fn next(rest: Option<&[u8]>, code: u8) -> Option<Piece<'_>>
     ensures { MatchOption result
-        (parts_behind code (option_map (λ b. b.now) rest.entry) ≡ [])
-        (λ p. parts_behind code (option_map (λ b. b.now) rest.entry) ≡ p.part.now ∷ parts_behind code (option_map (λ b. b.now) p.rest)) }
+        (text_parts code (option_map (λ b. b.now) rest.entry) ≡ [])
+        (λ p. text_parts code (option_map (λ b. b.now) rest.entry) ≡ p.part.now ∷ text_parts code (option_map (λ b. b.now) p.rest)) }
 {
     let text = rest?;
     let (part, rest) = cut(text, code);
@@ -39,7 +39,7 @@ pub(crate) fn next(rest: Option<&[u8]>, code: u8) -> Option<Piece<'_>>
 
 // The one part that is left, if there is one and no more.
 fn last(rest: Option<&[u8]>, code: u8) -> Option<&[u8]>
-    ensures { option_map (λ b. b.now) result ≡ one_of (parts_behind code (option_map (λ b. b.now) rest.entry)) }
+    ensures { option_map (λ b. b.now) result ≡ one_of (text_parts code (option_map (λ b. b.now) rest.entry)) }
 {
     let piece = next(rest, code)?;
     match piece.rest {
@@ -57,7 +57,7 @@ pub(crate) struct TwoFields<'a> {
 
 /// The two parts that are left, if there are two.
 pub(crate) fn two(rest: Option<&[u8]>, code: u8) -> Option<TwoFields<'_>>
-    ensures { option_map (λ f. record { first = f.first.now; second = f.second.now }) result ≡ two_of (parts_behind code (option_map (λ b. b.now) rest.entry)) }
+    ensures { option_map (λ f. record { first = f.first.now; second = f.second.now }) result ≡ two_of (text_parts code (option_map (λ b. b.now) rest.entry)) }
 {
     let piece = next(rest, code)?;
     let second = last(piece.rest, code)?;
@@ -77,7 +77,7 @@ pub(crate) struct ThreeFields<'a> {
 
 /// The three fields that are left of a line, if there are three.
 pub(crate) fn three(rest: Option<&[u8]>) -> Option<ThreeFields<'_>>
-    ensures { option_map (λ f. record { first = f.first.now; second = f.second.now; third = f.third.now }) result ≡ three_of (parts_behind 44 (option_map (λ b. b.now) rest.entry)) }
+    ensures { option_map (λ f. record { first = f.first.now; second = f.second.now; third = f.third.now }) result ≡ three_of (text_parts 44 (option_map (λ b. b.now) rest.entry)) }
 {
     let piece = next(rest, b',')?;
     let more = two(piece.rest, b',')?;
@@ -102,7 +102,7 @@ pub(crate) struct SevenFields<'a> {
 
 /// The seven fields that are left of a line, if there are seven.
 pub(crate) fn seven(rest: Option<&[u8]>) -> Option<SevenFields<'_>>
-    ensures { option_map (λ f. record { seat = f.seat.now; op = f.op.now; a = f.a.now; b = f.b.now; reply = f.reply.now; value = f.value.now; point = f.point.now }) result ≡ seven_of (parts_behind 44 (option_map (λ b. b.now) rest.entry)) }
+    ensures { option_map (λ f. record { seat = f.seat.now; op = f.op.now; a = f.a.now; b = f.b.now; reply = f.reply.now; value = f.value.now; point = f.point.now }) result ≡ seven_of (text_parts 44 (option_map (λ b. b.now) rest.entry)) }
 {
     let seat = next(rest, b',')?;
     let op = next(seat.rest, b',')?;

@@ -1,7 +1,7 @@
 // What is found in the lines of a text so far.
 ghost use Rattle.std.specs.Prelude.{◌≡◌, ◌≤◌, ◌∷◌, ◌++◌, [], Some, None, IfOk, OnOk};
 ghost use Rattle.sh_map.specs.Book.{made};
-ghost use Rattle.sh_judge.specs.{Reading.{end_of, least_first, nothing_told, with_last_row, with_row}, Reader.{HasLeast, told_of}};
+ghost use Rattle.sh_judge.specs.{Reading.{least_after, least_first, nothing_told, with_last_row, with_row}, Reader.{HasLeast, told_of}};
 
 use sh_map::{Call, Done, Reply, Row};
 use std::alloc::{AllocError, Global};
@@ -44,7 +44,7 @@ pub(crate) fn made(call: &Call, reply: &Reply) -> u64
 
 // Where a call that follows on its seat may begin.
 fn end_of(done: &Done) -> u64
-    ensures { result ≡ end_of done.now }
+    ensures { result ≡ least_after done.now }
 {
     done.point.saturating_add(made(&done.call, &done.reply))
 }

@@ -1,7 +1,7 @@
 // The map that a log makes, as rows.
 ghost use Rattle.std.specs.Prelude.{◌≡◌, ◌^◌, ◌≤◌, ◌*◌, ◌↔◌, IfOk, IsTrue, MatchOption, OnOk, sum};
 ghost use Rattle.sh_map.specs.Log.{changed, map_of};
-ghost use Rattle.sh_judge.specs.{Finding.{AreUnlikeAt, rows_of, sum_of}, Trees.{map_in, rows_in}};
+ghost use Rattle.sh_judge.specs.{Finding.{AreUnlikeAt, log_rows, value_sum}, Trees.{tree_map, map_rows}};
 
 use sh_base::Value;
 use sh_map::{Change, Entry, Row};
@@ -10,7 +10,7 @@ use std::collections::BTreeMap;
 
 // Makes a change.
 fn apply(tree: &mut BTreeMap<u64, Value>, change: &Change) -> Result<(), AllocError>
-    ensures { OnOk result (map_in tree.new ≡ changed (map_in tree.old) change.now) }
+    ensures { OnOk result (tree_map tree.new ≡ changed (tree_map tree.old) change.now) }
 {
     match *change {
         Change::Put { key, value } => {
@@ -25,7 +25,7 @@ fn apply(tree: &mut BTreeMap<u64, Value>, change: &Change) -> Result<(), AllocEr
 
 // The map of a log.
 fn tree_of(alloc: Global, log: &[Entry]) -> Result<BTreeMap<u64, Value>, AllocError>
-    ensures { IfOk result (λ tree. map_in tree ≡ map_of log.now) }
+    ensures { IfOk result (λ tree. tree_map tree ≡ map_of log.now) }
 {
     let mut tree = BTreeMap::new(alloc);
     for entry in log {
@@ -36,7 +36,7 @@ fn tree_of(alloc: Global, log: &[Entry]) -> Result<BTreeMap<u64, Value>, AllocEr
 
 // The rows of a map, by rising keys.
 fn rows_in(alloc: Global, tree: &BTreeMap<u64, Value>) -> Result<Vec<Row>, AllocError>
-    ensures { IfOk result (λ rows. rows.items ≡ rows_in (map_in tree.now)) }
+    ensures { IfOk result (λ rows. rows.items ≡ map_rows (tree_map tree.now)) }
 {
     let mut rows = Vec::new(alloc);
     for (key, value) in tree.iter() {
@@ -50,7 +50,7 @@ fn rows_in(alloc: Global, tree: &BTreeMap<u64, Value>) -> Result<Vec<Row>, Alloc
 
 /// The rows of the map of a log, by rising keys.
 pub(crate) fn last_rows(alloc: Global, log: &[Entry]) -> Result<Vec<Row>, AllocError>
-    ensures { IfOk result (λ rows. rows.items ≡ rows_of log.now) }
+    ensures { IfOk result (λ rows. rows.items ≡ log_rows log.now) }
 {
     let tree = tree_of(alloc, log)?;
     rows_in(alloc, &tree)
@@ -95,7 +95,7 @@ fn sum_of_value(value: &Value) -> u128
 
 /// The sum of all words of the rows' values, where it is below 2^128.
 pub(crate) fn sum_of(rows: &[Row]) -> Option<u128>
-    ensures { MatchOption result (2 ^ 128 ≤ sum_of rows.now) (λ total. total ≡ sum_of rows.now) }
+    ensures { MatchOption result (2 ^ 128 ≤ value_sum rows.now) (λ total. total ≡ value_sum rows.now) }
 {
     let mut total = 0u128;
     for row in rows {

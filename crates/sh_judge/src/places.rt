@@ -1,6 +1,6 @@
 // The places of calls in a log.
 ghost use Rattle.std.specs.{Prelude.{◌≡◌, ◌≢◌, ◌≤◌, ◌<◌, ◌+◌, ◌++◌, ℕ, IfOk, MatchOption, get_or, length, slice_get, vec_len}, Vec.{vec_capacity}};
-ghost use Rattle.sh_judge.specs.{Places.{ArePlaced, IsLeastUnplaced, entry_of, log_of, log_to, made_by, updates}, Tables.{AreCounted, AreOwners, is_below}};
+ghost use Rattle.sh_judge.specs.{Places.{ArePlaced, IsLeastUnplaced, entry_of, log_of, log_to, entry_count, update_count}, Tables.{AreCounted, AreOwners, is_placed_below}};
 
 use crate::found::made;
 use sh_map::{Done, Log, log_call};
@@ -8,7 +8,7 @@ use std::alloc::{AllocError, Global};
 
 // How many entries a call has made.
 fn made_by(done: &Done) -> usize
-    ensures made { result ≡ made_by done.now }
+    ensures made { result ≡ entry_count done.now }
     ensures small { result ≤ 1 }
 {
     made(&done.call, &done.reply) as usize
@@ -16,7 +16,7 @@ fn made_by(done: &Done) -> usize
 
 /// How many updating calls there are.
 pub(crate) fn updates(dones: &[Done]) -> usize
-    ensures { result ≡ updates dones.now }
+    ensures { result ≡ update_count dones.now }
 {
     let mut count = 0;
     for done in dones {
@@ -27,7 +27,7 @@ pub(crate) fn updates(dones: &[Done]) -> usize
 
 // Whether a call has made an entry, and its point is below `len`.
 fn is_below(len: usize, done: &Done) -> bool
-    ensures { result ≡ is_below len done.now }
+    ensures { result ≡ is_placed_below len done.now }
 {
     made_by(done) == 1 && done.point < len as u64
 }
@@ -70,7 +70,7 @@ pub(crate) fn first_unplaced(
     len: usize,
     dones: &[Done],
 ) -> Result<Option<usize>, AllocError>
-    requires { len ≡ updates dones.now }
+    requires { len ≡ update_count dones.now }
     ensures { IfOk result (λ found. MatchOption found (ArePlaced dones.now) (λ at. IsLeastUnplaced dones.now at)) }
 {
     let counts = counts(alloc, len, dones)?;
@@ -115,7 +115,7 @@ fn push_entry(log: &mut Log, dones: &[Done], at: usize)
 
 /// The log of these calls. Condition: there are `len` updating calls.
 pub(crate) fn log_of(alloc: Global, len: usize, dones: &[Done]) -> Result<Log, AllocError>
-    requires { len ≡ updates dones.now }
+    requires { len ≡ update_count dones.now }
     ensures { IfOk result (λ log. log.items ≡ log_of dones.now) }
 {
     let owners = owners(alloc, len, dones)?;

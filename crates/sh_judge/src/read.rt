@@ -1,6 +1,7 @@
 // The lines of a text, each in its place.
 ghost use Rattle.std.specs.Prelude.{◌≡◌, ◌≤◌, ◌<◌, ◌+◌, ◌∷◌, [], Some, None, IfOk, IfSome, OnOk, MatchOption, MatchResult, if◌then◌else◌, length, option_map};
-ghost use Rattle.sh_judge.specs.{Fields.{parts_at, parts_behind}, Reading.{AllTold, call_in, end_in, ends_in_range, map_in, reading_of, reading_from, row_in, row_of, says, with_fields, with_line}};
+ghost use Rattle.sh_judge.specs.Fields.{parts_at, text_parts};
+ghost use Rattle.sh_judge.specs.Reading.{AllTold, call_in, end_said, ends_in_range, pair_said, reading_of, reading_from, row_said, row_spelled, says, with_fields, told_with};
 ghost use Rattle.sh_judge.specs.{Reader.{HasLeast, IsReadFault, told_of}, declared.read.ReadFault.TheVariants.{NoMemory}};
 
 use crate::call::done;
@@ -41,7 +42,7 @@ fn says(text: &[u8], n: u64) -> bool
 fn row(words: u32, key: &[u8], text: &[u8]) -> Option<Row>
     requires low { 1 ≤ words }
     requires high { words ≤ 8 }
-    ensures { result ≡ row_of words key.now text.now }
+    ensures { result ≡ row_spelled words key.now text.now }
 {
     let key = word(key)?;
     let value = value(text, words)?;
@@ -69,7 +70,7 @@ fn call_in(
     requires low { 1 ≤ words }
     requires high { words ≤ 8 }
     requires least { HasLeast found.now.ends.items found.now.dones.items }
-    ensures said { result ≡ call_in words (told_of found.now) number.now (parts_behind 44 (option_map (λ b. b.now) rest.entry)) }
+    ensures said { result ≡ call_in words (told_of found.now) number.now (text_parts 44 (option_map (λ b. b.now) rest.entry)) }
     ensures seat { IfSome result (λ d. d.seat ≤ 63) }
 {
     let before = found.dones.len();
@@ -87,7 +88,7 @@ fn call_in(
 fn row_in(words: u32, found: &Found, rest: Option<&[u8]>) -> Option<Row>
     requires low { 1 ≤ words }
     requires high { words ≤ 8 }
-    ensures { result ≡ row_in words (told_of found.now) (parts_behind 44 (option_map (λ b. b.now) rest.entry)) }
+    ensures { result ≡ row_said words (told_of found.now) (text_parts 44 (option_map (λ b. b.now) rest.entry)) }
 {
     if !ends_in_range(&found.dones) || !found.maps.is_empty() {
         return None;
@@ -103,7 +104,7 @@ fn row_in(words: u32, found: &Found, rest: Option<&[u8]>) -> Option<Row>
 fn map_in(words: u32, rest: Option<&[u8]>) -> Option<Row>
     requires low { 1 ≤ words }
     requires high { words ≤ 8 }
-    ensures { result ≡ map_in words (parts_behind 44 (option_map (λ b. b.now) rest.entry)) }
+    ensures { result ≡ pair_said words (text_parts 44 (option_map (λ b. b.now) rest.entry)) }
 {
     let fields = two(rest, b',')?;
     row(words, fields.first, fields.second)
@@ -111,7 +112,7 @@ fn map_in(words: u32, rest: Option<&[u8]>) -> Option<Row>
 
 // The numbers of a last line.
 fn end_in(rest: Option<&[u8]>) -> Option<End>
-    ensures { result ≡ end_in (parts_behind 44 (option_map (λ b. b.now) rest.entry)) }
+    ensures { result ≡ end_said (text_parts 44 (option_map (λ b. b.now) rest.entry)) }
 {
     let fields = three(rest)?;
     let calls = word(fields.first)?;
@@ -133,7 +134,7 @@ fn take_fields(
     requires least { HasLeast found.old.ends.items found.old.dones.items }
     ensures least { OnOk result (HasLeast found.new.ends.items found.new.dones.items) }
     ensures maps { OnOk result (length found.new.maps.items ≤ length found.old.maps.items + 1) }
-    ensures taken { IfOk result (λ taken. with_fields words (told_of found.old) (first.now ∷ parts_behind 44 (option_map (λ b. b.now) rest.entry)) ≡ (if taken then Some (told_of found.new) else None)) }
+    ensures taken { IfOk result (λ taken. with_fields words (told_of found.old) (first.now ∷ text_parts 44 (option_map (λ b. b.now) rest.entry)) ≡ (if taken then Some (told_of found.new) else None)) }
 {
     if first == b"row".as_slice() {
         let Some(row) = row_in(words, found, rest) else {
@@ -160,14 +161,14 @@ fn take_fields(
 }
 
 // Takes a line; whether it is in its place.
-#[tactic(auto, unfolding(crate::specs::Reading::with_line))]
+#[tactic(auto, unfolding(crate::specs::Reading::told_with))]
 fn take_line(alloc: Global, words: u32, found: &mut Found, line: &[u8]) -> Result<bool, AllocError>
     requires low { 1 ≤ words }
     requires high { words ≤ 8 }
     requires least { HasLeast found.old.ends.items found.old.dones.items }
     ensures least { OnOk result (HasLeast found.new.ends.items found.new.dones.items) }
     ensures maps { OnOk result (length found.new.maps.items ≤ length found.old.maps.items + 1) }
-    ensures taken { IfOk result (λ taken. with_line words (told_of found.old) line.now ≡ (if taken then Some (told_of found.new) else None)) }
+    ensures taken { IfOk result (λ taken. told_with words (told_of found.old) line.now ≡ (if taken then Some (told_of found.new) else None)) }
 {
     if found.end.is_some() {
         return Ok(false);

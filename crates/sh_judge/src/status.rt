@@ -1,9 +1,9 @@
 // How a judge ended, as a code and as a text.
 ghost use Rattle.std.specs.Prelude.{◌≡◌, Some};
-ghost use Rattle.sh_judge.specs.Judged.{ended_by, judge_code, judge_text};
+ghost use Rattle.sh_judge.specs.Judged.{finding_status, judge_code, judge_text};
 
 use crate::Finding;
-use sh_sheet::Status;
+use sh_sheet::{Status, StatusText};
 use std::fmt;
 
 /// How a judge ended.
@@ -25,22 +25,29 @@ impl JudgeStatus {
             JudgeStatus::NotLawful => 14,
         }
     }
+
+    /// The text that tells it: that of the status, and none where the finding's line tells it.
+    pub fn text(&self) -> StatusText
+        ensures { result.bytes ≡ judge_text self.now }
+    {
+        match *self {
+            JudgeStatus::Served(status) => status.text(),
+            JudgeStatus::NotLawful => StatusText::new(),
+        }
+    }
 }
 
 impl fmt::Display for JudgeStatus {
     ghost output = { λ status. Some (judge_text status) };
 
     fn fmt<W: fmt::Write>(&self, f: &mut fmt::Formatter<W>) -> fmt::Result {
-        match *self {
-            JudgeStatus::Served(status) => write!(f, "{status}"),
-            JudgeStatus::NotLawful => Ok(()),
-        }
+        f.write_str(self.text().as_str())
     }
 }
 
 /// How a judge ends whose finding's line was written whole.
 pub(crate) fn ended_by(found: &Finding) -> JudgeStatus
-    ensures { result ≡ ended_by found.now }
+    ensures { result ≡ finding_status found.now }
 {
     match *found {
         Finding::Lawful { .. } => JudgeStatus::Served(Status::Ok),

@@ -221,3 +221,22 @@ fn words_and_faults_are_told(rt: HostRuntime) -> Result<(), Fail> {
     assert_eq!(rt; JudgeStatus::Served(Status::TooLong).code(), 5);
     Ok(())
 }
+
+// Whether an end has this text and this code, also as it is displayed.
+fn is_told(alloc: Global, end: JudgeStatus, code: u8, text: &str) -> Result<bool, AllocError> {
+    let shown = format!(in alloc; "{end}")?;
+    Ok(end.code() == code && end.text().as_str() == text && shown.as_str() == text)
+}
+
+#[test]
+fn ends_are_told(rt: HostRuntime) -> Result<(), Fail> {
+    for (end, code, text) in [
+        (JudgeStatus::Served(Status::Ok), 0, ""),
+        (JudgeStatus::Served(Status::Usage), 2, "usage"),
+        (JudgeStatus::Served(Status::NoMemory), 8, "no memory"),
+        (JudgeStatus::NotLawful, 14, ""),
+    ] {
+        assert!(rt; is_told(rt.alloc(), end, code, text)?, "{text}");
+    }
+    Ok(())
+}

@@ -1,6 +1,6 @@
 -- Each option's value is a number just where each value of the uses is.
 use Rattle.std.{proofs.Common.{◌≡◌, Bool, true, false, not, ◌&&◌, List, [], ◌∷◌, ◌++◌, Option, Some, None, refl, ap, ap₂, sym, ◌∙◌, append_assoc}, specs.Prelude.{option_and_then, if◌then◌else◌}}
-use Rattle.std.specs.{List.{list_all}, Option.{option_map_or}, Str.{bytes_eq}}
+use Rattle.std.{specs.{List.{list_all}, Option.{option_map_or}, Str.{bytes_eq}}, proofs.lemmas.Bool.{not-true}}
 use Rattle.clap.{specs.{Words.{first_value, found_of}, declared.parser.matches.ArgMatches.{ArgMatches}}, proofs.WalkLemmas.{both}}
 use Rattle.sh_logic.proofs.Tests.{or_false}
 use Rattle.sh_options.{specs.{Holds.{Holds, Told}, Uses.{Names, Text, Use, all_numbers, has_use, is_among, is_lawful, is_once_after, told_by, told_if, option_value}}, proofs.Agree.{not_true}}
@@ -90,3 +90,7 @@ told_at n words m h lawful b is good = record {
 
 pub untold_at : (n : Names) (words : List Text) (m : ArgMatches) → Holds n words m → is_lawful n ≡ true → (b : Bool) → b ≡ list_all (reads_right m) n.options → b ≡ false → told_by n words ≡ None
 untold_at n words m h lawful b is bad = told_is n words m h false (sym (checks_are n words m h lawful) ∙ sym is ∙ bad)
+
+-- an option is no flag, where no option is
+pub no_flag : (options flags : List Text) (name : Text) → list_all (λ o. not (is_among o flags)) options ≡ true → is_among name options ≡ true → is_among name flags ≡ false
+no_flag options flags name apart among = not-true (is_among name flags) (each_of (λ o. not (is_among o flags)) options name apart among)

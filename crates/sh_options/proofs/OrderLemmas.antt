@@ -52,21 +52,21 @@ module _ (g : ℕ → ℕ) (each : (n low high : ℕ) (f : ConfigFault) (next : 
       let (o, o') = each _ _ _ _ _ (omega arith) m' in
       simp (a, b, c, d, f, h, i, j, k, l, m, o)
 
--- so keeping the numbers in 32 bits changes no answer
-pub narrow_same : (g : Given) → asked_if (narrowed g) ≡ asked_if g
+-- so keeping the numbers in 32 bits changes no answer that is nothing where the setting is refused
+pub narrow_kept : {X : Type 0} (f : ConfigParts → Option X) (p : ConfigParts) → ((q : ConfigParts) (why : ConfigFault) → fault_of q ≡ Some why → f q ≡ None) → f (narrow_parts p) ≡ f p
 unfolding narrow_parts
-narrow_same g = go (fault_of (narrow_parts g.parts)) (fault_of g.parts) refl refl
+narrow_kept f p none = go (fault_of (narrow_parts p)) (fault_of p) refl refl
   where
     size : ConfigParts → Option ConfigFault
     size q = outside (pool_words q) 0 4194304 (TooLarge (pool_words q)) None
 
-    same : narrow_parts g.parts ≡ g.parts → asked_if (narrowed g) ≡ asked_if g
-    same e = ap (λ (q : ConfigParts). asked_if (record g { parts = q })) e
+    go : (a b : Option ConfigFault) → fault_of (narrow_parts p) ≡ a → fault_of p ≡ b → f (narrow_parts p) ≡ f p
+    go None b i j = ap f (all_kept narrow kept p size i)
+    go (Some w) None i j = ap f (all_kept (λ n. n) kept_too p size j)
+    go (Some w) (Some v) i j = none (narrow_parts p) w i ∙ sym (none p v j)
 
-    go : (a b : Option ConfigFault) → fault_of (narrow_parts g.parts) ≡ a → fault_of g.parts ≡ b → asked_if (narrowed g) ≡ asked_if g
-    go None b i j = same (all_kept narrow kept g.parts size i)
-    go (Some f) None i j = same (all_kept (λ n. n) kept_too g.parts size j)
-    go (Some f) (Some h) i j = simp (i, j)
+pub narrow_same : (g : Given) → asked_if (narrowed g) ≡ asked_if g
+narrow_same g = narrow_kept (λ q. asked_if (record g { parts = q })) g.parts (λ q why e. simp e)
 
 -- ---- the order
 

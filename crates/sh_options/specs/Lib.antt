@@ -1,3 +1,4 @@
+pub mod Args
 pub mod Command
 pub mod Holds
 pub mod Narrow

@@ -77,3 +77,7 @@ pub record ReadsAs (f : Found) (us : List Use) : Type 0 where
   pub map : one_text f (codes "map") ≡ flag_text true (has_use (codes "map") us)
   pub known : Bool
   pub events : one_text f (codes "events") ≡ flag_text known (has_use (codes "events") us)
+
+-- the options of the setting's numbers read as the uses have them
+abbrev pub ReadsSetting : Found → List Use → Type 0
+ReadsSetting f us = (name : Text) → is_among name setting_options ≡ true → first_value f name ≡ option_value name us

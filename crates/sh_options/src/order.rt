@@ -1,8 +1,8 @@
 // What the words of a program ask for.
-ghost use Rattle.std.specs.{Prelude.{◌≡◌, ◌&&◌, List, map, Some, None, IfOk, IsErrOf, nat_le, option_and_then, true, unwrap_or}, Option.{option_map_or}};
+ghost use Rattle.std.specs.{Prelude.{◌≡◌, ◌&&◌, List, map, Some, None, IfOk, IfSome, IsErrOf, MatchOption, nat_le, option_and_then, true, unwrap_or}, Option.{option_map_or}};
 ghost use Rattle.clap.specs.Words.{first_value, found_of};
 ghost use Rattle.sh_sheet.specs.Number.{number_of};
-ghost use Rattle.sh_options.specs.{Narrow.{narrow, narrow_parts, narrowed}, Order.{ReadsAs, asked_if, asked_of, given_in, order_of, parts_in}, Uses.{Use}};
+ghost use Rattle.sh_options.specs.{Narrow.{narrow, narrow_parts, narrowed}, Order.{ReadsAs, asked_if, asked_of, given_in, order_of, parts_in, ReadsSetting}, Uses.{Use}};
 ghost use Rattle.sh_options.specs.declared.order.WordFault.TheVariants.{NoMemory};
 
 use crate::names::{flags_for, options_for};
@@ -61,23 +61,27 @@ pub struct Given {
 pub fn read_words(alloc: Global, words: &[&str], mode: Mode) -> Result<Order, WordFault>
     ensures order { IfOk result (λ o. order_of mode (map (λ w. w.now) words.now) ≡ Some (asked_of o)) }
     ensures usage { IsErrOf result WordFault.Usage → order_of mode (map (λ w. w.now) words.now) ≡ None }
+    ensures make { IfOk result (λ o. option_map_or (λ n. nat_le 1 n && nat_le n 1000000) o.make true ≡ true) }
 {
     let matches = tell(alloc, options_for(mode), flags_for(mode), words)?;
-    order_from(read_given(&matches))
+    match order_from(read_given(&matches)) {
+        Some(order) => Ok(order),
+        None => Err(WordFault::Usage),
+    }
 }
 
-// The order, where what is given is sound.
-fn order_from(given: Given) -> Result<Order, WordFault>
-    ensures order { IfOk result (λ o. asked_if given ≡ Some (asked_of o)) }
-    ensures usage { IsErrOf result WordFault.Usage → asked_if given ≡ None }
+// The order, exactly where what is given is sound.
+fn order_from(given: Given) -> Option<Order>
+    ensures order { MatchOption result (asked_if given ≡ None) (λ o. asked_if given ≡ Some (asked_of o)) }
+    ensures make { IfSome result (λ o. option_map_or (λ n. nat_le 1 n && nat_le n 1000000) o.make true ≡ true) }
 {
     let Ok(cfg) = Config::new(given.parts) else {
-        return Err(WordFault::Usage);
+        return None;
     };
     if !is_count_of_calls(given.make) || given.seed.is_some() && given.make.is_none() {
-        return Err(WordFault::Usage);
+        return None;
     }
-    Ok(Order {
+    Some(Order {
         cfg,
         map: given.map,
         events: given.events,
@@ -101,7 +105,7 @@ fn read_given(matches: &ArgMatches) -> Given
     ensures { (us : List Use) → ReadsAs (found_of matches.now) us → result ≡ narrowed (given_in us) }
 {
     Given {
-        parts: parts(matches),
+        parts: setting_parts(matches),
         map: is_used(matches, "map"),
         events: is_used(matches, "events"),
         make: number(matches, "make"),
@@ -109,10 +113,11 @@ fn read_given(matches: &ArgMatches) -> Given
     }
 }
 
-// The numbers of the setting; each that isn't given has its default.
+/// The numbers of the setting; each that isn't given has its default, and one that 32 bits don't hold is the last one that
+/// they hold.
 #[tactic(auto, unfolding(crate::specs::Narrow::narrow_parts))]
-fn parts(matches: &ArgMatches) -> ConfigParts
-    ensures { (us : List Use) → ReadsAs (found_of matches.now) us → result ≡ narrow_parts (parts_in us) }
+pub fn setting_parts(matches: &ArgMatches) -> ConfigParts
+    ensures { (us : List Use) → ReadsSetting (found_of matches.now) us → result ≡ narrow_parts (parts_in us) }
 {
     let usual = ConfigParts::default();
     ConfigParts {

@@ -3,7 +3,7 @@ use Rattle.std.{specs.{Prelude.{slice_index, MatchOption}, FinMap.{entries}}, pr
 use Rattle.sh_base.specs.{Setting.{pool_words, IsSetting}, declared.config.ConfigParts.{ConfigParts}}
 use Rattle.sh_map.specs.{Map.{row_pair}, declared.book.Row.{Row}}
 use Rattle.sh_tree.specs.Tree.{map_in, IsTree}
-use Rattle.sh_picture.specs.{Picture.{numbers_from, parts_in, picture_of, words_in}, Verdict.{IsGoodPool, IsLawful}}
+use Rattle.sh_picture.specs.{Picture.{numbers_spelled, parts_spelled, picture_of, words_in}, Verdict.{IsGoodPool, IsTreePicture}}
 use Rattle.sh_picture.{proofs.PictureLemmas.{numbers_long, picture_back, words_is, words_small, AreBytes}, specs.Fault.{HasWords, IsFirstPlace, IsIdle, IsNoTree, IsPoolFault}}
 use Rattle.sh_picture.specs.declared.place.FirstPlace.{FirstPlace, TheVariants.{Short, Magic, Setting, Length, Zero, Lock, Root, Chain, Pair, Twice}}
 
@@ -19,7 +19,7 @@ of_tree p words (Chain level node) idle h = (idle, h)
 of_tree p words (Pair node index) idle h = (idle, h)
 of_tree p words (Twice node key) idle h = (idle, h)
 
-pub of_pool : (bytes : List ℕ) (place : FirstPlace) → HasWords bytes → IsPoolFault (parts_in bytes) (words_in bytes) place → IsFirstPlace bytes place
+pub of_pool : (bytes : List ℕ) (place : FirstPlace) → HasWords bytes → IsPoolFault (parts_spelled bytes) (words_in bytes) place → IsFirstPlace bytes place
 of_pool bytes Short w h = absurd h.1
 of_pool bytes (Magic at) w h = absurd h.1
 of_pool bytes (Setting fault) w h = absurd h.1
@@ -32,13 +32,13 @@ of_pool bytes (Pair node index) w h = (w, h)
 of_pool bytes (Twice node key) w h = (w, h)
 
 -- what the code found in the words is so of the bytes
-pub refused_of : (bytes : List ℕ) (p : ConfigParts) (words : List ℕ) (found : Option FirstPlace) (place : FirstPlace) → found ≡ Some place → HasWords bytes × (p ≡ parts_in bytes) → words ≡ numbers_from 8 (pool_words p) (drop 56 bytes) → MatchOption found (IsGoodPool p words) (λ x. IsPoolFault p words x) → IsFirstPlace bytes place
+pub refused_of : (bytes : List ℕ) (p : ConfigParts) (words : List ℕ) (found : Option FirstPlace) (place : FirstPlace) → found ≡ Some place → HasWords bytes × (p ≡ parts_spelled bytes) → words ≡ numbers_spelled 8 (pool_words p) (drop 56 bytes) → MatchOption found (IsGoodPool p words) (λ x. IsPoolFault p words x) → IsFirstPlace bytes place
 refused_of bytes p words found place is w e m =
     let bad : IsPoolFault p words place = subst (λ (o : Option FirstPlace). MatchOption o (IsGoodPool p words) (λ x. IsPoolFault p words x)) is m in
-    let at : IsPoolFault (parts_in bytes) words place = subst (λ (q : ConfigParts). IsPoolFault q words place) w.1 bad in
-    of_pool bytes place w.0 (subst (λ (ws : List ℕ). IsPoolFault (parts_in bytes) ws place) (words_is bytes words p w.1 e) at)
+    let at : IsPoolFault (parts_spelled bytes) words place = subst (λ (q : ConfigParts). IsPoolFault q words place) w.1 bad in
+    of_pool bytes place w.0 (subst (λ (ws : List ℕ). IsPoolFault (parts_spelled bytes) ws place) (words_is bytes words p w.1 e) at)
 
-pub lawful_of : (bytes : List ℕ) (p : ConfigParts) (words other : List ℕ) (found : Option FirstPlace) (rows : List Row) → AreBytes bytes → IsSetting p → HasWords bytes × (p ≡ parts_in bytes) → words ≡ numbers_from 8 (pool_words p) (drop 56 bytes) → other ≡ words → found ≡ None → MatchOption found (IsGoodPool p words) (λ x. IsPoolFault p words x) → ((levels : List (List ℕ)) → IsTree p other levels → map row_pair rows ≡ entries (map_in p other levels)) → IsLawful bytes p rows
+pub lawful_of : (bytes : List ℕ) (p : ConfigParts) (words other : List ℕ) (found : Option FirstPlace) (rows : List Row) → AreBytes bytes → IsSetting p → HasWords bytes × (p ≡ parts_spelled bytes) → words ≡ numbers_spelled 8 (pool_words p) (drop 56 bytes) → other ≡ words → found ≡ None → MatchOption found (IsGoodPool p words) (λ x. IsPoolFault p words x) → ((levels : List (List ℕ)) → IsTree p other levels → map row_pair rows ≡ entries (map_in p other levels)) → IsTreePicture bytes p rows
 lawful_of bytes p words other found rows h setting w e same is m pairs =
     let good : IsGoodPool p words = subst (λ (o : Option FirstPlace). MatchOption o (IsGoodPool p words) (λ x. IsPoolFault p words x)) is m in
     record {

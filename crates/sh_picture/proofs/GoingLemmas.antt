@@ -1,8 +1,8 @@
 -- The walk down the levels, as far as it has come.
 use Rattle.std.proofs.{Common.{◌≡◌, ◌≢◌, ℕ, suc, ◌+◌, ◌-◌, ◌<◌, ◌≤◌, List, Vec, Global, [], ◌∷◌, ◌++◌, length, refl, sym, ap, subst, ◌∙◌, inl, inr, length-append, arith}, lemmas.Bool.{cases_eq}}
 use Rattle.sh_base.specs.{declared.config.ConfigParts.{ConfigParts}, Setting.{nodes, IsNode}}
-use Rattle.sh_picture.specs.{Walk.{child_at, level_at, root_of, IsAlong, IsDown, IsLevel, IsSound, IsSpelled, IsUnsound, IsWalked}, Walks.{LevelWalked, StopsAt}, declared.walked.LevelWalk.{LevelWalk}}
-use Rattle.sh_picture.{specs.declared.walked.LevelWalk.TheVariants.{Whole}, proofs.{NodeLemmas.{first_child}, WalkLemmas.{down_more}}}
+use Rattle.sh_picture.specs.{Walk.{first_child, level_at, root_of, IsAlong, IsDown, IsLevel, IsSoundNode, IsSpelled, IsUnsound, IsWalked}, Walks.{LevelWalked, StopsAt}}
+use Rattle.sh_picture.{specs.declared.walked.LevelWalk.{LevelWalk, TheVariants.{Whole}}, proofs.{NodeLemmas.{child_inside}, WalkLemmas.{down_more}}}
 
 -- so many levels are walked, and `first` is the first number of the next one, if there is one
 pub record IsGoing (p : ConfigParts) (words : List ℕ) (top depth : ℕ) (above : List (List ℕ)) (first : ℕ) : Type 0 where
@@ -17,24 +17,24 @@ module _ (p : ConfigParts) (words : List ℕ) where
   pub whole_of : (level first : ℕ) (walk : LevelWalk) (nodes : Vec ℕ Global) → walk ≡ Whole nodes → LevelWalked p words level first walk → IsLevel p words level first nodes.items
   whole_of level first walk nodes is h = subst (LevelWalked p words level first) is h
 
-  level_head : (level first : ℕ) (ns : List ℕ) (high : ℕ) → IsAlong p words level first 0 ns 0 high → first ≢ 0 → IsSound p words level 0 first
+  level_head : (level first : ℕ) (ns : List ℕ) (high : ℕ) → IsAlong p words level first 0 ns 0 high → first ≢ 0 → IsSoundNode p words level 0 first
   level_head level first [] high h some = absurd (some (sym h.0))
-  level_head level first (n ∷ ns) high h some = subst (IsSound p words level 0) (sym h.0) h.1
+  level_head level first (n ∷ ns) high h some = subst (IsSoundNode p words level 0) (sym h.0) h.1
 
-  pub level_first : (level first : ℕ) (ns : List ℕ) → IsLevel p words level first ns → first ≢ 0 → IsSound p words level 0 first
+  pub level_first : (level first : ℕ) (ns : List ℕ) → IsLevel p words level first ns → first ≢ 0 → IsSoundNode p words level 0 first
   level_first level first ns h some = level_head level first ns h.high h.along some
 
   -- the level word of a node that spells an image is small
   pub level_small : (n : ℕ) → IsSpelled p words n → level_at p words n < nodes p
   level_small n h = elim (cases_eq (level_at p words n) 0) [
     | inl z ↦ omega (arith, z, h.node.first, h.node.last)
-    | inr some ↦ (first_child p words n h some).1
+    | inr some ↦ (child_inside p words n h some).1
   ]
 
   pub going_none : (top root : ℕ) → root ≡ root_of words → IsSpelled p words (root_of words) → IsGoing p words top 0 [] root
   going_none top root is h = record { number = root_of words; count = refl; within = omega arith; down = refl; here = λ le. (h.node, is) }
 
-  pub going_more : (top depth : ℕ) (above : List (List ℕ)) (first next : ℕ) (ns : List ℕ) → depth ≤ top → IsGoing p words top depth above first → IsLevel p words (top - depth) first ns → (child_at p words first ≤ nodes p → next ≡ child_at p words first) → IsGoing p words top (depth + 1) (above ++ ns ∷ []) next
+  pub going_more : (top depth : ℕ) (above : List (List ℕ)) (first next : ℕ) (ns : List ℕ) → depth ≤ top → IsGoing p words top depth above first → IsLevel p words (top - depth) first ns → (first_child p words first ≤ nodes p → next ≡ first_child p words first) → IsGoing p words top (depth + 1) (above ++ ns ∷ []) next
   going_more top depth above first next ns le h level is =
       let at : first ≡ h.number = (h.here le).1 in
       let node : IsNode p h.number = (h.here le).0 in
@@ -43,14 +43,14 @@ module _ (p : ConfigParts) (words : List ℕ) where
       let now : suc top - (depth + 1) ≡ top - depth = omega (arith, le) in
       let down = down_more p words (top - depth) (root_of words) above h.number ns (subst (λ (l : ℕ). IsDown p words l (root_of words) above h.number) left h.down) level_is in
       record {
-        number = child_at p words h.number;
+        number = first_child p words h.number;
         count = omega (arith, length-append above (ns ∷ []), h.count);
         within = omega (arith, le);
-        down = subst (λ (l : ℕ). IsDown p words l (root_of words) (above ++ ns ∷ []) (child_at p words h.number)) (sym now) down;
+        down = subst (λ (l : ℕ). IsDown p words l (root_of words) (above ++ ns ∷ []) (first_child p words h.number)) (sym now) down;
         here = λ more.
             let s = level_first (top - depth) h.number ns level_is (λ z. omega (arith, z, node.first)) in
-            let child = (first_child p words h.number s.spelled (λ z. omega (arith, z, s.level_is, more))).0 in
-            (child, is (subst (λ (f : ℕ). child_at p words f ≤ nodes p) (sym at) child.last) ∙ ap (child_at p words) at);
+            let child = (child_inside p words h.number s.spelled (λ z. omega (arith, z, s.level_is, more))).0 in
+            (child, is (subst (λ (f : ℕ). first_child p words f ≤ nodes p) (sym at) child.last) ∙ ap (first_child p words) at);
       }
 
   pub going_stops : (top depth : ℕ) (above : List (List ℕ)) (first node : ℕ) → top ≡ level_at p words (root_of words) → depth ≤ top → IsGoing p words top depth above first → StopsAt p words (top - depth) first node → IsUnsound p words (top - depth) node

@@ -6,7 +6,7 @@ use Rattle.sh_logic.proofs.Lists.{all_at}
 use Rattle.sh_base.specs.{Setting.{IsNode}, declared.config.ConfigParts.{ConfigParts}}
 use Rattle.sh_image.specs.{declared.{inner.Pair.{Pair}, leaf.LeafEntry.{LeafEntry}}, Inner.{no_pair}, Entries.{keys_of}}
 use Rattle.sh_tree.{specs.{Tree.{leaves_of}, Lists.{is_in}}, proofs.ListLemmas.{in_cases, in_front, in_head, in_more}}
-use Rattle.sh_picture.{specs.Walk.{child_at, IsDown}, proofs.{NodeLemmas.{spelled_inner, spelled_leaf}, TreeLemmas.{along_on, IsOn}}}
+use Rattle.sh_picture.{specs.Walk.{first_child, IsDown}, proofs.{NodeLemmas.{spelled_inner, spelled_leaf}, TreeLemmas.{along_on, IsOn}}}
 use Rattle.sh_picture.specs.{Tree.{keys_at, level_nodes, AllLeadBelow, IsFirstAstray, IsFirstTwice, IsOnce, IsTwice, LevelLeads}, Marks.{AreInner, AreLeaves, AreMarked, AreUnder, IsAstrayIn, TwiceBy}}
 use Rattle.sh_edit.specs.Held.{key_at, HasKeysOnce}
 
@@ -128,21 +128,21 @@ module _ (p : ConfigParts) (words : List ℕ) (levels : List (List ℕ)) where
   walked_inner first to (c ∷ rest) h zero lt = λ i below.
       let on = all_at (IsOn p words (length rest + 0)) c i 0 (along_on p words (length rest + 0) first 0 c 0 h.0.high h.0.along) below in
       (on.spelled.node, spelled_inner p words (get_or c i 0) on.spelled (λ z. omega (arith, z, on.level_is, lt)))
-  walked_inner first to (c ∷ rest) h (suc d) lt = walked_inner (child_at p words first) to rest h.1 d (omega (arith, lt))
+  walked_inner first to (c ∷ rest) h (suc d) lt = walked_inner (first_child p words first) to rest h.1 d (omega (arith, lt))
 
   pub walked_nodes : (first to : ℕ) (ls : List (List ℕ)) → IsDown p words 0 first ls to → (d : ℕ) → d < length ls → (i : ℕ) → i < length (level_nodes ls d) → IsNode p (slice_index (level_nodes ls d) i)
   walked_nodes first to [] h d lt = absurd (omega (arith, lt))
   walked_nodes first to (c ∷ rest) h zero lt = λ i below.
       let on = all_at (IsOn p words (length rest + 0)) c i 0 (along_on p words (length rest + 0) first 0 c 0 h.0.high h.0.along) below in
       on.spelled.node
-  walked_nodes first to (c ∷ rest) h (suc d) lt = walked_nodes (child_at p words first) to rest h.1 d (omega (arith, lt))
+  walked_nodes first to (c ∷ rest) h (suc d) lt = walked_nodes (first_child p words first) to rest h.1 d (omega (arith, lt))
 
   pub walked_leaves : (first to : ℕ) (ls : List (List ℕ)) → IsDown p words 0 first ls to → AreLeaves p words (leaves_of ls)
   walked_leaves first to [] h = λ i below. absurd (omega (arith, below))
   walked_leaves first to (c ∷ []) h = λ i below.
       let on = all_at (IsOn p words (0 + 0)) c i 0 (along_on p words (0 + 0) first 0 c 0 h.0.high h.0.along) below in
       (on.spelled.node, spelled_leaf p words (get_or c i 0) on.spelled (omega (arith, on.level_is)))
-  walked_leaves first to (c ∷ d ∷ rest) h = walked_leaves (child_at p words first) to (d ∷ rest) h.1
+  walked_leaves first to (c ∷ d ∷ rest) h = walked_leaves (first_child p words first) to (d ∷ rest) h.1
 
 -- an item of the levels that the code keeps
 pub item_is : (levels : List (Vec ℕ Global)) (d : ℕ) (v : Vec ℕ Global) → d < length levels → v ≡ get_or levels d v → v.items ≡ level_nodes (map (λ u. u.items) levels) d

@@ -5,7 +5,7 @@ use Rattle.sh_image.specs.{declared.{inner.Image.{Image, TheVariants.{Leaf as Le
 use Rattle.sh_image.{specs.{Leaf.{Leaf, leaf_in, IsLeaf, Spells}, Inner.{Inner, SpellsInner}}, proofs.InnerLemmas.{child_of, inner_spelled, inner_spelled_one, length-pairs_in}}
 use Rattle.sh_image.proofs.{LeafLemmas.{spelled_one}, UntornLemmas.{seen_spelled, seen_inner}}
 use Rattle.sh_tree.specs.Nodes.{NodeIn, leaf_at, inner_at, low_at, high_at, next_at}
-use Rattle.sh_picture.specs.Walk.{child_at, level_at, IsSpelled}
+use Rattle.sh_picture.specs.Walk.{first_child, level_at, IsSpelled}
 
 -- what every image says of its node
 pub record IsFit (p : ConfigParts) (words : List ℕ) (n : ℕ) : Type 0 where
@@ -40,8 +40,8 @@ module _ (p : ConfigParts) (words : List ℕ) (n : ℕ) where
   spelled_inner h some = inner_is h.image h.spelled some
 
   -- the first child of a node above the leaves is a node, and the node's level is below the number of nodes
-  pub first_child : IsSpelled p words n → level_at p words n ≢ 0 → IsNode p (child_at p words n) × (level_at p words n < nodes p)
-  first_child h some =
+  pub child_inside : IsSpelled p words n → level_at p words n ≢ 0 → IsNode p (first_child p words n) × (level_at p words n < nodes p)
+  child_inside h some =
       let s = spelled_inner h some in
       let lawful = s.lawful in
       let child = child_of (node_part p words n) p (get_or (node_part p words n) 5 0) 0 (omega (arith, length-pairs_in (get_or (node_part p words n) 5 0) (drop 6 (node_part p words n)), lawful.count)) lawful.children in

@@ -2,7 +2,7 @@
 use Rattle.std.{specs.Prelude.{slice_index}, proofs.{Common.{◌≡◌, ℕ, zero, suc, ◌+◌, ◌-◌, ◌<◌, ◌≤◌, List, Some, None, length, refl, sym, ap, subst, ◌∙◌, inl, inr, arith}, lemmas.Bool.{cases_lt}}}
 use Rattle.sh_base.specs.declared.config.{ConfigParts.{ConfigParts}, ConfigFault.{ConfigFault, TheVariants.{Servers}}}
 use Rattle.sh_tree.specs.Tree.{leaves_of}
-use Rattle.sh_picture.specs.{Picture.{parts_in, words_in}, Walk.{root_of, IsSpelled, IsWalked}}
+use Rattle.sh_picture.specs.{Picture.{parts_spelled, words_in}, Walk.{root_of, IsSpelled, IsWalked}}
 use Rattle.sh_picture.specs.Tree.{keys_at, level_nodes, pair_count, AllLead, IsFirstAstray, IsFirstBad, IsFirstTwice, IsLeastTwice, IsOnce, LeadsBelow, LevelLeads, NodeLeads}
 use Rattle.sh_picture.specs.{Fault.{HasMagic, HasSetting, HasWords, IsFirstPlace, IsIdle, IsMagicAt}, declared.place.FirstPlace.{FirstPlace}}
 use Rattle.sh_picture.{specs.declared.place.FirstPlace.TheVariants.{Short, Magic, Setting, Length, Zero, Lock, Root, Chain, Pair, Twice}, proofs.WalkLemmas.{unsound_one, walked_one, walked_stops}}
@@ -60,10 +60,10 @@ module _ (bytes : List ℕ) where
   Passes (suc (suc zero)) = HasSetting bytes
   Passes (suc (suc (suc zero))) = HasWords bytes
   Passes (suc (suc (suc (suc zero)))) = HasWords bytes × (slice_index (words_in bytes) 0 ≡ 0)
-  Passes (suc (suc (suc (suc (suc zero))))) = HasWords bytes × IsIdle (parts_in bytes) (words_in bytes)
-  Passes (suc (suc (suc (suc (suc (suc zero)))))) = (HasWords bytes × IsIdle (parts_in bytes) (words_in bytes)) × IsSpelled (parts_in bytes) (words_in bytes) (root_of (words_in bytes))
-  Passes (suc (suc (suc (suc (suc (suc (suc zero))))))) = ((HasWords bytes × IsIdle (parts_in bytes) (words_in bytes)) × IsSpelled (parts_in bytes) (words_in bytes) (root_of (words_in bytes))) × ((levels : List (List ℕ)) × IsWalked (parts_in bytes) (words_in bytes) levels)
-  Passes (suc (suc (suc (suc (suc (suc (suc (suc zero)))))))) = (((HasWords bytes × IsIdle (parts_in bytes) (words_in bytes)) × IsSpelled (parts_in bytes) (words_in bytes) (root_of (words_in bytes))) × ((levels : List (List ℕ)) × IsWalked (parts_in bytes) (words_in bytes) levels)) × ((levels : List (List ℕ)) × IsWalked (parts_in bytes) (words_in bytes) levels × AllLead (parts_in bytes) (words_in bytes) levels)
+  Passes (suc (suc (suc (suc (suc zero))))) = HasWords bytes × IsIdle (parts_spelled bytes) (words_in bytes)
+  Passes (suc (suc (suc (suc (suc (suc zero)))))) = (HasWords bytes × IsIdle (parts_spelled bytes) (words_in bytes)) × IsSpelled (parts_spelled bytes) (words_in bytes) (root_of (words_in bytes))
+  Passes (suc (suc (suc (suc (suc (suc (suc zero))))))) = ((HasWords bytes × IsIdle (parts_spelled bytes) (words_in bytes)) × IsSpelled (parts_spelled bytes) (words_in bytes) (root_of (words_in bytes))) × ((levels : List (List ℕ)) × IsWalked (parts_spelled bytes) (words_in bytes) levels)
+  Passes (suc (suc (suc (suc (suc (suc (suc (suc zero)))))))) = (((HasWords bytes × IsIdle (parts_spelled bytes) (words_in bytes)) × IsSpelled (parts_spelled bytes) (words_in bytes) (root_of (words_in bytes))) × ((levels : List (List ℕ)) × IsWalked (parts_spelled bytes) (words_in bytes) levels)) × ((levels : List (List ℕ)) × IsWalked (parts_spelled bytes) (words_in bytes) levels × AllLead (parts_spelled bytes) (words_in bytes) levels)
   Passes (suc (suc (suc (suc (suc (suc (suc (suc (suc k))))))))) = ⊥
 
   passes_before : (k : ℕ) → Passes (suc k) → Passes k
@@ -141,8 +141,8 @@ module _ (bytes : List ℕ) where
   fails Zero h k = h.1 k.1
   fails (Lock lock) h k = h.1.1.here (k.1.locks lock h.1.1.below)
   fails Root h k = h.1.1 k.1
-  fails (Chain level node) h k = walked_stops (parts_in bytes) (words_in bytes) k.1.0 level node k.1.1 h.1.1.1
-  fails (Pair node index) h k = no_lead (parts_in bytes) (words_in bytes) h.1.1.1.0 k.1.0 node index h.1.1.1.1 h.1.1.1.2 k.1.1 k.1.2
+  fails (Chain level node) h k = walked_stops (parts_spelled bytes) (words_in bytes) k.1.0 level node k.1.1 h.1.1.1
+  fails (Pair node index) h k = no_lead (parts_spelled bytes) (words_in bytes) h.1.1.1.0 k.1.0 node index h.1.1.1.1 h.1.1.1.2 k.1.1 k.1.2
   fails (Twice node key) h k = k
 
   not_before : (a b : FirstPlace) → IsFirstPlace bytes a → IsFirstPlace bytes b → rank a < rank b → ⊥
@@ -228,9 +228,9 @@ module _ (bytes : List ℕ) where
   of_one (suc (suc (suc (suc zero)))) f g x y u v h j = refl
   of_one (suc (suc (suc (suc (suc zero))))) f g x y u v h j = ap Lock (first_one _ _ x u h.1.1 j.1.1)
   of_one (suc (suc (suc (suc (suc (suc zero)))))) f g x y u v h j = refl
-  of_one (suc (suc (suc (suc (suc (suc (suc zero))))))) f g x y u v h j = let e = unsound_one (parts_in bytes) (words_in bytes) x u y v h.1.1.1 j.1.1.1 in λ t. Chain (e.0 t) (e.1 t)
-  of_one (suc (suc (suc (suc (suc (suc (suc (suc zero)))))))) f g x y u v h j = let e = astray_one (parts_in bytes) (words_in bytes) h.1.1.1.0 j.1.1.1.0 x y u v h.1.1.1.1 j.1.1.1.1 h.1.1.1.2 j.1.1.1.2 in λ t. Pair (e.0 t) (e.1 t)
-  of_one (suc (suc (suc (suc (suc (suc (suc (suc (suc k))))))))) f g x y u v h j = let e = twice_one (parts_in bytes) (words_in bytes) h.1.1.1.0 j.1.1.1.0 x y u v h.1.1.1.1 j.1.1.1.1 h.1.1.1.3 j.1.1.1.3 in λ t. Twice (e.0 t) (e.1 t)
+  of_one (suc (suc (suc (suc (suc (suc (suc zero))))))) f g x y u v h j = let e = unsound_one (parts_spelled bytes) (words_in bytes) x u y v h.1.1.1 j.1.1.1 in λ t. Chain (e.0 t) (e.1 t)
+  of_one (suc (suc (suc (suc (suc (suc (suc (suc zero)))))))) f g x y u v h j = let e = astray_one (parts_spelled bytes) (words_in bytes) h.1.1.1.0 j.1.1.1.0 x y u v h.1.1.1.1 j.1.1.1.1 h.1.1.1.2 j.1.1.1.2 in λ t. Pair (e.0 t) (e.1 t)
+  of_one (suc (suc (suc (suc (suc (suc (suc (suc (suc k))))))))) f g x y u v h j = let e = twice_one (parts_spelled bytes) (words_in bytes) h.1.1.1.0 j.1.1.1.0 x y u v h.1.1.1.1 j.1.1.1.1 h.1.1.1.3 j.1.1.1.3 in λ t. Twice (e.0 t) (e.1 t)
 
   pub places_one : (a b : FirstPlace) → IsFirstPlace bytes a → IsFirstPlace bytes b → a ≡ b
   places_one a b h k =

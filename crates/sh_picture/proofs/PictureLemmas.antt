@@ -7,7 +7,7 @@ use borrow.Rule.Slice.PartMut.{put_mid}
 use Rattle.std.specs.Int.{byte_at}
 use Rattle.byteorder.specs.{Endian.{big_bytes, big_number, IsRead}, Numbers.{big_from-cons, big_from-lt, big_from-take, big_number-reads_back, length-bytes_high_first}}
 use Rattle.sh_base.specs.{declared.config.ConfigParts.{ConfigParts}, Setting.{all_locks, pool_words}, Layout.{lock_word}}
-use Rattle.sh_picture.specs.{Picture.{header_of, magic, number_in, numbers_of, numbers_from, parts_in, picture_of, words_in}, Fault.{HasWords}}
+use Rattle.sh_picture.specs.{Picture.{header_of, magic, number_in, setting_numbers, numbers_spelled, parts_spelled, picture_of, words_in}, Fault.{HasWords}}
 
 pub has_lock : (p : ConfigParts) (lock : ℕ) → lock < all_locks p → lock_word p lock < pool_words p
 unfolding pool_words
@@ -25,14 +25,14 @@ pub bytes_behind : (n : ℕ) (xs : List ℕ) → AreBytes xs → AreBytes (drop 
 bytes_behind n xs h = λ k. rw (get_or-drop n xs k 0) (h (n + k))
 
 -- ---- a number of the numbers that some bytes spell
-pub number_read : (width count i : ℕ) (bytes : List ℕ) → i < count → get_or (numbers_from width count bytes) i 0 ≡ big_number width (drop (width * i) bytes)
+pub number_read : (width count i : ℕ) (bytes : List ℕ) → i < count → get_or (numbers_spelled width count bytes) i 0 ≡ big_number width (drop (width * i) bytes)
 number_read width zero i bytes below = absurd (omega (arith, below))
 number_read width (suc count) zero bytes below = let e : width * 0 ≡ 0 = omega arith in rw e refl
 number_read width (suc count) (suc i) bytes below =
     let e : width + width * i ≡ width * suc i = grind arith in
     number_read width count i (drop width bytes) (omega (arith, below)) ∙ ap (big_number width) (drop-drop (width * i) width bytes ∙ ap (λ n. drop n bytes) e)
 
-pub numbers_read : (width : ℕ) (bytes numbers : List ℕ) → IsRead big_number width bytes numbers → numbers ≡ numbers_from width (length numbers) bytes
+pub numbers_read : (width : ℕ) (bytes numbers : List ℕ) → IsRead big_number width bytes numbers → numbers ≡ numbers_spelled width (length numbers) bytes
 numbers_read width bytes [] h = refl
 numbers_read width bytes (x ∷ xs) h =
     let none : width * 0 ≡ 0 = omega arith in
@@ -94,25 +94,25 @@ unfolding number_in
 number_is bytes i result below e =
     e ∙ ap (big_number 4) (take_rest bytes (8 + 4 * i) ∙ sym (drop-drop (4 * i) 8 bytes)) ∙ sym (number_read 4 12 i (drop 8 bytes) below)
 
-pub words_are : (bytes dst items : List ℕ) (len count : ℕ) → length dst ≡ len → length dst ≡ count → IsRead big_number 8 (take (length bytes - 56) (drop 56 bytes)) dst → take len (dst ++ drop (length dst) items) ≡ numbers_from 8 count (drop 56 bytes)
+pub words_are : (bytes dst items : List ℕ) (len count : ℕ) → length dst ≡ len → length dst ≡ count → IsRead big_number 8 (take (length bytes - 56) (drop 56 bytes)) dst → take len (dst ++ drop (length dst) items) ≡ numbers_spelled 8 count (drop 56 bytes)
 words_are bytes dst items len count is_len is_count h =
-    take_at dst (drop (length dst) items) len is_len ∙ numbers_read 8 _ dst h ∙ (λ t. numbers_from 8 (is_count t) (take_rest bytes 56 t))
+    take_at dst (drop (length dst) items) len is_len ∙ numbers_read 8 _ dst h ∙ (λ t. numbers_spelled 8 (is_count t) (take_rest bytes 56 t))
 
-pub numbers_long : (width count : ℕ) (bytes : List ℕ) → length (numbers_from width count bytes) ≡ count
+pub numbers_long : (width count : ℕ) (bytes : List ℕ) → length (numbers_spelled width count bytes) ≡ count
 numbers_long width zero bytes = refl
 numbers_long width (suc count) bytes = omega (arith, numbers_long width count (drop width bytes))
 
-pub words_is : (bytes words : List ℕ) (p : ConfigParts) → p ≡ parts_in bytes → words ≡ numbers_from 8 (pool_words p) (drop 56 bytes) → words ≡ words_in bytes
+pub words_is : (bytes words : List ℕ) (p : ConfigParts) → p ≡ parts_spelled bytes → words ≡ numbers_spelled 8 (pool_words p) (drop 56 bytes) → words ≡ words_in bytes
 unfolding words_in
-words_is bytes words p is e = e ∙ ap (λ (q : ConfigParts). numbers_from 8 (pool_words q) (drop 56 bytes)) is
+words_is bytes words p is e = e ∙ ap (λ (q : ConfigParts). numbers_spelled 8 (pool_words q) (drop 56 bytes)) is
 
 -- each number has so many bytes
-numbers_small : (width count : ℕ) (bytes : List ℕ) → AreBytes bytes → (i : ℕ) → get_or (numbers_from width count bytes) i 0 < 256 ^ width
+numbers_small : (width count : ℕ) (bytes : List ℕ) → AreBytes bytes → (i : ℕ) → get_or (numbers_spelled width count bytes) i 0 < 256 ^ width
 numbers_small width zero bytes h i = let some : 1 ≤ 256 ^ width = one-le-pow width 256 (omega arith) in omega (arith, some)
 numbers_small width (suc count) bytes h zero = big_from-lt 0 width bytes h
 numbers_small width (suc count) bytes h (suc i) = numbers_small width count (drop width bytes) (bytes_behind width bytes h) i
 
-pub words_small : (count : ℕ) (bytes : List ℕ) → AreBytes bytes → (i : ℕ) → slice_index (numbers_from 8 count (drop 56 bytes)) i < 2 ^ 64
+pub words_small : (count : ℕ) (bytes : List ℕ) → AreBytes bytes → (i : ℕ) → slice_index (numbers_spelled 8 count (drop 56 bytes)) i < 2 ^ 64
 words_small count bytes h i = numbers_small 8 count (drop 56 bytes) (bytes_behind 56 bytes h) i
 
 -- ---- the bytes of the numbers that were read are the bytes
@@ -137,14 +137,14 @@ number_back n bytes long h =
     let back : big_number n (big_bytes n x) ≡ x = ap (big_number n) (sym (append-nil (big_bytes n x))) ∙ big_number-reads_back n x [] (big_from-lt 0 n bytes h) in
     same_bytes n (big_bytes n x) (take n bytes) (length-bytes_high_first n x) (length-take-le n bytes long) (are_bytes n x) (bytes_front n bytes h) (back ∙ sym (big_from-take 0 n n bytes (omega arith)))
 
-pub numbers_back : (width count : ℕ) (bytes : List ℕ) → width * count ≤ length bytes → AreBytes bytes → flat_map (big_bytes width) (numbers_from width count bytes) ++ drop (width * count) bytes ≡ bytes
+pub numbers_back : (width count : ℕ) (bytes : List ℕ) → width * count ≤ length bytes → AreBytes bytes → flat_map (big_bytes width) (numbers_spelled width count bytes) ++ drop (width * count) bytes ≡ bytes
 numbers_back width zero bytes long h = let e : width * 0 ≡ 0 = omega arith in rw e refl
 numbers_back width (suc count) bytes long h =
     let size : width * suc count ≡ width + width * count = grind arith in
     let rest = numbers_back width count (drop width bytes) (omega (arith, long, size, length-drop width bytes)) (bytes_behind width bytes h) in
     let behind : drop (width * suc count) bytes ≡ drop (width * count) (drop width bytes) = ap (λ n. drop n bytes) size ∙ sym (drop-drop (width * count) width bytes) in
-    append_assoc (big_bytes width (big_number width bytes)) (flat_map (big_bytes width) (numbers_from width count (drop width bytes))) (drop (width * suc count) bytes)
-    ∙ (λ t. number_back width bytes (omega (arith, long, size)) h t ++ (flat_map (big_bytes width) (numbers_from width count (drop width bytes)) ++ behind t))
+    append_assoc (big_bytes width (big_number width bytes)) (flat_map (big_bytes width) (numbers_spelled width count (drop width bytes))) (drop (width * suc count) bytes)
+    ∙ (λ t. number_back width bytes (omega (arith, long, size)) h t ++ (flat_map (big_bytes width) (numbers_spelled width count (drop width bytes)) ++ behind t))
     ∙ ap (λ l. take width bytes ++ l) rest
     ∙ take-append-drop width bytes
 
@@ -154,27 +154,27 @@ magic_front bytes long h =
     let size : length (take 8 bytes) ≡ 8 = length-take-le 8 bytes long in
     ext_get_or 0 (take 8 bytes) magic size (λ i below. get_or-take 8 bytes i 0 (omega (arith, below, size)) ∙ h i (omega (arith, below, size)))
 
-setting_numbers : (bytes : List ℕ) → numbers_of (parts_in bytes) ≡ numbers_from 4 12 (drop 8 bytes)
+setting_spelled : (bytes : List ℕ) → setting_numbers (parts_spelled bytes) ≡ numbers_spelled 4 12 (drop 8 bytes)
 unfolding number_in
-setting_numbers bytes = refl
+setting_spelled bytes = refl
 
-pub picture_back : (bytes : List ℕ) → AreBytes bytes → HasWords bytes → bytes ≡ picture_of (parts_in bytes) (words_in bytes)
+pub picture_back : (bytes : List ℕ) → AreBytes bytes → HasWords bytes → bytes ≡ picture_of (parts_spelled bytes) (words_in bytes)
 unfolding header_of words_in
 picture_back bytes h w =
-    let p = parts_in bytes in
+    let p = parts_spelled bytes in
     let long = w.long in
     let some = w.setting.begins.long in
     let front = magic_front bytes (omega (arith, some)) w.setting.begins.magic in
     let eight : length (drop 8 bytes) ≡ length bytes - 8 = length-drop 8 bytes in
-    let numbers : drop 8 bytes ≡ flat_map (big_bytes 4) (numbers_of p) ++ drop 56 bytes =
+    let numbers : drop 8 bytes ≡ flat_map (big_bytes 4) (setting_numbers p) ++ drop 56 bytes =
     sym (numbers_back 4 12 (drop 8 bytes) (omega (arith, eight, some)) (bytes_behind 8 bytes h))
-    ∙ (λ t. flat_map (big_bytes 4) (sym (setting_numbers bytes) t) ++ drop-drop 48 8 bytes t) in
+    ∙ (λ t. flat_map (big_bytes 4) (sym (setting_spelled bytes) t) ++ drop-drop 48 8 bytes t) in
     let behind : length (drop 56 bytes) ≡ 8 * pool_words p = omega (arith, length-drop 56 bytes, long) in
-    let words : drop 56 bytes ≡ flat_map (big_bytes 8) (numbers_from 8 (pool_words p) (drop 56 bytes)) =
+    let words : drop 56 bytes ≡ flat_map (big_bytes 8) (numbers_spelled 8 (pool_words p) (drop 56 bytes)) =
     sym (numbers_back 8 (pool_words p) (drop 56 bytes) (omega (arith, behind)) (bytes_behind 56 bytes h))
-    ∙ ap (λ l. flat_map (big_bytes 8) (numbers_from 8 (pool_words p) (drop 56 bytes)) ++ l) (drop_all (8 * pool_words p) (drop 56 bytes) (omega (arith, behind)))
+    ∙ ap (λ l. flat_map (big_bytes 8) (numbers_spelled 8 (pool_words p) (drop 56 bytes)) ++ l) (drop_all (8 * pool_words p) (drop 56 bytes) (omega (arith, behind)))
     ∙ append-nil _ in
     sym (take-append-drop 8 bytes)
     ∙ (λ t. front t ++ numbers t)
-    ∙ ap (λ l. magic ++ (flat_map (big_bytes 4) (numbers_of p) ++ l)) words
-    ∙ sym (append_assoc magic (flat_map (big_bytes 4) (numbers_of p)) (flat_map (big_bytes 8) (numbers_from 8 (pool_words p) (drop 56 bytes))))
+    ∙ ap (λ l. magic ++ (flat_map (big_bytes 4) (setting_numbers p) ++ l)) words
+    ∙ sym (append_assoc magic (flat_map (big_bytes 4) (setting_numbers p)) (flat_map (big_bytes 8) (numbers_spelled 8 (pool_words p) (drop 56 bytes))))

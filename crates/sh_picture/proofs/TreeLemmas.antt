@@ -9,8 +9,8 @@ use Rattle.sh_edit.specs.Held.{HasKeysOnce}
 use Rattle.sh_tree.specs.{Lists.{first_of, is_in, AreDifferent}, Nodes.{inner_at, leaf_at, low_at, high_at, next_at}}
 use Rattle.sh_tree.{specs.Tree.{top_of, leaves_of, AreLevels, IsChain, IsChildIn, IsInnerOf, IsLeafOf, IsTree}, proofs.ListLemmas.{in_tail}}
 use Rattle.sh_tree.proofs.ChainLemmas.{inner_first, leaf_level, rising_differ, AreRising, IsFenced}
-use Rattle.sh_picture.specs.{Walk.{child_at, level_at, root_of, IsAlong, IsDown, IsLevel, IsSpelled, IsWalked}, Tree.{level_nodes, AllLead, AllOnce, LevelLeads}}
-use Rattle.sh_picture.proofs.{NodeLemmas.{first_child, spelled_fit, spelled_inner, spelled_leaf}, GoingLemmas.{level_first}}
+use Rattle.sh_picture.specs.{Walk.{first_child, level_at, root_of, IsAlong, IsDown, IsLevel, IsSpelled, IsWalked}, Tree.{level_nodes, AllLead, AllOnce, LevelLeads}}
+use Rattle.sh_picture.proofs.{NodeLemmas.{child_inside, spelled_fit, spelled_inner, spelled_leaf}, GoingLemmas.{level_first}}
 
 module _ (p : ConfigParts) (words : List ℕ) where
   -- a node that spells an image of this level
@@ -76,10 +76,10 @@ module _ (p : ConfigParts) (words : List ℕ) where
   under_more level top (n ∷ ns) le h = (omega (arith, h.0, le), under_more level top ns le h.1)
 
   -- the next level begins at a node
-  below_first : (first level : ℕ) (ns : List ℕ) → IsLevel p words level first ns → first ≢ 0 → level ≢ 0 → child_at p words first ≢ 0
+  below_first : (first level : ℕ) (ns : List ℕ) → IsLevel p words level first ns → first ≢ 0 → level ≢ 0 → first_child p words first ≢ 0
   below_first first level ns h some up =
       let s = level_first p words level first ns h some in
-      λ z. omega (arith, z, (first_child p words first s.spelled (λ e. up (sym s.level_is ∙ e))).0.first)
+      λ z. omega (arith, z, (child_inside p words first s.spelled (λ e. up (sym s.level_is ∙ e))).0.first)
 
   different_level : (level first : ℕ) (ns : List ℕ) → IsLevel p words level first ns → first ≢ 0 → AreDifferent ns
   different_level level first ns h some = rising_differ p words 0 ns (chain_rises 0 ns (level_chain level first ns h some).0 (fenced_on level ns (along_on level first 0 ns 0 h.high h.along)))
@@ -93,7 +93,7 @@ module _ (p : ConfigParts) (words : List ℕ) where
       let level = length (d ∷ rest) + 0 in
       let on = along_on level first 0 c 0 h.0.high h.0.along in
       let next = below_first first level c h.0 some (λ z. omega (arith, z)) in
-      let below = down_apart (child_at p words first) (d ∷ rest) to h.1 next in (
+      let below = down_apart (first_child p words first) (d ∷ rest) to h.1 next in (
         apart_join level c (concat (d ∷ rest)) on (different_level level first c h.0 some) (under_more (length (d ∷ rest)) level _ (omega arith) below.1) below.0,
         all_join (IsUnder (length (c ∷ d ∷ rest))) c (concat (d ∷ rest)) (under_on level (length (c ∷ d ∷ rest)) c (omega arith) on) (under_more (length (d ∷ rest)) (length (c ∷ d ∷ rest)) _ (omega arith) below.1),
       )
@@ -121,7 +121,7 @@ module _ (p : ConfigParts) (words : List ℕ) where
       let chain = level_chain level first c h.0 some in
       let on = along_on level first 0 c 0 h.0.high h.0.along in
       let next = below_first first level c h.0 some (λ z. omega (arith, z)) in
-      let below = down_lawful (child_at p words first) (d ∷ rest) to (λ e. absurd (cc)) h.1 next (λ i lt. lead (suc i) (omega (arith, lt))) once in
+      let below = down_lawful (first_child p words first) (d ∷ rest) to (λ e. absurd (cc)) h.1 next (λ i lt. lead (suc i) (omega (arith, lt))) once in
       ((chain.0, inners_on level (length (d ∷ rest)) d c (omega arith) (λ z. omega (arith, z)) on (lead_all (c ∷ d ∷ rest) 0 (lead 0 (omega arith))), below.0), chain.1)
 
   some_levels : (levels : List (List ℕ)) (n : ℕ) → length levels ≡ suc n → levels ≢ []
@@ -150,11 +150,11 @@ module _ (p : ConfigParts) (words : List ℕ) where
 
   pub levels_down : (levels : List (List ℕ)) → AreLevels p words levels → (to : ℕ) × IsDown p words 0 (first_of (top_of levels)) levels to
   levels_down [] h = absurd h
-  levels_down (c ∷ []) h = (child_at p words (first_of c), (record { high = 2 ^ 64 - 1; along = chain_along (0 + 0) 0 c h.0 (on_leaves (0 + 0) 0 c (omega arith) h.0 h.1) }, refl))
+  levels_down (c ∷ []) h = (first_child p words (first_of c), (record { high = 2 ^ 64 - 1; along = chain_along (0 + 0) 0 c h.0 (on_leaves (0 + 0) 0 c (omega arith) h.0 h.1) }, refl))
   levels_down (c ∷ d ∷ rest) h =
       let level = length (d ∷ rest) + 0 in
       let below = levels_down (d ∷ rest) h.2 in
-      let child : child_at p words (first_of c) ≡ first_of d = (inner_first p words c d rest h).1 in
+      let child : first_child p words (first_of c) ≡ first_of d = (inner_first p words c d rest h).1 in
       (below.0, (record { high = 2 ^ 64 - 1; along = chain_along level 0 c h.0 (on_inners level (length (d ∷ rest)) 0 d c (omega arith) h.0 h.1) }, subst (λ (f : ℕ). IsDown p words 0 f (d ∷ rest) below.0) (sym child) below.1))
 
   head_on : (level : ℕ) (ns : List ℕ) → IsChain p words 0 ns → AllByRecursion (IsOn level) ns → IsOn level (first_of ns)

@@ -2,12 +2,12 @@
 use Rattle.std.proofs.Common.{◌≡◌, ◌⊎◌, ℕ, suc, ◌+◌, List, [], ◌∷◌, ◌++◌, length, refl, sym, ap, subst, ◌∙◌, inl, inr, length-append, arith}
 use Rattle.sh_base.specs.declared.config.ConfigParts.{ConfigParts}
 use Rattle.sh_tree.specs.Nodes.{high_at, next_at}
-use Rattle.sh_picture.specs.{Walk.{child_at, root_of, IsAlong, IsDown, IsLevel, IsSound, IsUnsound, IsWalked}, Walks.{StopsAt}}
+use Rattle.sh_picture.specs.{Walk.{first_child, root_of, IsAlong, IsDown, IsLevel, IsSoundNode, IsUnsound, IsWalked}, Walks.{StopsAt}}
 
 module _ (p : ConfigParts) (words : List ℕ) where
   -- ---- one node more, and one level more
-  pub along_more : (level number low : ℕ) (ns : List ℕ) (node high : ℕ) → IsAlong p words level number low ns node high → IsSound p words level high node → IsAlong p words level number low (ns ++ node ∷ []) (next_at p words node) (high_at p words node)
-  along_more level number low [] node high h s = (sym h.0, subst (λ (l : ℕ). IsSound p words level l node) h.1 s, (refl, refl))
+  pub along_more : (level number low : ℕ) (ns : List ℕ) (node high : ℕ) → IsAlong p words level number low ns node high → IsSoundNode p words level high node → IsAlong p words level number low (ns ++ node ∷ []) (next_at p words node) (high_at p words node)
+  along_more level number low [] node high h s = (sym h.0, subst (λ (l : ℕ). IsSoundNode p words level l node) h.1 s, (refl, refl))
   along_more level number low (n ∷ ns) node high h s = (h.0, h.1, along_more level (next_at p words n) (high_at p words n) ns node high h.2 s)
 
   pub along_to : (level number low : ℕ) (ns : List ℕ) (a b high : ℕ) → a ≡ b → IsAlong p words level number low ns a high → IsAlong p words level number low ns b high
@@ -21,28 +21,28 @@ module _ (p : ConfigParts) (words : List ℕ) where
   level_to : (a b first : ℕ) (ns : List ℕ) → a ≡ b → IsLevel p words a first ns → IsLevel p words b first ns
   level_to a b first ns e h = subst (λ (l : ℕ). IsLevel p words l first ns) e h
 
-  pub down_more : (left first : ℕ) (above : List (List ℕ)) (number : ℕ) (ns : List ℕ) → IsDown p words (suc left) first above number → IsLevel p words left number ns → IsDown p words left first (above ++ ns ∷ []) (child_at p words number)
-  down_more left first [] number ns h k = (level_to left (0 + left) first ns (omega arith) (subst (λ (f : ℕ). IsLevel p words left f ns) h k), ap (child_at p words) h)
+  pub down_more : (left first : ℕ) (above : List (List ℕ)) (number : ℕ) (ns : List ℕ) → IsDown p words (suc left) first above number → IsLevel p words left number ns → IsDown p words left first (above ++ ns ∷ []) (first_child p words number)
+  down_more left first [] number ns h k = (level_to left (0 + left) first ns (omega arith) (subst (λ (f : ℕ). IsLevel p words left f ns) h k), ap (first_child p words) h)
   down_more left first (c ∷ above) number ns h k =
       let e : length above + suc left ≡ length (above ++ ns ∷ []) + left = omega (arith, length-append above (ns ∷ [])) in
-      (level_to (length above + suc left) (length (above ++ ns ∷ []) + left) first c e h.0, down_more left (child_at p words first) above number ns h.1 k)
+      (level_to (length above + suc left) (length (above ++ ns ∷ []) + left) first c e h.0, down_more left (first_child p words first) above number ns h.1 k)
 
   -- ---- the walk goes one way
   -- it goes no further from a number: 0, or one that isn't sound
   abbrev pub Ends : (level low number : ℕ) → Type 0
-  Ends level low number = (number ≡ 0) ⊎ (IsSound p words level low number → ⊥)
+  Ends level low number = (number ≡ 0) ⊎ (IsSoundNode p words level low number → ⊥)
 
-  sound_ends : (level low number : ℕ) → IsSound p words level low number → Ends level low number → ⊥
+  sound_ends : (level low number : ℕ) → IsSoundNode p words level low number → Ends level low number → ⊥
   sound_ends level low number s (inl z) = omega (arith, z, s.spelled.node.first)
   sound_ends level low number s (inr un) = un s
 
   pub along_one : (level number low : ℕ) (ns ms : List ℕ) (a b high other : ℕ) → IsAlong p words level number low ns a high → Ends level high a → IsAlong p words level number low ms b other → Ends level other b → (ns ≡ ms) × (a ≡ b)
   along_one level number low [] [] a b high other h x k y = (refl, h.0 ∙ sym k.0)
   along_one level number low [] (m ∷ ms) a b high other h x k y =
-      let s : IsSound p words level high a = subst (λ (l : ℕ). IsSound p words level l a) (sym h.1) (subst (IsSound p words level low) (sym (h.0 ∙ k.0)) k.1) in
+      let s : IsSoundNode p words level high a = subst (λ (l : ℕ). IsSoundNode p words level l a) (sym h.1) (subst (IsSoundNode p words level low) (sym (h.0 ∙ k.0)) k.1) in
       absurd (sound_ends level high a s x)
   along_one level number low (n ∷ ns) [] a b high other h x k y =
-      let s : IsSound p words level other b = subst (λ (l : ℕ). IsSound p words level l b) (sym k.1) (subst (IsSound p words level low) (sym (k.0 ∙ h.0)) h.1) in
+      let s : IsSoundNode p words level other b = subst (λ (l : ℕ). IsSoundNode p words level l b) (sym k.1) (subst (IsSoundNode p words level low) (sym (k.0 ∙ h.0)) h.1) in
       absurd (sound_ends level other b s y)
   along_one level number low (n ∷ ns) (m ∷ ms) a b high other h x k y =
       let same : n ≡ m = sym h.0 ∙ k.0 in
@@ -65,7 +65,7 @@ module _ (p : ConfigParts) (words : List ℕ) where
   down_one first (l ∷ ls) (m ∷ ms) a b long h k =
       let e : length ms + 0 ≡ length ls + 0 = omega (arith, long) in
       let head = level_one (length ls + 0) first l m h.0 (level_to (length ms + 0) (length ls + 0) first m e k.0) in
-      let rest = down_one (child_at p words first) ls ms a b (omega (arith, long)) h.1 k.1 in
+      let rest = down_one (first_child p words first) ls ms a b (omega (arith, long)) h.1 k.1 in
       λ t. head t ∷ rest t
 
   -- where one walk stops on a level, another doesn't go along the whole of it
@@ -76,7 +76,7 @@ module _ (p : ConfigParts) (words : List ℕ) where
       level_stops level first l a (level_to (length ls + 0) level first l e k.0) (subst (λ (f : ℕ). StopsAt p words level f a) h s)
   down_stops level first (c ∷ above) [] number a b long h s k = omega (arith, long)
   down_stops level first (c ∷ above) (l ∷ ls) number a b long h s k =
-      down_stops level (child_at p words first) above ls number a b (omega (arith, long)) h.1 s k.1
+      down_stops level (first_child p words first) above ls number a b (omega (arith, long)) h.1 s k.1
 
   pub walked_one : (ls ms : List (List ℕ)) → IsWalked p words ls → IsWalked p words ms → ls ≡ ms
   walked_one ls ms h k = down_one (root_of words) ls ms h.comes_to k.comes_to (h.top ∙ sym k.top) h.down k.down
@@ -100,7 +100,7 @@ module _ (p : ConfigParts) (words : List ℕ) where
       let e : length above + suc la ≡ lb = omega (arith, top) in
       absurd (level_stops lb first l b (level_to (length above + suc la) lb first l e h.0) (subst (λ (f : ℕ). StopsAt p words lb f b) k t))
   stops_meet first (l ∷ above) (m ∷ other) la lb fa fb a b top h s k t =
-      stops_meet (child_at p words first) above other la lb fa fb a b (omega (arith, top)) h.1 s k.1 t
+      stops_meet (first_child p words first) above other la lb fa fb a b (omega (arith, top)) h.1 s k.1 t
 
   pub unsound_one : (la lb a b : ℕ) → IsUnsound p words la a → IsUnsound p words lb b → (la ≡ lb) × (a ≡ b)
   unsound_one la lb a b h k =

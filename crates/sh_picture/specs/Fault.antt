@@ -3,7 +3,7 @@
 use Rattle.std.specs.Prelude.{◌≡◌, ◌≢◌, ℕ, ◌<◌, ◌≤◌, List, length, slice_index, Some, None}
 use Rattle.sh_base.specs.{declared.config.ConfigParts.{ConfigParts}, Setting.{all_locks}, Layout.{lock_word}, Faults.{fault_of}}
 use Rattle.sh_tree.specs.Tree.{leaves_of}
-use Rattle.sh_picture.specs.{Picture.{magic, parts_in, picture_length, words_in}, Walk.{root_of, IsSpelled, IsUnsound, IsWalked}, Tree.{AllLead, IsFirstAstray, IsFirstBad, IsFirstTwice}}
+use Rattle.sh_picture.specs.{Picture.{magic, parts_spelled, picture_length, words_in}, Walk.{root_of, IsSpelled, IsUnsound, IsWalked}, Tree.{AllLead, IsFirstAstray, IsFirstBad, IsFirstTwice}}
 use Rattle.sh_picture.specs.declared.place.FirstPlace.{FirstPlace, TheVariants.{Short, Magic, Setting, Length, Zero, Lock, Root, Chain, Pair, Twice}}
 
 -- a byte of the magic is there
@@ -18,12 +18,12 @@ pub record HasMagic (bytes : List ℕ) : Type 0 where
 -- and the setting is lawful
 pub record HasSetting (bytes : List ℕ) : Type 0 where
   pub begins : HasMagic bytes
-  pub lawful : fault_of (parts_in bytes) ≡ None
+  pub lawful : fault_of (parts_spelled bytes) ≡ None
 
 -- and there are as many bytes as a picture of the setting has
 pub record HasWords (bytes : List ℕ) : Type 0 where
   pub setting : HasSetting bytes
-  pub long : length bytes ≡ picture_length (parts_in bytes)
+  pub long : length bytes ≡ picture_length (parts_spelled bytes)
 
 -- a lock word is 0; and word 0 and all lock words are
 abbrev pub IsFree : ConfigParts → List ℕ → ℕ → Type 0
@@ -52,6 +52,6 @@ IsPoolFault p words place = IsIdle p words × IsNoTree p words place
 abbrev pub IsFirstPlace : List ℕ → FirstPlace → Type 0
 IsFirstPlace bytes Short = length bytes < 56
 IsFirstPlace bytes (Magic at) = (56 ≤ length bytes) × IsFirstBad (IsMagicAt bytes) 8 at
-IsFirstPlace bytes (Setting fault) = HasMagic bytes × (fault_of (parts_in bytes) ≡ Some fault)
-IsFirstPlace bytes (Length len) = HasSetting bytes × (len ≡ length bytes) × (len ≢ picture_length (parts_in bytes))
-IsFirstPlace bytes place = HasWords bytes × IsPoolFault (parts_in bytes) (words_in bytes) place
+IsFirstPlace bytes (Setting fault) = HasMagic bytes × (fault_of (parts_spelled bytes) ≡ Some fault)
+IsFirstPlace bytes (Length len) = HasSetting bytes × (len ≡ length bytes) × (len ≢ picture_length (parts_spelled bytes))
+IsFirstPlace bytes place = HasWords bytes × IsPoolFault (parts_spelled bytes) (words_in bytes) place

@@ -4,7 +4,7 @@ use Rattle.sh_base.specs.declared.config.Config.{Config}
 use Rattle.sh_map.specs.declared.book.Row.{Row}
 use Rattle.sh_port.specs.{Port.{HasRisen, AppendsFront}, Intake.{TookUpTo, TookSomeUpTo, TookMoreThan}}
 use Rattle.sh_sheet.specs.declared.status.Status.TheVariants as status
-use Rattle.sh_sheet.specs.Status.{status_code}
+use Rattle.sh_sheet.specs.Status.{status_code, status_text}
 use Rattle.sh_picture.specs.declared.{place.FirstPlace.{FirstPlace}, verdict.Verdict.{Verdict, TheVariants.{Lawful, Refused}}, ending.PictureStatus.{PictureStatus, TheVariants.{Served, NotLawful}}}
 use Rattle.sh_picture.specs.{Text.{verdict_text}, Verdict.{VerdictOf}}
 use Rattle.sh_text.specs.declared.write.WriteError.{WriteError}
@@ -15,15 +15,20 @@ abbrev pub picture_code : PictureStatus → ℕ
 picture_code (Served s) = status_code s
 picture_code NotLawful = 11
 
+-- the text that tells it: none where the verdict's line does
+abbrev pub picture_text : PictureStatus → List ℕ
+picture_text (Served s) = status_text s
+picture_text NotLawful = []
+
 -- the most bytes of a picture: that of the largest pool
 abbrev pub most_bytes : ℕ
 most_bytes = 33554488
 
 -- What the words ask for: no word, or `--map` alone, which asks for the map. Any other list is refused.
-abbrev pub asked_of : List (List ℕ) → Option Bool
-asked_of [] = Some false
-asked_of (word ∷ []) = if bytes_eq word (codes "--map") then Some true else None
-asked_of (word ∷ more ∷ words) = None
+abbrev pub map_asked : List (List ℕ) → Option Bool
+map_asked [] = Some false
+map_asked (word ∷ []) = if bytes_eq word (codes "--map") then Some true else None
+map_asked (word ∷ more ∷ words) = None
 
 -- the whole input was taken, and this is the verdict on its bytes
 pub record HasVerdict (left rest : Option (List ℕ)) (before now : ℕ) (verdict : Verdict) : Type 0 where

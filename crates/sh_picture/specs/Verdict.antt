@@ -7,7 +7,7 @@ use Rattle.sh_picture.specs.{Picture.{picture_of}, Fault.{IsFirstPlace, IsIdle},
 
 -- The bytes are the picture of a lawful setting and of words that are a tree at rest: as many as the setting's pool has,
 -- each of 64 bits, with word 0 and all lock words 0. The rows are the pairs of the tree's map, rising.
-pub record IsLawful (bytes : List ℕ) (p : ConfigParts) (rows : List Row) : Type 0 where
+pub record IsTreePicture (bytes : List ℕ) (p : ConfigParts) (rows : List Row) : Type 0 where
   pub words : List ℕ
   pub levels : List (List ℕ)
   pub setting : IsSetting p
@@ -19,7 +19,7 @@ pub record IsLawful (bytes : List ℕ) (p : ConfigParts) (rows : List Row) : Typ
   pub rows_are : map row_pair rows ≡ entries (map_in p words levels)
 
 abbrev pub VerdictOf : List ℕ → Verdict → Type 0
-VerdictOf bytes (Lawful cfg pairs) = IsLawful bytes (parts_of cfg) pairs
+VerdictOf bytes (Lawful cfg pairs) = IsTreePicture bytes (parts_of cfg) pairs
 VerdictOf bytes (Refused place) = IsFirstPlace bytes place
 
 -- the words hold a tree

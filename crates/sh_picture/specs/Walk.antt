@@ -8,8 +8,8 @@ use Rattle.sh_tree.specs.Nodes.{NodeIn, low_at, high_at, next_at}
 abbrev pub level_at : ConfigParts → List ℕ → ℕ → ℕ
 level_at p words n = slice_index (node_part p words n) 1
 
-abbrev pub child_at : ConfigParts → List ℕ → ℕ → ℕ
-child_at p words n = slice_index (node_part p words n) 7
+abbrev pub first_child : ConfigParts → List ℕ → ℕ → ℕ
+first_child p words n = slice_index (node_part p words n) 7
 
 -- the node that the root word names, if it names one
 abbrev pub root_of : List ℕ → ℕ
@@ -23,7 +23,7 @@ pub record IsSpelled (p : ConfigParts) (words : List ℕ) (n : ℕ) : Type 0 whe
 
 -- A number that the walk comes to is sound on this level, behind a node that ends at low: it names a node that spells an
 -- image of this level, and that node begins there.
-pub record IsSound (p : ConfigParts) (words : List ℕ) (level low n : ℕ) : Type 0 where
+pub record IsSoundNode (p : ConfigParts) (words : List ℕ) (level low n : ℕ) : Type 0 where
   pub spelled : IsSpelled p words n
   pub level_is : level_at p words n ≡ level
   pub low_is : low_at p words n ≡ low
@@ -32,7 +32,7 @@ pub record IsSound (p : ConfigParts) (words : List ℕ) (level low n : ℕ) : Ty
 -- a number behind a node that ends at high.
 abbrev pub IsAlong : (p : ConfigParts) → (words : List ℕ) → (level number low : ℕ) → List ℕ → (comes_to high : ℕ) → Type 0
 IsAlong p words level number low [] comes_to high = (comes_to ≡ number) × (high ≡ low)
-IsAlong p words level number low (n ∷ ns) comes_to high = (number ≡ n) × IsSound p words level low n × IsAlong p words level (next_at p words n) (high_at p words n) ns comes_to high
+IsAlong p words level number low (n ∷ ns) comes_to high = (number ≡ n) × IsSoundNode p words level low n × IsAlong p words level (next_at p words n) (high_at p words n) ns comes_to high
 
 -- the walk of a whole level: all its numbers are sound, from low 0 on, until it comes to 0
 pub record IsLevel (p : ConfigParts) (words : List ℕ) (level first : ℕ) (nodes : List ℕ) : Type 0 where
@@ -43,7 +43,7 @@ pub record IsLevel (p : ConfigParts) (words : List ℕ) (level first : ℕ) (nod
 -- node above; `left` more are below, and it comes to the first number of those.
 abbrev pub IsDown : (p : ConfigParts) → (words : List ℕ) → (left first : ℕ) → List (List ℕ) → (comes_to : ℕ) → Type 0
 IsDown p words left first [] comes_to = comes_to ≡ first
-IsDown p words left first (nodes ∷ below) comes_to = IsLevel p words (length below + left) first nodes × IsDown p words left (child_at p words first) below comes_to
+IsDown p words left first (nodes ∷ below) comes_to = IsLevel p words (length below + left) first nodes × IsDown p words left (first_child p words first) below comes_to
 
 -- the walk of all levels, from the root down to level 0
 pub record IsWalked (p : ConfigParts) (words : List ℕ) (levels : List (List ℕ)) : Type 0 where
@@ -61,4 +61,4 @@ pub record IsUnsound (p : ConfigParts) (words : List ℕ) (level number : ℕ) :
   pub down : IsDown p words (suc level) (root_of words) above first
   pub along : IsAlong p words level first 0 before number low
   pub some : number ≢ 0
-  pub unsound : IsSound p words level low number → ⊥
+  pub unsound : IsSoundNode p words level low number → ⊥

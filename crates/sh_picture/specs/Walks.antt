@@ -1,7 +1,7 @@
 -- What the walks of the code come to.
 use Rattle.std.specs.Prelude.{◌≢◌, ℕ, List, map}
 use Rattle.sh_base.specs.declared.config.ConfigParts.{ConfigParts}
-use Rattle.sh_picture.specs.{Walk.{IsAlong, IsLevel, IsSound, IsUnsound, IsWalked}, declared.walked.{LevelWalk.{LevelWalk}, Walk.{Walk}}}
+use Rattle.sh_picture.specs.{Walk.{IsAlong, IsLevel, IsSoundNode, IsUnsound, IsWalked}, declared.walked.{LevelWalk.{LevelWalk}, Walk.{Walk}}}
 use Rattle.sh_picture.specs.declared.walked.LevelWalk.TheVariants as level_walk
 use Rattle.sh_picture.specs.declared.walked.Walk.TheVariants as whole_walk
 
@@ -11,7 +11,7 @@ pub record StopsAt (p : ConfigParts) (words : List ℕ) (level first number : �
   pub low : ℕ
   pub along : IsAlong p words level first 0 before number low
   pub some : number ≢ 0
-  pub unsound : IsSound p words level low number → ⊥
+  pub unsound : IsSoundNode p words level low number → ⊥
 
 abbrev pub LevelWalked : ConfigParts → List ℕ → (level first : ℕ) → LevelWalk → Type 0
 LevelWalked p words level first (level_walk.Whole nodes) = IsLevel p words level first nodes.items

@@ -1,7 +1,7 @@
 // What the first 56 bytes of a picture say.
 ghost use Rattle.std.specs.Prelude.{ℕ, ◌≡◌, ◌≤◌, ◌<◌, ◌+◌, ◌*◌, length, MatchOption, MatchResult, None, Some};
 ghost use Rattle.sh_base.specs.Parts.{parts_of};
-ghost use Rattle.sh_picture.specs.{Picture.{number_in, parts_in}, Fault.{HasMagic, HasWords, IsFirstPlace, IsMagicAt}, Tree.{IsFirstBad}};
+ghost use Rattle.sh_picture.specs.{Picture.{number_in, parts_spelled}, Fault.{HasMagic, HasWords, IsFirstPlace, IsMagicAt}, Tree.{IsFirstBad}};
 
 use crate::FirstPlace;
 use byteorder::{BigEndian, ByteOrder};
@@ -37,7 +37,7 @@ fn number_in(bytes: &[u8], i: usize) -> u32
 // The numbers of the setting.
 fn parts_in(bytes: &[u8]) -> ConfigParts
     requires { 56 ≤ length bytes.now }
-    ensures { result ≡ parts_in bytes.now }
+    ensures { result ≡ parts_spelled bytes.now }
 {
     ConfigParts {
         servers: number_in(bytes, 0),
@@ -57,7 +57,7 @@ fn parts_in(bytes: &[u8]) -> ConfigParts
 
 // The setting of a picture that has as many bytes as its pool wants, or the place before which this isn't so.
 pub(crate) fn setting_of(bytes: &[u8]) -> Result<Config, FirstPlace>
-    ensures { MatchResult result (λ cfg. HasWords bytes.now × (parts_of cfg ≡ parts_in bytes.now)) (λ place. IsFirstPlace bytes.now place) }
+    ensures { MatchResult result (λ cfg. HasWords bytes.now × (parts_of cfg ≡ parts_spelled bytes.now)) (λ place. IsFirstPlace bytes.now place) }
 {
     if bytes.len() < 56 {
         return Err(FirstPlace::Short);

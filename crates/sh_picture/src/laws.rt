@@ -4,19 +4,19 @@ ghost use Rattle.sh_base.specs.{declared.config.ConfigParts.{ConfigParts}, Setti
 ghost use Rattle.sh_map.specs.declared.book.Row.{Row};
 ghost use Rattle.sh_tree.specs.Tree.{IsTree};
 ghost use Rattle.sh_picture.specs.{declared.{place.FirstPlace.{FirstPlace}, verdict.Verdict.{Verdict}, ending.PictureStatus.{PictureStatus}}, Top.{EndsWell, Headline, IsFree}};
-ghost use Rattle.sh_picture.specs.{Picture.{parts_in, picture_of, words_in}, Fault.{IsFirstPlace, IsIdle}, Verdict.{HasMapOf, IsLawful, VerdictOf}};
+ghost use Rattle.sh_picture.specs.{Picture.{parts_spelled, picture_of, words_in}, Fault.{IsFirstPlace, IsIdle}, Verdict.{HasMapOf, IsTreePicture, VerdictOf}};
 
 /// A picture says its setting and its words. Of a pool at rest that holds a tree the verdict on its picture is lawful,
 /// with the pool's setting and the tree's map; so is `check` of what `paint` wrote.
 pub fn pictures_of_trees_are_lawful()
-    ensures parts { (p : ConfigParts) (words : List ℕ) → IsSetting p → parts_in (picture_of p words) ≡ p }
+    ensures parts { (p : ConfigParts) (words : List ℕ) → IsSetting p → parts_spelled (picture_of p words) ≡ p }
     ensures words { (p : ConfigParts) (words : List ℕ) → IsSetting p → length words ≡ pool_words p → ((i : ℕ) → slice_index words i < 2 ^ 64) → words_in (picture_of p words) ≡ words }
     ensures lawful { (p : ConfigParts) (words : List ℕ) (levels : List (List ℕ)) (verdict : Verdict) → IsSetting p → length words ≡ pool_words p → ((i : ℕ) → slice_index words i < 2 ^ 64) → IsIdle p words → IsTree p words levels → VerdictOf (picture_of p words) verdict → HasMapOf p words levels verdict }
 {}
 
 /// Bytes have one verdict: where they are the picture of a lawful tree, no place is the first that says otherwise.
 pub fn lawful_pictures_have_no_place()
-    ensures { (bytes : List ℕ) (p : ConfigParts) (rows : List Row) (place : FirstPlace) → IsLawful bytes p rows → IsFirstPlace bytes place → ⊥ }
+    ensures { (bytes : List ℕ) (p : ConfigParts) (rows : List Row) (place : FirstPlace) → IsTreePicture bytes p rows → IsFirstPlace bytes place → ⊥ }
 {}
 
 /// Bytes have one first place at most.

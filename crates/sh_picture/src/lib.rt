@@ -191,105 +191,36 @@ mod tests {
         Ok(())
     }
 
+    // Whether this is told of the picture with one byte changed.
+    fn tells(
+        alloc: Global,
+        bytes: &[u8],
+        at: usize,
+        byte: u8,
+        text: &[u8],
+    ) -> Result<bool, AllocError> {
+        ends(alloc, &[], &changed(alloc, bytes, at, byte)?, 11, text)
+    }
+
     #[test]
     fn each_place_by_one_byte(rt: HostRuntime) -> Result<(), Fail> {
         let alloc = rt.alloc();
         let bytes = five_keys(alloc)?;
         assert!(rt; ends(alloc, &[], &bytes, 0, b"lawful,5,15\n")?);
-        assert!(rt;
-            ends(
-                alloc,
-                &[],
-                &changed(alloc, &bytes, 3, 0)?,
-                11,
-                b"refused,magic,3\n"
-            )?
-        );
-        assert!(rt;
-            ends(
-                alloc,
-                &[],
-                &changed(alloc, &bytes, 27, 3)?,
-                11,
-                b"refused,setting\n"
-            )?
-        );
-        assert!(rt;
-            ends(
-                alloc,
-                &[],
-                &changed(alloc, &bytes, 27, 5)?,
-                11,
-                b"refused,length\n"
-            )?
-        );
-        assert!(rt;
-            ends(
-                alloc,
-                &[],
-                &changed(alloc, &bytes, 63, 1)?,
-                11,
-                b"refused,zero\n"
-            )?
-        );
-        assert!(rt;
-            ends(
-                alloc,
-                &[],
-                &changed(alloc, &bytes, 95, 1)?,
-                11,
-                b"refused,lock,1\n"
-            )?
-        );
-        assert!(rt;
-            ends(
-                alloc,
-                &[],
-                &changed(alloc, &bytes, 71, 33)?,
-                11,
-                b"refused,root\n"
-            )?
-        );
+        assert!(rt; tells(alloc, &bytes, 3, 0, b"refused,magic,3\n")?);
+        assert!(rt; tells(alloc, &bytes, 27, 3, b"refused,setting\n")?);
+        assert!(rt; tells(alloc, &bytes, 27, 5, b"refused,length\n")?);
+        assert!(rt; tells(alloc, &bytes, 63, 1, b"refused,zero\n")?);
+        assert!(rt; tells(alloc, &bytes, 95, 1, b"refused,lock,1\n")?);
+        assert!(rt; tells(alloc, &bytes, 71, 33, b"refused,root\n")?);
         // The second leaf begins at 31.
-        assert!(rt;
-            ends(
-                alloc,
-                &[],
-                &changed(alloc, &bytes, 2_087, 31)?,
-                11,
-                b"refused,chain,0,9\n"
-            )?
-        );
+        assert!(rt; tells(alloc, &bytes, 2_087, 31, b"refused,chain,0,9\n")?);
         // The root doesn't begin at 0.
-        assert!(rt;
-            ends(
-                alloc,
-                &[],
-                &changed(alloc, &bytes, 2_271, 1)?,
-                11,
-                b"refused,root\n"
-            )?
-        );
+        assert!(rt; tells(alloc, &bytes, 2_271, 1, b"refused,root\n")?);
         // The second separator is 29.
-        assert!(rt;
-            ends(
-                alloc,
-                &[],
-                &changed(alloc, &bytes, 2_319, 29)?,
-                11,
-                b"refused,pair,10,1\n"
-            )?
-        );
+        assert!(rt; tells(alloc, &bytes, 2_319, 29, b"refused,pair,10,1\n")?);
         // The second leaf has 40 twice.
-        assert!(rt;
-            ends(
-                alloc,
-                &[],
-                &changed(alloc, &bytes, 2_191, 40)?,
-                11,
-                b"refused,twice,9,40\n"
-            )?
-        );
+        assert!(rt; tells(alloc, &bytes, 2_191, 40, b"refused,twice,9,40\n")?);
         Ok(())
     }
 
@@ -449,6 +380,30 @@ mod tests {
                 == PictureStatus::Served(Status::WriteFault)
         );
         assert!(rt; sink.bytes() == b"lawful,".as_slice());
+        Ok(())
+    }
+
+    // Whether an end has this text and this code, also as it is displayed.
+    fn is_told(
+        alloc: Global,
+        end: PictureStatus,
+        code: u8,
+        text: &str,
+    ) -> Result<bool, AllocError> {
+        let shown = format!(in alloc; "{end}")?;
+        Ok(end.code() == code && end.text().as_str() == text && shown.as_str() == text)
+    }
+
+    #[test]
+    fn ends_are_told(rt: HostRuntime) -> Result<(), Fail> {
+        for (end, code, text) in [
+            (PictureStatus::Served(Status::Ok), 0, ""),
+            (PictureStatus::Served(Status::Usage), 2, "usage"),
+            (PictureStatus::Served(Status::NoMemory), 8, "no memory"),
+            (PictureStatus::NotLawful, 11, ""),
+        ] {
+            assert!(rt; is_told(rt.alloc(), end, code, text)?, "{text}");
+        }
         Ok(())
     }
 }

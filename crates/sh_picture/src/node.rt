@@ -2,7 +2,7 @@
 ghost use Rattle.std.specs.Prelude.{◌≡◌, ◌≤◌, ◌<◌, ◌↔◌, IsTrue, length, slice_index};
 ghost use Rattle.sh_base.specs.{Parts.{parts_of}, Setting.{nodes, node_size, pool_words, IsNode}, Layout.{node_part}};
 ghost use Rattle.sh_tree.specs.Nodes.{high_at, next_at};
-ghost use Rattle.sh_picture.specs.Walk.{child_at, IsSound, IsSpelled};
+ghost use Rattle.sh_picture.specs.Walk.{first_child, IsSoundNode, IsSpelled};
 
 use sh_base::Config;
 use sh_image::{Seen, read_image};
@@ -51,7 +51,7 @@ pub(crate) fn is_spelled(cfg: &Config, words: &[u64], node: u64) -> bool
 #[tactic(auto, using(sh_base::proofs::LayoutLemmas::node_size_is, sh_base::proofs::LayoutLemmas::rear_at_low))]
 pub(crate) fn is_sound(cfg: &Config, words: &[u64], level: u64, low: u64, node: u32) -> bool
     requires { length words.now ≡ pool_words (parts_of cfg.now) }
-    ensures { IsTrue result ↔ IsSound (parts_of cfg.now) words.now level low node }
+    ensures { IsTrue result ↔ IsSoundNode (parts_of cfg.now) words.now level low node }
 {
     if !is_spelled(cfg, words, u64::from(node)) {
         return false;
@@ -84,7 +84,7 @@ pub(crate) fn next_of(cfg: &Config, words: &[u64], node: u32) -> u32
 pub(crate) fn child_of(cfg: &Config, words: &[u64], node: u32) -> u32
     requires pool { length words.now ≡ pool_words (parts_of cfg.now) }
     requires node { IsNode (parts_of cfg.now) node }
-    ensures { child_at (parts_of cfg.now) words.now node ≤ nodes (parts_of cfg.now) → result ≡ child_at (parts_of cfg.now) words.now node }
+    ensures { first_child (parts_of cfg.now) words.now node ≤ nodes (parts_of cfg.now) → result ≡ first_child (parts_of cfg.now) words.now node }
 {
     named_by(cfg, word_at(cfg, words, node, 7))
 }

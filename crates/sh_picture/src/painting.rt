@@ -4,7 +4,7 @@ ghost use Rattle.std.specs.{List.{flat_map}, Io.KnownBytes.{Appends}};
 ghost use Rattle.byteorder.specs.Endian.{big_bytes};
 ghost use Rattle.sh_base.specs.{Parts.{parts_of}, Setting.{pool_words}};
 ghost use Rattle.sh_port.specs.Port.{AppendsFront, HasFaultCause};
-ghost use Rattle.sh_picture.specs.Picture.{header_of, numbers_of, picture_of};
+ghost use Rattle.sh_picture.specs.Picture.{header_of, setting_numbers, picture_of};
 
 use crate::header::MAGIC;
 use byteorder::{BigEndian, ByteOrder};
@@ -16,7 +16,7 @@ const PIECE: usize = 512;
 
 // The twelve numbers of a setting, in their order.
 fn numbers_of(p: &ConfigParts) -> [u32; 12]
-    ensures { result ≡ numbers_of p.now }
+    ensures { result ≡ setting_numbers p.now }
 {
     [
         p.servers,

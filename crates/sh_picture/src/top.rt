@@ -1,6 +1,6 @@
 // From the bytes in to the lines out.
 ghost use Rattle.std.specs.Prelude.{◌≡◌, map};
-ghost use Rattle.sh_picture.specs.Top.{asked_of, told, untold, Checked, Headline};
+ghost use Rattle.sh_picture.specs.Top.{map_asked, told, untold, Checked, Headline};
 
 use crate::checking::check;
 use crate::writing::write_verdict;
@@ -15,7 +15,7 @@ pub const MOST_BYTES: u64 = 33_554_488;
 
 // Whether the words ask for the map, where they are accepted.
 fn asked_of(words: &[&str]) -> Option<bool>
-    ensures { result ≡ asked_of (map (λ w. w.now) words.now) }
+    ensures { result ≡ map_asked (map (λ w. w.now) words.now) }
 {
     match words {
         [] => Some(false),
@@ -84,7 +84,7 @@ pub fn check_top<S: Source, K: Sink>(
     source: &mut S,
     sink: &mut K,
 ) -> PictureStatus
-    ensures { Headline (asked_of (map (λ w. w.now) words.now)) (S.left source.old) (S.left source.new) (S.faults source.old) (S.faults source.new) (K.held sink.old) (K.held sink.new) (K.faults sink.old) (K.faults sink.new) result }
+    ensures { Headline (map_asked (map (λ w. w.now) words.now)) (S.left source.old) (S.left source.new) (S.faults source.old) (S.faults source.new) (K.held sink.old) (K.held sink.new) (K.faults sink.old) (K.faults sink.new) result }
 {
     match asked_of(words) {
         Some(asked) => check_input(alloc, asked, source, sink),

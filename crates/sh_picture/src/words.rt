@@ -1,7 +1,7 @@
 // The words of a picture.
 ghost use Rattle.std.specs.Prelude.{◌≡◌, ◌≢◌, ◌+◌, ◌*◌, ◌<◌, ℕ, drop, length, slice_index, IfOk, MatchOption};
 ghost use Rattle.sh_base.specs.{Parts.{parts_of}, Setting.{all_locks, pool_words}};
-ghost use Rattle.sh_picture.specs.{Picture.{numbers_from}, Fault.{IsFree}, Tree.{IsFirstBad}};
+ghost use Rattle.sh_picture.specs.{Picture.{numbers_spelled}, Fault.{IsFree}, Tree.{IsFirstBad}};
 
 use byteorder::{BigEndian, ByteOrder};
 use sh_base::Config;
@@ -10,7 +10,7 @@ use std::alloc::{AllocError, Global};
 // The words behind the first 56 bytes, as many as the setting's pool has.
 pub(crate) fn read_words(alloc: Global, cfg: &Config, bytes: &[u8]) -> Result<Vec<u64>, AllocError>
     requires { length bytes.now ≡ 56 + 8 * pool_words (parts_of cfg.now) }
-    ensures { IfOk result (λ v. v.items ≡ numbers_from 8 (pool_words (parts_of cfg.now)) (drop 56 bytes.now)) }
+    ensures { IfOk result (λ v. v.items ≡ numbers_spelled 8 (pool_words (parts_of cfg.now)) (drop 56 bytes.now)) }
 {
     let mut words = vec![in alloc; 0; cfg.words() as usize]?;
     BigEndian::read_u64_into(&bytes[56..], &mut words);

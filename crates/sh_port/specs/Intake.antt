@@ -23,11 +23,18 @@ pub record TookMoreThan (most : ℕ) (left rest : Option (List ℕ)) (before now
   pub long : length bytes ≡ most + 1
   pub count : now ≡ before
 
+-- at most `most` bytes were taken, and no call failed
+pub record TookNoMoreThan (most : ℕ) (left rest : Option (List ℕ)) (before now : ℕ) : Type 0 where
+  pub bytes : List ℕ
+  pub taken : Consumes left rest bytes
+  pub short : length bytes < most + 1
+  pub count : now ≡ before
+
 -- why there are no bytes
 abbrev pub StoppedUpTo : (most : ℕ) → Option (List ℕ) → Option (List ℕ) → ℕ → ℕ → Intake → Type 0
 StoppedUpTo most left rest before now Fault = TookSomeUpTo most left rest before now
 StoppedUpTo most left rest before now TooLong = TookMoreThan most left rest before now
-StoppedUpTo most left rest before now NoMemory = now ≡ before
+StoppedUpTo most left rest before now NoMemory = TookNoMoreThan most left rest before now
 
 -- the same where an input has 16,777,216 bytes at most
 abbrev pub TookAll : Option (List ℕ) → Option (List ℕ) → ℕ → ℕ → List ℕ → Type 0

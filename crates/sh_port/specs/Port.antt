@@ -1,5 +1,5 @@
 -- What the calls of sources and sinks say of their faults and their bytes.
-use Rattle.std.specs.{Prelude.{ℕ, ◌≡◌, ◌≤◌, ◌<◌, ◌-◌, ◌^◌, ◌⊎◌, List, Option, Result, OnOk, OnErr, ◌++◌}, Io.KnownBytes.{Appends}}
+use Rattle.std.specs.{Prelude.{ℕ, ◌≡◌, ◌≤◌, ◌<◌, ◌-◌, ◌^◌, ◌⊎◌, List, [], ◌∷◌, Option, Result, OnOk, OnErr, ◌++◌}, Io.KnownBytes.{Appends}}
 
 -- the count of faults has risen, or stands at its last value
 abbrev pub HasRisen : ℕ → ℕ → Type 0
@@ -17,3 +17,8 @@ pub record AppendsFront (old new : Option (List ℕ)) (bytes : List ℕ) : Type 
   pub rest : List ℕ
   pub whole : bytes ≡ front ++ rest
   pub written : Appends old new front
+
+-- the line that tells a text: the text and a line feed, and nothing where there is no text
+abbrev pub line_of : List ℕ → List ℕ
+line_of [] = []
+line_of (b ∷ bs) = (b ∷ bs) ++ 10 ∷ []

@@ -8,7 +8,7 @@ mod std_port;
 mod sure;
 
 pub use list::{ListSink, ListSource};
-pub use loops::{Bytes, Intake, MOST_BYTES, read_all, read_up_to, write_all};
+pub use loops::{Bytes, Intake, MOST_BYTES, read_all, read_up_to, write_all, write_line};
 pub use port::{Failed, Sink, Source};
 pub use std_port::{StdSink, StdSource};
 pub use sure::{SureSink, SureSource};

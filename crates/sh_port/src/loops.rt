@@ -1,6 +1,6 @@
 // A whole input read, and a whole text written.
 ghost use Rattle.std.specs.{Prelude.{◌≡◌, ◌≤◌, ◌^◌, OnOk, OnErr, MatchResult}, Io.KnownBytes.{Appends}};
-ghost use Rattle.sh_port.specs.{Port.{HasFaultCause, AppendsFront}, Intake.{TookAll, TookUpTo, StoppedBy, StoppedUpTo}};
+ghost use Rattle.sh_port.specs.{Port.{HasFaultCause, AppendsFront, line_of}, Intake.{TookAll, TookUpTo, StoppedBy, StoppedUpTo}};
 
 use crate::{Failed, Sink, Source};
 use std::alloc::Global;
@@ -23,8 +23,8 @@ pub enum Intake {
 }
 
 /// All the bytes that are left, where there are at most `most`. `Ok` comes only where the source's last answer was the
-/// end, `Fault` only where its count of faults rose, and `TooLong` exactly where one byte more than `most` was taken.
-/// Condition: `most` is at most 2^32.
+/// end, `Fault` only where its count of faults rose, `TooLong` exactly where one byte more than `most` was taken, and
+/// `NoMemory` only where no more than `most` were. Condition: `most` is at most 2^32.
 pub fn read_up_to<S: Source>(alloc: Global, source: &mut S, most: u64) -> Result<Bytes, Intake>
     requires { most ≤ 2 ^ 32 }
     ensures { MatchResult result (λ v. TookUpTo most (S.left source.old) (S.left source.new) (S.faults source.old) (S.faults source.new) v.items) (λ e. StoppedUpTo most (S.left source.old) (S.left source.new) (S.faults source.old) (S.faults source.new) e) }
@@ -32,7 +32,7 @@ pub fn read_up_to<S: Source>(alloc: Global, source: &mut S, most: u64) -> Result
     let most = most as usize;
     let mut bytes = Vec::new(alloc);
     let mut buffer = [0u8; 4096];
-    'reads: while bytes.len() <= most {
+    'reads: loop {
         let room = (most + 1 - bytes.len()).min(4096);
         let n = match source.read(&mut buffer[..room]) {
             Ok(n) => n,
@@ -41,11 +41,13 @@ pub fn read_up_to<S: Source>(alloc: Global, source: &mut S, most: u64) -> Result
         if n == 0 {
             return Ok(bytes);
         }
+        if n > most - bytes.len() {
+            return Err(Intake::TooLong);
+        }
         if bytes.extend_from_slice(&buffer[..n]).is_err() {
             return Err(Intake::NoMemory);
         }
     }
-    Err(Intake::TooLong)
 }
 
 /// All the bytes that are left, where there are at most [`MOST_BYTES`], as `read_up_to` reads them.
@@ -66,4 +68,20 @@ pub fn write_all<K: Sink>(sink: &mut K, piece: &[u8]) -> Result<(), Failed>
         at += sink.write(&piece[at..])?;
     }
     Ok(())
+}
+
+/// Writes a text and a line feed, and nothing where the text is empty. Where a call of the sink fails, the sink holds a
+/// front of that line more.
+pub fn write_line<K: Sink>(sink: &mut K, text: &str) -> Result<(), Failed>
+    ensures ok { OnOk result (Appends (K.held sink.old) (K.held sink.new) (line_of text.now)) }
+    ensures err { OnErr result (AppendsFront (K.held sink.old) (K.held sink.new) (line_of text.now)) }
+    ensures cause { HasFaultCause (K.faults sink.old) (K.faults sink.new) result }
+{
+    if text.is_empty() {
+        return Ok(());
+    }
+    match write_all(sink, text.as_bytes()) {
+        Ok(()) => write_all(sink, b"\n"),
+        Err(error) => Err(error),
+    }
 }

@@ -1,7 +1,7 @@
 -- The calls of a world are those that it was given, whatever turns are made; and a map has no more keys than its log has
 -- entries.
-use Rattle.std.proofs.Common.{◌≡◌, ◌≤◌, ℕ, zero, suc, ◌+◌, ◌-◌, Bool, true, false, cond, List, [], ◌∷◌, ◌++◌, map, length, Option, Some, None, refl, sym, ap, ◌∙◌, append_assoc, inl, inr, arith}
-use Rattle.std.{specs.{Prelude.{All, filter, slice_get, if◌then◌else◌}, List.{fold, range_with_len}, FinMap.{contains_key, len-insert, len-remove}}, proofs.lemmas.List.{append-nil, map-append}}
+use Rattle.std.proofs.Common.{◌≡◌, ◌≤◌, ℕ, zero, suc, ◌+◌, ◌-◌, Bool, true, false, cond, List, [], ◌∷◌, ◌++◌, map, length, Option, Some, None, refl, sym, ap, ◌∙◌, append_assoc, arith}
+use Rattle.std.{specs.{Prelude.{All, filter, slice_get, if◌then◌else◌}, List.{fold}, FinMap.{contains_key, len-insert, len-remove}}, proofs.lemmas.List.{append-nil, map-append}}
 use Rattle.std.{proofs.lemmas.List.Elements.{All-head, All-tail, filter-append}, specs.Cmp.{nat_cmp_total}}
 use Rattle.sh_base.specs.{declared.config.ConfigParts.{ConfigParts}, Setting.{all_seats}}
 use Rattle.sh_map.specs.{declared.{call.{Call.{Call}, Reply.{Reply}}, book.Row.{Row}, log.{Change.{Change}, Entry.{Entry}}}, Map.{Map, size}, Log.{changed, map_from}}
@@ -10,8 +10,7 @@ use Rattle.sh_client.specs.{declared.state.Want.{Want}, Wants.{want_of}}
 use Rattle.sh_client.specs.declared.state.Want.TheVariants as want
 use Rattle.sh_sheet.specs.declared.item.Item.{Item, TheVariants.{Ask, Mark, After, Turn}}
 use Rattle.sh_world.specs.{States.{Given, Place, State, answered, fresh_call}, Turning.{asked, give_at, took, turn_at, turn_of}}
-use Rattle.sh_replay.{specs.{Course.{ask, given_by, last_round, round, rounds, turned_by, turns_by, Rounds}, Served.{is_call, item_of}, Serving.{IsServable}}, proofs.EndLemmas.{there_is}}
-use Rattle.sh_replay.proofs.{ItemLemmas.{given_keeps, turned_setting}, TurnLemmas.{turn_setting}, RoundLemmas.{asks}}
+use Rattle.sh_replay.{specs.{Course.{given_by}, Served.{is_call, item_of}, Serving.{IsServable}}, proofs.{EndLemmas.{there_is}, ItemLemmas.{given_keeps}}}
 
 abbrev pub items_of : State → List Item
 items_of s = map item_of s.calls
@@ -33,44 +32,9 @@ turn_at_same : (s : State) (seat : ℕ) (o : Option Place) → items_of (turn_at
 turn_at_same s seat None = refl
 turn_at_same s seat (Some q) = took_same s seat (asked s.calls q (length s.log)) (want_of (asked s.calls q (length s.log)).client)
 
-turn_same : (s : State) (seat : ℕ) → items_of (turn_of s seat) ≡ items_of s
+-- a turn leaves the world's calls, but for what they were answered
+pub turn_same : (s : State) (seat : ℕ) → items_of (turn_of s seat) ≡ items_of s
 turn_same s seat = turn_at_same s seat (slice_get s.seats seat)
-
-turns_same : (s : State) (seat count : ℕ) → items_of (turns_by s seat count) ≡ items_of s
-turns_same s seat zero = refl
-turns_same s seat (suc count) = turns_same (turn_of s seat) seat count ∙ turn_same s seat
-
-turned_same : (s : State) (item : Item) → items_of (turned_by s item) ≡ items_of s
-turned_same s (Ask seat call) = refl
-turned_same s (Mark seat n) = refl
-turned_same s (After seat n) = refl
-turned_same s (Turn seat count) = turns_same s seat count
-
-all_turned_same : (items : List Item) (s : State) → items_of (fold turned_by s items) ≡ items_of s
-all_turned_same [] s = refl
-all_turned_same (i ∷ is) s = all_turned_same is (turned_by s i) ∙ turned_same s i
-
-ask_same : (r : Rounds) (x : ℕ) → (items_of (ask r x).world ≡ items_of r.world) × ((ask r x).world.setting ≡ r.world.setting)
-ask_same r x = elim (asks r x) [
-  | inl same ↦ (ap (λ (t : Rounds). items_of t.world) same, ap (λ (t : Rounds). t.world.setting) same)
-  | inr turn ↦ (ap (λ (t : Rounds). items_of t.world) turn.0 ∙ turn_same r.world x, ap (λ (t : Rounds). t.world.setting) turn.0 ∙ turn_setting r.world x)
-]
-
-asked_same : (xs : List ℕ) (r : Rounds) → (items_of (fold ask r xs).world ≡ items_of r.world) × ((fold ask r xs).world.setting ≡ r.world.setting)
-asked_same [] r = (refl, refl)
-asked_same (x ∷ xs) r = ((asked_same xs (ask r x)).0 ∙ (ask_same r x).0, (asked_same xs (ask r x)).1 ∙ (ask_same r x).1)
-
-rounds_same : (count : ℕ) (r : Rounds) → (items_of (rounds count r).world ≡ items_of r.world) × ((rounds count r).world.setting ≡ r.world.setting)
-rounds_same zero r = (refl, refl)
-rounds_same (suc count) r =
-    let one = asked_same (range_with_len 0 (length r.world.seats)) r in
-    ((rounds_same count (round r)).0 ∙ one.0, (rounds_same count (round r)).1 ∙ one.1)
-
--- what the rows of turns and the rounds leave
-pub finished_same : (items : List Item) (s : State) (budget : ℕ) → (items_of (last_round (record { world = fold turned_by s items; left = budget })).world ≡ items_of s) × ((last_round (record { world = fold turned_by s items; left = budget })).world.setting ≡ s.setting)
-finished_same items s budget =
-    let all = rounds_same budget (record { world = fold turned_by s items; left = budget }) in
-    (all.0 ∙ all_turned_same items s, all.1 ∙ turned_setting items s)
 
 -- ---- calls that are given
 

@@ -1,24 +1,18 @@
 -- The items of a sheet, one after another.
 use Rattle.std.{proofs.Common.{◌≡◌, ◌≤◌, ◌<◌, ℕ, zero, suc, ◌+◌, ◌-◌, ◌^◌, List, [], ◌∷◌, ◌++◌, length, take, get_or, refl, sym, ap, subst, ◌∙◌, arith}, specs.Prelude.{All, Option, Some, None}}
-use Rattle.std.{specs.List.{fold, sum_by}, proofs.lemmas.List.{append-nil, length-append, take_more, Sums.{fold_more, sum_by-cons}}}
+use Rattle.std.{specs.List.{flat_map, fold, sum_by}, proofs.lemmas.List.{append-nil, length-append, take_more, Concat.{flat_map-append}, Sums.{fold-append, fold_more, sum_by-cons}}}
 use Rattle.sh_base.specs.declared.config.ConfigParts.{ConfigParts}
 use Rattle.sh_map.specs.declared.call.Call.{Call}
 use Rattle.sh_sheet.specs.{declared.item.Item.{Item, TheVariants.{Ask, Mark, After, Turn}}, Sheet.{item_calls}}
 use Rattle.sh_world.specs.{States.{Place, State, fresh_call}, Turning.{give_at}}
-use Rattle.sh_replay.specs.{declared.turns.TurnRow.{TurnRow}, Course.{given_by, turned_by, turns_by}, TurnRows.{made_by, turn_rows}, Serving.{IsServable}}
-use Rattle.sh_replay.proofs.TurnLemmas.{give_seats, give_setting, turns_seats, turns_setting}
+use Rattle.sh_replay.specs.{declared.turns.TurnRow.{TurnRow}, Course.{ask, given_by, item_asks, row_asks, turn_asks, Asking, Stage}, TurnRows.{kept_asks, turn_rows}, Serving.{IsServable}}
+use Rattle.sh_replay.proofs.TurnLemmas.{give_seats, give_setting}
 
 -- one item more
 pub item_more : (f : State → Item → State) (first world after : State) (items : List Item) (i : ℕ) (item : Item) → i < length items → item ≡ get_or items i item → world ≡ fold f first (take i items) → after ≡ f world item → after ≡ fold f first (take (i + 1) items)
 item_more f first world after items i item below is so e = e ∙ ap (λ (t : State). f t item) so ∙ ap (f (fold f first (take i items))) is ∙ sym (fold_more f first items i item below)
 
--- an item that isn't one of turns, or isn't a call, changes nothing
-pub no_turns : (s : State) (item : Item) → ((seat count : ℕ) → item ≡ Turn seat count → ⊥) → turned_by s item ≡ s
-no_turns s (Ask seat call) not = refl
-no_turns s (Mark seat n) not = refl
-no_turns s (After seat n) not = refl
-no_turns s (Turn seat count) not = absurd (not seat count refl)
-
+-- an item that isn't a call changes nothing
 pub no_call : (s : State) (item : Item) → ((seat : ℕ) (call : Call) → item ≡ Ask seat call → ⊥) → given_by s item ≡ s
 no_call s (Ask seat call) not = absurd (not seat call refl)
 no_call s (Mark seat n) not = refl
@@ -27,33 +21,21 @@ no_call s (Turn seat count) not = refl
 
 -- ---- what the items leave
 
-turned_keeps : (s : State) (item : Item) → ((turned_by s item).setting ≡ s.setting) × (length (turned_by s item).seats ≡ length s.seats)
-turned_keeps s (Ask seat call) = (refl, refl)
-turned_keeps s (Mark seat n) = (refl, refl)
-turned_keeps s (After seat n) = (refl, refl)
-turned_keeps s (Turn seat count) = (turns_setting s seat count, turns_seats s seat count)
-
 pub given_keeps : (s : State) (item : Item) → ((given_by s item).setting ≡ s.setting) × (length (given_by s item).seats ≡ length s.seats)
 given_keeps s (Ask seat call) = (give_setting s seat call, give_seats s seat call)
 given_keeps s (Mark seat n) = (refl, refl)
 given_keeps s (After seat n) = (refl, refl)
 given_keeps s (Turn seat count) = (refl, refl)
 
-keeps_all : (f : State → Item → State) → ((s : State) (item : Item) → ((f s item).setting ≡ s.setting) × (length (f s item).seats ≡ length s.seats)) → (items : List Item) (s : State) → ((fold f s items).setting ≡ s.setting) × (length (fold f s items).seats ≡ length s.seats)
-keeps_all f keeps [] s = (refl, refl)
-keeps_all f keeps (i ∷ is) s = ((keeps_all f keeps is (f s i)).0 ∙ (keeps s i).0, (keeps_all f keeps is (f s i)).1 ∙ (keeps s i).1)
-
-pub turned_setting : (items : List Item) (s : State) → (fold turned_by s items).setting ≡ s.setting
-turned_setting items s = (keeps_all turned_by turned_keeps items s).0
-
-pub turned_seats : (items : List Item) (s : State) → length (fold turned_by s items).seats ≡ length s.seats
-turned_seats items s = (keeps_all turned_by turned_keeps items s).1
+all_given_keep : (items : List Item) (s : State) → ((fold given_by s items).setting ≡ s.setting) × (length (fold given_by s items).seats ≡ length s.seats)
+all_given_keep [] s = (refl, refl)
+all_given_keep (i ∷ is) s = ((all_given_keep is (given_by s i)).0 ∙ (given_keeps s i).0, (all_given_keep is (given_by s i)).1 ∙ (given_keeps s i).1)
 
 pub given_setting : (items : List Item) (s : State) → (fold given_by s items).setting ≡ s.setting
-given_setting items s = (keeps_all given_by given_keeps items s).0
+given_setting items s = (all_given_keep items s).0
 
 pub given_seats : (items : List Item) (s : State) → length (fold given_by s items).seats ≡ length s.seats
-given_seats items s = (keeps_all given_by given_keeps items s).1
+given_seats items s = (all_given_keep items s).1
 
 -- ---- how many calls
 
@@ -106,10 +88,24 @@ no_row old (Mark seat n) not = sym (append-nil old)
 no_row old (After seat n) not = sym (append-nil old)
 no_row old (Turn seat count) not = absurd (not seat count refl)
 
--- their turns are those of the items
-pub rows_turn : (items : List Item) (s : State) → fold made_by s (turn_rows items) ≡ fold turned_by s items
-rows_turn [] s = refl
-rows_turn (Ask seat call ∷ items) s = rows_turn items s
-rows_turn (Mark seat n ∷ items) s = rows_turn items s
-rows_turn (After seat n ∷ items) s = rows_turn items s
-rows_turn (Turn seat count ∷ items) s = rows_turn items (turns_by s seat count)
+-- their seats are those of the items
+pub kept_are : (items : List Item) → kept_asks (turn_rows items) ≡ row_asks items
+kept_are [] = refl
+kept_are (Ask seat call ∷ items) = kept_are items
+kept_are (Mark seat n ∷ items) = kept_are items
+kept_are (After seat n ∷ items) = kept_are items
+kept_are (Turn seat count ∷ items) = ap (λ xs. turn_asks seat count ++ xs) (kept_are items)
+
+-- one row more is asked
+pub asked_more : {A : Type 0} (f : A → List Asking) (first now after : Stage) (xs : List A) (i : ℕ) (d : A) → i < length xs → now ≡ fold ask first (flat_map f (take i xs)) → after ≡ fold ask now (f (get_or xs i d)) → after ≡ fold ask first (flat_map f (take (i + 1) xs))
+asked_more {A} f first now after xs i d below so e =
+    let x = get_or xs i d in
+    let next : flat_map f (take (i + 1) xs) ≡ flat_map f (take i xs) ++ f x = ap (flat_map f) (take_more xs i d below) ∙ flat_map-append f (take i xs) (x ∷ []) ∙ ap (λ ys. flat_map f (take i xs) ++ ys) (append-nil (f x)) in
+    e ∙ ap (λ (s : Stage). fold ask s (f x)) so ∙ sym (ap (fold ask first) next ∙ fold-append ask first (flat_map f (take i xs)) (f x))
+
+-- an item that isn't one of turns asks no seat
+pub no_turns : (item : Item) → ((seat count : ℕ) → item ≡ Turn seat count → ⊥) → item_asks item ≡ []
+no_turns (Ask seat call) not = refl
+no_turns (Mark seat n) not = refl
+no_turns (After seat n) not = refl
+no_turns (Turn seat count) not = absurd (not seat count refl)

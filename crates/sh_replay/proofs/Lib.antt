@@ -1,5 +1,6 @@
 pub mod TurnLemmas
 pub mod RoundLemmas
+pub mod RunLemmas
 pub mod ItemLemmas
 pub mod EndLemmas
 pub mod OutputLemmas

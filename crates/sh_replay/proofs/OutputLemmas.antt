@@ -1,13 +1,15 @@
 -- The lines of calls, one after another.
 use Rattle.std.proofs.Common.{◌≡◌, ◌<◌, ◌≤◌, Bool, ℕ, ◌+◌, true, false, List, [], ◌∷◌, ◌++◌, map, length, take, drop, get_or, Option, Some, None, refl, sym, ap, ◌∙◌, append_assoc, arith}
-use Rattle.std.{proofs.lemmas.List.{append-nil, drop_more, length-take-le, take-append-drop, take_more, Concat.{flat_map-append}, Folds.{list_all_at, list_all_more}}, specs.List.{flat_map}}
-use Rattle.std.{proofs.lemmas.{List.Sums.{sum_by_more}, Option.{get_or_from_slice_get, slice_get_within}, Bool.{and_parts}}, specs.Prelude.{◌&&◌, if◌then◌else◌, is_some, slice_get}}
-use Rattle.sh_map.specs.declared.{call.Reply.{Reply}, book.{Done.{Done}, Row.{Row}}}
+use Rattle.std.{proofs.lemmas.List.{append-nil, drop_more, length-take-le, take-append-drop, take_more, Concat.{flat_map-append}, Folds.{list_all_at, list_all_more}}, specs.List.{flat_map, fold}}
+use Rattle.std.proofs.lemmas.{List.Sums.{fold-append, sum_by_more}, Option.{get_or_from_slice_get, slice_get_within}, Bool.{and_parts}}
+use Rattle.std.specs.Prelude.{◌&&◌, if◌then◌else◌, is_some, nat_lt, slice_get}
+use Rattle.sh_map.specs.declared.{call.{Call.{Call, TheVariants.{Range}}, Reply.{Reply}}, book.{Done.{Done}, Row.{Row}}}
+use Rattle.sh_map.specs.declared.call.Reply.TheVariants as reply
 use Rattle.sh_port.{specs.Port.{AppendsFront}, proofs.Bytes.{appends_none}}
-use Rattle.sh_text.{specs.Text.{calls_text, row_line}, proofs.Fronts.{front_more, part_at}}
+use Rattle.sh_text.{specs.{Text.{calls_text, row_line}, Counts.{counts_of, no_counts, with_answer, with_part, with_rows}, declared.counts.Counts.{Counts}}, proofs.Fronts.{front_more, part_at}}
 use Rattle.sh_text.specs.declared.points.Points.TheVariants as points
-use Rattle.sh_world.specs.States.{Given, done_in, dones_from}
-use Rattle.sh_replay.specs.{Course.{have_ended}, Output.{count_ended, ended_by, lines_from, text_with}, Served.{done_item, item_of}}
+use Rattle.sh_world.specs.States.{Given, done_in, dones_from, dones_of}
+use Rattle.sh_replay.specs.{Course.{have_ended}, Output.{count_ended, counted, ended_by, lines_from, text_with, total}, Served.{done_item, item_of}}
 
 -- a front of the first part is one of the whole
 pub front_of_first : (a b : Option (List ℕ)) (first second : List ℕ) → AppendsFront a b first → AppendsFront a b (first ++ second)
@@ -67,6 +69,49 @@ module _ (calls : List Given) (i : ℕ) (g : Given) (here : slice_get calls i �
       let read = is ∙ ap ended_by (sym same) in
       let small = one_at_most (is_some g.reply) in
       (omega (arith, so, one, read), omega (arith, le, is, small))
+
+-- ---- how many were answered in which way
+
+dones_append : (n : ℕ) (xs ys : List Given) → dones_from n (xs ++ ys) ≡ dones_from n xs ++ dones_from (n + length xs) ys
+dones_append n [] ys = ap (λ k. dones_from k ys) (omega arith)
+dones_append n (x ∷ xs) ys =
+    let next : n + 1 + length xs ≡ n + length (x ∷ xs) = omega arith in
+    ap (λ t. done_in n x x.reply ++ t) (dones_append (n + 1) xs ys ∙ ap (λ k. dones_from (n + 1) xs ++ dones_from k ys) next) ∙ sym (append_assoc (done_in n x x.reply) (dones_from (n + 1) xs) (dones_from (n + length (x ∷ xs)) ys))
+
+abbrev count_one : Counts → Done → Counts
+count_one c d = with_answer c d.call d.reply
+
+count_done : (c : Counts) (n : ℕ) (g : Given) (o : Option Reply) → fold count_one c (done_in n g o ++ []) ≡ counted c g.call o
+count_done c n g None = refl
+count_done c n g (Some r) = refl
+
+counts_more : (calls : List Given) (i : ℕ) (g : Given) → slice_get calls i ≡ Some g → counts_of (dones_of (take (i + 1) calls)) ≡ counted (counts_of (dones_of (take i calls))) g.call g.reply
+counts_more calls i g here =
+    let next : take (i + 1) calls ≡ take i calls ++ g ∷ [] = take_more calls i g (slice_get_within calls i g here) ∙ ap (λ x. take i calls ++ x ∷ []) (get_or_from_slice_get calls i g g here) in
+    let n = 1 + length (take i calls) in
+    ap (fold count_one no_counts) (ap dones_of next ∙ dones_append 1 (take i calls) (g ∷ [])) ∙ fold-append count_one no_counts (dones_of (take i calls)) (done_in n g g.reply ++ []) ∙ count_done (counts_of (dones_of (take i calls))) n g g.reply
+
+one_range : (b : Bool) (c : Counts) → total (if b then with_part c else with_rows c) ≡ total c + 1
+one_range true c = omega arith
+one_range false c = omega arith
+
+-- each answer is counted once
+one_total : (c : Counts) (call : Call) (r : Reply) → total (with_answer c call r) ≡ total c + 1
+one_total c call (reply.Some value) = omega arith
+one_total c call reply.None = omega arith
+one_total c (Range low high) (reply.Rows upto) = one_range (nat_lt upto high) c
+one_total c call (reply.Rows upto) = omega arith
+one_total c call reply.Full = omega arith
+one_total c call (reply.Worn version) = omega arith
+
+counted_total : (c : Counts) (call : Call) (o : Option Reply) → total (counted c call o) ≤ total c + 1
+counted_total c call None = omega arith
+counted_total c call (Some r) = omega (arith, one_total c call r)
+
+-- one call more is counted
+pub counts_step : (calls : List Given) (i : ℕ) (g : Given) (old new : Counts) → slice_get calls i ≡ Some g → new ≡ counted old g.call g.reply → old ≡ counts_of (dones_of (take i calls)) → total old ≤ i → (new ≡ counts_of (dones_of (take (i + 1) calls))) × (total new ≤ i + 1)
+counts_step calls i g old new here is so few =
+    (is ∙ ap (λ c. counted c g.call g.reply) so ∙ sym (counts_more calls i g here), omega (arith, ap total is, counted_total old g.call g.reply, few))
 
 -- ---- where every call has ended
 

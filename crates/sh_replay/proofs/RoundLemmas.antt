@@ -1,86 +1,72 @@
 -- The rounds of a replay: idle seats may be left out, and behind as many rounds as turns may be made nothing changes.
-use Rattle.std.proofs.Common.{◌≡◌, ◌≢◌, ◌⊎◌, ◌<◌, ◌≤◌, ℕ, zero, suc, ◌+◌, ◌-◌, Bool, true, false, List, [], ◌∷◌, ◌++◌, length, take, drop, set, get_or, refl, sym, ap, subst, ◌∙◌, inl, inr, arith}
-use Rattle.std.{specs.{Prelude.{◌==◌, if◌then◌else◌, slice_get, All}, List.{fold, range_with_len}}, proofs.{lemmas.Bool.{cases_eq, Decides.{nat_tests}}, Math.Seq.{take-add}}}
+use Rattle.std.proofs.Common.{◌≡◌, ◌≢◌, ◌⊎◌, ◌<◌, ◌≤◌, ℕ, zero, suc, ◌+◌, ◌-◌, Bool, true, false, List, [], ◌∷◌, ◌++◌, length, take, drop, set, get_or, refl, sym, ap, subst, ◌∙◌, inl, inr, append-nil, append_assoc, arith}
+use Rattle.std.{specs.{Prelude.{◌==◌, if◌then◌else◌, slice_get, All}, List.{fold, range_with_len}}, proofs.{lemmas.{Bool.{cases_eq, Decides.{nat_tests}}, List.Folds.{fold-map}}, Math.Seq.{take-add}}}
 use Rattle.std.proofs.lemmas.List.{get_or-set_other, get_or-take, length-take-le, take_more, take_more_set, Sums.{fold-append, fold_push}, Elements.{All-cons, All-head, All-nil, All-tail}}
 use Rattle.std.proofs.lemmas.Option.{slice_get_past}
 use Rattle.sh_logic.proofs.Tests.{not_true}
 use Rattle.sh_world.{specs.{States.{State}, Turning.{is_idle_at, turn_of}}, proofs.LawLemmas.{turn_idle}}
-use Rattle.sh_replay.{specs.{Course.{ask, last_round, round, rounds, Rounds}, Thinning.{AllIdle, Thins}}, proofs.TurnLemmas.{idle_stays, turn_seats}}
+use Rattle.sh_replay.{specs.{Course.{ask, is_busy, round_asks, rounds_asks, InRound, Stage}, Thinning.{ask_in, AllIdle, Thins}}, proofs.TurnLemmas.{asks, idle_stays, turn_seats}}
 
 -- ---- one seat is asked
 
 abbrev pub IsIdle : State → ℕ → Type 0
 IsIdle s x = is_idle_at (slice_get s.seats x) ≡ true
 
-abbrev pub took_turn : Rounds → ℕ → Rounds
+abbrev pub took_turn : Stage → ℕ → Stage
 took_turn r x = record { world = turn_of r.world x; left = r.left - 1 }
 
-pub ask_spent : (r : Rounds) (x : ℕ) → r.left ≡ 0 → ask r x ≡ r
+pub ask_spent : (r : Stage) (x : ℕ) → r.left ≡ 0 → ask_in r x ≡ r
 ask_spent r x none =
     let test : (r.left == 0) ≡ true = grind (arith, nat_tests) in
     rw test refl
 
-idle_kept : (b : Bool) (r t : Rounds) → (if b then r else r) ≡ r
+idle_kept : (b : Bool) (r t : Stage) → (if (if b then false else false) then t else r) ≡ r
 idle_kept true r t = refl
 idle_kept false r t = refl
 
-pub ask_idle : (r : Rounds) (x : ℕ) → IsIdle r.world x → ask r x ≡ r
-ask_idle r x idle = rw idle (idle_kept (r.left == 0) r r)
+pub ask_idle : (r : Stage) (x : ℕ) → IsIdle r.world x → ask_in r x ≡ r
+ask_idle r x idle = rw idle (idle_kept (r.left == 0) r (took_turn r x))
 
-pub ask_busy : (r : Rounds) (x : ℕ) → r.left ≢ 0 → is_idle_at (slice_get r.world.seats x) ≡ false → ask r x ≡ took_turn r x
+pub ask_busy : (r : Stage) (x : ℕ) → r.left ≢ 0 → is_idle_at (slice_get r.world.seats x) ≡ false → ask_in r x ≡ took_turn r x
 ask_busy r x some busy =
     let test : (r.left == 0) ≡ false = grind (arith, nat_tests) in
     rw test (rw busy refl)
 
-asked_test : (b c : Bool) (r t : Rounds) → ((if b then r else if c then r else t) ≡ r) ⊎ (((if b then r else if c then r else t) ≡ t) × (b ≡ false))
-asked_test true c r t = inl refl
-asked_test false true r t = inl refl
-asked_test false false r t = inr (refl, refl)
+some_left : (n : ℕ) (b c : Bool) → (n == 0) ≡ b → (if b then false else c) ≡ true → n ≢ 0
+some_left n true c test e none = absurd (cc)
+some_left n false c test e none = grind (arith, nat_tests)
 
-pub asks : (r : Rounds) (x : ℕ) → (ask r x ≡ r) ⊎ ((ask r x ≡ took_turn r x) × (r.left ≢ 0))
-asks r x = elim (asked_test (r.left == 0) (is_idle_at (slice_get r.world.seats x)) r (took_turn r x)) [
+pub asks_in : (r : Stage) (x : ℕ) → (ask_in r x ≡ r) ⊎ ((ask_in r x ≡ took_turn r x) × (r.left ≢ 0))
+asks_in r x = elim (asks r (InRound x)) [
   | inl same ↦ inl same
-  | inr turn ↦ inr (turn.0, λ none. absurd (tested r.left none turn.1))
-] where
-  tested : (n : ℕ) → n ≡ 0 → (n == 0) ≡ false → ⊥
-  tested n e t = grind (arith, nat_tests)
-
-idle_asked : (r : Rounds) (y x : ℕ) → IsIdle r.world x → IsIdle (ask r y).world x
-idle_asked r y x idle = elim (asks r y) [
-  | inl same ↦ subst (λ (t : Rounds). IsIdle t.world x) (sym same) idle
-  | inr turn ↦ subst (λ (t : Rounds). IsIdle t.world x) (sym turn.0) (idle_stays r.world y x idle)
+  | inr turn ↦ inr (turn.0, some_left r.left (r.left == 0) (is_busy r.world x) refl turn.1)
 ]
 
-seats_asked : (r : Rounds) (y : ℕ) → length (ask r y).world.seats ≡ length r.world.seats
-seats_asked r y = elim (asks r y) [
-  | inl same ↦ ap (λ (t : Rounds). length t.world.seats) same
-  | inr turn ↦ ap (λ (t : Rounds). length t.world.seats) turn.0 ∙ turn_seats r.world y
+pub idle_asked : (r : Stage) (y x : ℕ) → IsIdle r.world x → IsIdle (ask_in r y).world x
+idle_asked r y x idle = elim (asks_in r y) [
+  | inl same ↦ subst (λ (t : Stage). IsIdle t.world x) (sym same) idle
+  | inr turn ↦ subst (λ (t : Stage). IsIdle t.world x) (sym turn.0) (idle_stays r.world y x idle)
+]
+
+seats_asked : (r : Stage) (y : ℕ) → length (ask_in r y).world.seats ≡ length r.world.seats
+seats_asked r y = elim (asks_in r y) [
+  | inl same ↦ ap (λ (t : Stage). length t.world.seats) same
+  | inr turn ↦ ap (λ (t : Stage). length t.world.seats) turn.0 ∙ turn_seats r.world y
 ]
 
 -- ---- some seats are asked
 
-pub idle_after : (xs : List ℕ) (r : Rounds) (x : ℕ) → IsIdle r.world x → IsIdle (fold ask r xs).world x
+pub idle_after : (xs : List ℕ) (r : Stage) (x : ℕ) → IsIdle r.world x → IsIdle (fold ask_in r xs).world x
 idle_after [] r x idle = idle
-idle_after (y ∷ ys) r x idle = idle_after ys (ask r y) x (idle_asked r y x idle)
+idle_after (y ∷ ys) r x idle = idle_after ys (ask_in r y) x (idle_asked r y x idle)
 
-pub seats_after : (xs : List ℕ) (r : Rounds) → length (fold ask r xs).world.seats ≡ length r.world.seats
+pub seats_after : (xs : List ℕ) (r : Stage) → length (fold ask_in r xs).world.seats ≡ length r.world.seats
 seats_after [] r = refl
-seats_after (y ∷ ys) r = seats_after ys (ask r y) ∙ seats_asked r y
+seats_after (y ∷ ys) r = seats_after ys (ask_in r y) ∙ seats_asked r y
 
-pub spent_after : (xs : List ℕ) (r : Rounds) → r.left ≡ 0 → fold ask r xs ≡ r
+pub spent_after : (xs : List ℕ) (r : Stage) → r.left ≡ 0 → fold ask_in r xs ≡ r
 spent_after [] r none = refl
-spent_after (y ∷ ys) r none = ap (λ (t : Rounds). fold ask t ys) (ask_spent r y none) ∙ spent_after ys r none
-
-pub changes : (xs : List ℕ) (r : Rounds) → (fold ask r xs ≡ r) ⊎ ((fold ask r xs).left < r.left)
-changes [] r = inl refl
-changes (y ∷ ys) r = elim (asks r y) [
-  | inl same ↦ subst (λ (t : Rounds). (fold ask t ys ≡ r) ⊎ ((fold ask t ys).left < r.left)) (sym same) (changes ys r)
-  | inr turn ↦ subst (λ (t : Rounds). (fold ask t ys ≡ r) ⊎ ((fold ask t ys).left < r.left)) (sym turn.0)
-      (inr (fewer ys (took_turn r y) r.left (omega (arith, turn.1)) (changes ys (took_turn r y))))
-] where
-  fewer : (ys : List ℕ) (t : Rounds) (n : ℕ) → t.left < n → (fold ask t ys ≡ t) ⊎ ((fold ask t ys).left < t.left) → (fold ask t ys).left < n
-  fewer ys t n below (inl same) = omega (arith, below, ap (λ (u : Rounds). u.left) same)
-  fewer ys t n below (inr less) = omega (arith, below, less)
+spent_after (y ∷ ys) r none = ap (λ (t : Stage). fold ask_in t ys) (ask_spent r y none) ∙ spent_after ys r none
 
 -- ---- idle seats are left out
 
@@ -89,10 +75,10 @@ thins_on s t [] ys on h = h
 thins_on s t (x ∷ xs) ys on (inl out) = inl (on x out.0, thins_on s t xs ys on out.1)
 thins_on s t (x ∷ xs) ys on (inr kept) = inr (kept.0, kept.1, thins_on s t xs kept.0 on kept.2)
 
-pub thins_fold : (xs ys : List ℕ) (r : Rounds) → Thins r.world xs ys → fold ask r xs ≡ fold ask r ys
-thins_fold [] ys r h = ap (fold ask r) (sym h)
-thins_fold (x ∷ xs) ys r (inl out) = ap (λ (t : Rounds). fold ask t xs) (ask_idle r x out.0) ∙ thins_fold xs ys r out.1
-thins_fold (x ∷ xs) ys r (inr kept) = thins_fold xs kept.0 (ask r x) (thins_on r.world (ask r x).world xs kept.0 (λ z. idle_asked r x z) kept.2) ∙ ap (fold ask r) (sym kept.1)
+pub thins_fold : (xs ys : List ℕ) (r : Stage) → Thins r.world xs ys → fold ask_in r xs ≡ fold ask_in r ys
+thins_fold [] ys r h = ap (fold ask_in r) (sym h)
+thins_fold (x ∷ xs) ys r (inl out) = ap (λ (t : Stage). fold ask_in t xs) (ask_idle r x out.0) ∙ thins_fold xs ys r out.1
+thins_fold (x ∷ xs) ys r (inr kept) = thins_fold xs kept.0 (ask_in r x) (thins_on r.world (ask_in r x).world xs kept.0 (λ z. idle_asked r x z) kept.2) ∙ ap (fold ask_in r) (sym kept.1)
 
 pub thins_all : (s : State) (xs : List ℕ) → Thins s xs xs
 thins_all s [] = refl
@@ -150,43 +136,29 @@ all_idle s h x = elim (within x (length s.seats)) [
 
 -- ---- rounds
 
-same_rounds : (r : Rounds) (count : ℕ) → round r ≡ r → rounds count r ≡ r
-same_rounds r zero same = refl
-same_rounds r (suc count) same = ap (rounds count) same ∙ same_rounds r count same
+rounds_append : (i j n : ℕ) → rounds_asks (i + j) n ≡ rounds_asks i n ++ rounds_asks j n
+rounds_append zero j n = ap (λ k. rounds_asks k n) (omega arith)
+rounds_append (suc i) j n =
+    let next : suc i + j ≡ suc (i + j) = omega arith in
+    ap (λ k. rounds_asks k n) next ∙ ap (λ xs. round_asks n ++ xs) (rounds_append i j n) ∙ sym (append_assoc (round_asks n) (rounds_asks i n) (rounds_asks j n))
 
-enough : (n m : ℕ) (r : Rounds) → r.left ≤ n → r.left ≤ m → rounds n r ≡ rounds m r
-enough zero zero r a b = refl
-enough zero (suc m) r a b = sym (same_rounds r (suc m) (spent_after (range_with_len 0 (length r.world.seats)) r (omega (arith, a))))
-enough (suc n) zero r a b = same_rounds r (suc n) (spent_after (range_with_len 0 (length r.world.seats)) r (omega (arith, b)))
-enough (suc n) (suc m) r a b = elim (changes (range_with_len 0 (length r.world.seats)) r) [
-  | inl same ↦ same_rounds r (suc n) same ∙ sym (same_rounds r (suc m) same)
-  | inr less ↦ enough n m (round r) (omega (arith, a, less)) (omega (arith, b, less))
-]
+-- a round of all seats
+one_round : (r : Stage) (n : ℕ) → length r.world.seats ≡ n → fold ask r (round_asks n) ≡ fold ask_in r (range_with_len 0 (length r.world.seats))
+one_round r n e = fold-map ask InRound r (range_with_len 0 n) ∙ ap (λ k. fold ask_in r (range_with_len 0 k)) (sym e)
 
-next_round : (n : ℕ) (r : Rounds) → r.left ≡ n → (round r).left < n → rounds n r ≡ last_round (round r)
-next_round zero r e less = absurd (omega (arith, less))
-next_round (suc n) r e less = enough n (round r).left (round r) (omega (arith, less)) (omega arith)
+-- one round more
+next_round : (first : Stage) (j n : ℕ) → fold ask first (rounds_asks (j + 1) n) ≡ fold ask (fold ask first (rounds_asks j n)) (round_asks n)
+next_round first j n = ap (fold ask first) (rounds_append j 1 n) ∙ fold-append ask first (rounds_asks j n) (rounds_asks 1 n) ∙ ap (fold ask (fold ask first (rounds_asks j n))) (append-nil (round_asks n))
 
--- a round leads to the same end
-pub last_same : (r : Rounds) → last_round r ≡ last_round (round r)
-last_same r = elim (changes (range_with_len 0 (length r.world.seats)) r) [
-  | inl same ↦ ap last_round (sym same)
-  | inr less ↦ next_round r.left r refl less
-]
+same_rounds : (r : Stage) (k n : ℕ) → fold ask r (round_asks n) ≡ r → fold ask r (rounds_asks k n) ≡ r
+same_rounds r zero n same = refl
+same_rounds r (suc k) n same = fold-append ask r (round_asks n) (rounds_asks k n) ∙ ap (λ (t : Stage). fold ask t (rounds_asks k n)) same ∙ same_rounds r k n same
 
--- where a round changes nothing, it is the end
-pub last_here : (r : Rounds) → round r ≡ r → last_round r ≡ r
-last_here r same = same_rounds r r.left same
-
-pub last_spent : (r : Rounds) → r.left ≡ 0 → last_round r ≡ r
-last_spent r none = ap (λ n. rounds n r) none
-
-rounds_seats : (count : ℕ) (r : Rounds) → length (rounds count r).world.seats ≡ length r.world.seats
-rounds_seats zero r = refl
-rounds_seats (suc count) r = rounds_seats count (round r) ∙ seats_after (range_with_len 0 (length r.world.seats)) r
-
-pub last_seats : (world : State) (left : ℕ) → length (last_round (record { world = world; left = left })).world.seats ≡ length world.seats
-last_seats world left = rounds_seats left (record { world = world; left = left })
+-- where a round changes nothing, the rounds that are left change nothing
+last_here : (first r : Stage) (j n : ℕ) → r ≡ fold ask first (rounds_asks j n) → j ≤ first.left → fold ask r (round_asks n) ≡ r → r ≡ fold ask first (rounds_asks first.left n)
+last_here first r j n is within same =
+    let split : j + (first.left - j) ≡ first.left = omega (arith, within) in
+    sym (ap (λ k. fold ask first (rounds_asks k n)) (sym split) ∙ ap (fold ask first) (rounds_append j (first.left - j) n) ∙ fold-append ask first (rounds_asks j n) (rounds_asks (first.left - j) n) ∙ ap (λ (t : Stage). fold ask t (rounds_asks (first.left - j) n)) (sym is) ∙ same_rounds r (first.left - j) n same)
 
 -- ---- the code's rounds
 
@@ -199,29 +171,37 @@ rising_more seats n below h =
     let next : n + 1 ≡ suc n = omega arith in
     take_more_set seats n n below ∙ ap (λ l. l ++ n ∷ []) h ∙ sym (ap (range_with_len 0) next ∙ range_step 0 n ∙ ap (λ x. range_with_len 0 n ++ x ∷ []) (omega arith))
 
--- The rounds so far, of which the first began with this world and budget.
-pub record RoundsSoFar (first : Rounds) (world : State) (seats : List ℕ) (count turns : ℕ) : Type 0 where
-  pub last : last_round (record { world = world; left = turns }) ≡ last_round first
+-- The rounds so far, of which the first began with this world and budget. Each but the last made a turn.
+pub record RoundsSoFar (first : Stage) (world : State) (seats : List ℕ) (count turns : ℕ) : Type 0 where
+  pub made : ℕ
+  pub same : record { world = world; left = turns } ≡ fold ask first (rounds_asks made (length first.world.seats))
+  pub few : made ≤ first.left
+  pub room : count ≢ 0 → made + turns ≤ first.left
   pub long : length seats ≡ 64
   pub within : count ≤ 64
   pub left : turns ≤ first.left
   pub size : length world.seats ≡ length first.world.seats
   pub thins : turns ≢ 0 → Thins world (range_with_len 0 (length world.seats)) (take count seats)
 
-module _ (first : Rounds) (world : State) (seats : List ℕ) (count turns : ℕ) (h : RoundsSoFar first world seats count turns) where
+module _ (first : Stage) (world : State) (seats : List ℕ) (count turns : ℕ) (h : RoundsSoFar first world seats count turns) where
   pub seats_below : 0 < turns → All (λ x. x < length world.seats) (take count seats)
   seats_below some = thins_below world (range_with_len 0 (length world.seats)) (take count seats) (length world.seats) (range_below 0 (length world.seats) (length world.seats) (omega arith)) (h.thins (λ e. omega (arith, e, some)))
 
-  pub rounds_step : (world' : State) (seats' : List ℕ) (count' turns' : ℕ) → 0 < turns → record { world = world'; left = turns' } ≡ fold ask (record { world = world; left = turns }) (take count seats)
+  pub rounds_step : (world' : State) (seats' : List ℕ) (count' turns' : ℕ) → 0 < turns → count ≢ 0 → record { world = world'; left = turns' } ≡ fold ask_in (record { world = world; left = turns }) (take count seats)
       → count' + turns' ≡ turns → count' ≤ count → length seats' ≡ length seats → (turns' ≢ 0 → Thins world' (take count seats) (take count' seats')) → RoundsSoFar first world' seats' count' turns'
-  rounds_step world' seats' count' turns' some same made fewer long thins =
-      let r : Rounds = record { world = world; left = turns } in
+  rounds_step world' seats' count' turns' some busy same made fewer long thins =
+      let r : Stage = record { world = world; left = turns } in
+      let n = length first.world.seats in
       let all = range_with_len 0 (length world.seats) in
       let before = h.thins (λ e. omega (arith, e, some)) in
-      let size : length world'.seats ≡ length world.seats = ap (λ (t : Rounds). length t.world.seats) same ∙ seats_after (take count seats) r in
-      let on : (x : ℕ) → IsIdle world x → IsIdle world' x = λ x idle. subst (λ (t : Rounds). IsIdle t.world x) (sym same) (idle_after (take count seats) r x idle) in
+      let room = h.room busy in
+      let size : length world'.seats ≡ length world.seats = ap (λ (t : Stage). length t.world.seats) same ∙ seats_after (take count seats) r in
+      let on : (x : ℕ) → IsIdle world x → IsIdle world' x = λ x idle. subst (λ (t : Stage). IsIdle t.world x) (sym same) (idle_after (take count seats) r x idle) in
       record {
-        last = ap last_round (same ∙ sym (thins_fold all (take count seats) r before)) ∙ sym (last_same r) ∙ h.last;
+        made = h.made + 1;
+        same = same ∙ sym (next_round first h.made n ∙ ap (λ (t : Stage). fold ask t (round_asks n)) (sym h.same) ∙ one_round r n h.size ∙ thins_fold all (take count seats) r before);
+        few = omega (arith, room, some);
+        room = λ more. omega (arith, room, made, more);
         long = long ∙ h.long;
         within = omega (arith, fewer, h.within);
         left = omega (arith, made, h.left);
@@ -235,35 +215,38 @@ module _ (first : Rounds) (world : State) (seats : List ℕ) (count turns : ℕ)
   pub rounds_idle : count ≡ 0 → 0 < turns → AllIdle world
   rounds_idle e some = all_idle world (none e some)
 
-  pub rounds_over : count ≡ 0 → 0 < turns → record { world = world; left = turns } ≡ last_round first
-  rounds_over e some =
-      let r : Rounds = record { world = world; left = turns } in
-      sym (last_here r (thins_fold (range_with_len 0 (length world.seats)) [] r (none e some))) ∙ h.last
+  last : fold ask_in (record { world = world; left = turns }) (range_with_len 0 (length world.seats)) ≡ record { world = world; left = turns } → record { world = world; left = turns } ≡ fold ask first (rounds_asks first.left (length first.world.seats))
+  last same =
+      let r : Stage = record { world = world; left = turns } in
+      last_here first r h.made (length first.world.seats) h.same h.few (one_round r (length first.world.seats) h.size ∙ same)
 
-  pub rounds_spent : turns ≡ 0 → record { world = world; left = turns } ≡ last_round first
-  rounds_spent e = sym (last_spent (record { world = world; left = turns }) e) ∙ h.last
+  pub rounds_over : count ≡ 0 → 0 < turns → record { world = world; left = turns } ≡ fold ask first (rounds_asks first.left (length first.world.seats))
+  rounds_over e some = last (thins_fold (range_with_len 0 (length world.seats)) [] (record { world = world; left = turns }) (none e some))
+
+  pub rounds_spent : turns ≡ 0 → record { world = world; left = turns } ≡ fold ask first (rounds_asks first.left (length first.world.seats))
+  rounds_spent e = last (spent_after (range_with_len 0 (length world.seats)) (record { world = world; left = turns }) e)
 
 -- ---- a round of the code
 
 -- A round so far: the first i of the old seats were asked, and those that took a turn stand in front.
-pub record SoFar (r : Rounds) (old : List ℕ) (world : State) (turns : ℕ) (seats : List ℕ) (kept i : ℕ) : Type 0 where
-  pub same : record { world = world; left = turns } ≡ fold ask r (take i old)
+pub record SoFar (r : Stage) (old : List ℕ) (world : State) (turns : ℕ) (seats : List ℕ) (kept i : ℕ) : Type 0 where
+  pub same : record { world = world; left = turns } ≡ fold ask_in r (take i old)
   pub rest : (k : ℕ) → i ≤ k → get_or seats k 0 ≡ get_or old k 0
   pub made : kept + turns ≡ r.left
   pub within : kept ≤ i
   pub thins : Thins world (take i old) (take kept seats)
 
-pub so_far_at : (r : Rounds) (old : List ℕ) (world : State) (turns : ℕ) (seats : List ℕ) (kept i turns' : ℕ) (seats' : List ℕ) (kept' : ℕ) → SoFar r old world turns seats kept i → turns' ≡ turns → seats' ≡ seats → kept' ≡ kept → SoFar r old world turns' seats' kept' i
+pub so_far_at : (r : Stage) (old : List ℕ) (world : State) (turns : ℕ) (seats : List ℕ) (kept i turns' : ℕ) (seats' : List ℕ) (kept' : ℕ) → SoFar r old world turns seats kept i → turns' ≡ turns → seats' ≡ seats → kept' ≡ kept → SoFar r old world turns' seats' kept' i
 so_far_at r old world turns seats kept i turns' seats' kept' h a b c =
     subst (λ (t : ℕ). SoFar r old world t seats' kept' i) (sym a) (subst (λ (l : List ℕ). SoFar r old world turns l kept' i) (sym b) (subst (λ (k : ℕ). SoFar r old world turns seats k i) (sym c) h))
 
-module _ (r : Rounds) (old : List ℕ) (world : State) (turns : ℕ) (seats : List ℕ) (kept i : ℕ) (h : SoFar r old world turns seats kept i) where
+module _ (r : Stage) (old : List ℕ) (world : State) (turns : ℕ) (seats : List ℕ) (kept i : ℕ) (h : SoFar r old world turns seats kept i) where
   -- the seat that is asked next
   next : i < length old → take (i + 1) old ≡ take i old ++ get_or seats i 0 ∷ []
   next below = take_more old i 0 below ∙ ap (λ x. take i old ++ x ∷ []) (sym (h.rest i (omega arith)))
 
-  asked_next : i < length old → fold ask r (take (i + 1) old) ≡ ask (record { world = world; left = turns }) (get_or seats i 0)
-  asked_next below = ap (fold ask r) (next below) ∙ fold_push ask r (take i old) (get_or seats i 0) ∙ ap (λ (t : Rounds). ask t (get_or seats i 0)) (sym h.same)
+  asked_next : i < length old → fold ask_in r (take (i + 1) old) ≡ ask_in (record { world = world; left = turns }) (get_or seats i 0)
+  asked_next below = ap (fold ask_in r) (next below) ∙ fold_push ask_in r (take i old) (get_or seats i 0) ∙ ap (λ (t : Stage). ask_in t (get_or seats i 0)) (sym h.same)
 
   pub round_idle : (after : State) → i < length old → after ≡ turn_of world (get_or seats i 0) → IsIdle world (get_or seats i 0) → SoFar r old after turns seats kept (i + 1)
   round_idle after below e idle =
@@ -290,15 +273,15 @@ module _ (r : Rounds) (old : List ℕ) (world : State) (turns : ℕ) (seats : Li
       }
 
   -- where no turn may be made any more, the rest of the round changes nothing
-  pub round_spent : (count : ℕ) → i ≤ count → turns ≡ 0 → record { world = world; left = turns } ≡ fold ask r (take count old)
+  pub round_spent : (count : ℕ) → i ≤ count → turns ≡ 0 → record { world = world; left = turns } ≡ fold ask_in r (take count old)
   round_spent count within none =
-      let t : Rounds = record { world = world; left = turns } in
+      let t : Stage = record { world = world; left = turns } in
       let whole : i + (count - i) ≡ count = omega (arith, within) in
       let split : take count old ≡ take i old ++ take (count - i) (drop i old) = sym (ap (λ n. take n old) whole) ∙ take-add i (count - i) old in
-      sym (ap (fold ask r) split ∙ fold-append ask r (take i old) (take (count - i) (drop i old)) ∙ ap (λ (u : Rounds). fold ask u (take (count - i) (drop i old))) (sym h.same) ∙ spent_after (take (count - i) (drop i old)) t none)
+      sym (ap (fold ask_in r) split ∙ fold-append ask_in r (take i old) (take (count - i) (drop i old)) ∙ ap (λ (u : Stage). fold ask_in u (take (count - i) (drop i old))) (sym h.same) ∙ spent_after (take (count - i) (drop i old)) t none)
 
   seats_so_far : length world.seats ≡ length r.world.seats
-  seats_so_far = ap (λ (t : Rounds). length t.world.seats) h.same ∙ seats_after (take i old) r
+  seats_so_far = ap (λ (t : Stage). length t.world.seats) h.same ∙ seats_after (take i old) r
 
   pub next_below : (count : ℕ) → i < count → count ≤ length old → All (λ x. x < length r.world.seats) (take count old) → get_or seats i 0 < length world.seats
   next_below count below long all =

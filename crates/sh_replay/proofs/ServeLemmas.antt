@@ -1,17 +1,18 @@
 -- A sheet that a laid world was given and has served.
 use Rattle.std.proofs.Common.{◌≡◌, ◌≤◌, ◌<◌, ◌*◌, ℕ, zero, suc, ◌+◌, List, [], ◌∷◌, ◌++◌, map, length, Result, Ok, Err, refl, sym, ap, subst, ◌∙◌, arith}
 use Rattle.std.{specs.{Prelude.{All, IfOk, filter, true}, List.{fold, sum_by}, FinMap.{empty, entries, len-empty, len-entries}, Ordering.{nat_cmp}}, proofs.lemmas.List.{length-map}}
-use Rattle.std.proofs.lemmas.List.Sums.{sum_by-cons}
+use Rattle.std.proofs.lemmas.List.Sums.{fold-append, sum_by-cons}
 use Rattle.sh_base.specs.{declared.config.ConfigParts.{ConfigParts}, Setting.{all_seats, IsSetting}}
 use Rattle.sh_map.specs.{declared.book.Row.{Row}, Book.{IsClosed}, Log.{map_of}, Map.{Map, row_pair, size}}
 use Rattle.sh_sheet.specs.{declared.item.Item.{Item, TheVariants.{Ask, Mark, After, Turn}}, Sheet.{item_calls}}
 use Rattle.sh_tree.specs.Tree.{IsTree, map_in}
 use Rattle.sh_image.specs.Laid.{AreLaid}
-use Rattle.sh_world.specs.{Laws.{IsLawfulWorld}, Running.{IsRunning}, States.{State, dones_of, fresh_from, fresh_state}, Turning.{is_idle_at}}
-use Rattle.sh_replay.specs.{declared.ending.Finish.{Finish, TheVariants.{Done, Spent}}, Course.{budget_of, course, finished, given_by, have_ended, last_round, turned_by, HasFinished, Rounds}}
-use Rattle.sh_replay.specs.{Served.{is_call, item_of, row_of, HasServed, HoldsAll, HoldsRows}, Serving.{IsServable}, declared.turns.TurnRow.{TurnRow}, TurnRows.{made_by, turn_rows}}
-use Rattle.sh_replay.proofs.{CallLemmas.{all_given, finished_same, map_size}, EndLemmas.{all_rest, idle_ended}, ItemLemmas.{given_seats, given_setting, rows_turn, turned_seats}}
-use Rattle.sh_replay.proofs.RoundLemmas.{last_seats}
+use Rattle.sh_world.specs.{Laws.{IsLawfulWorld}, Running.{IsRunning}, States.{State, dones_of, fresh_from, fresh_state}, Turning.{is_idle_at, turn_of}}
+use Rattle.sh_replay.specs.declared.ending.Finish.{Finish, TheVariants.{Done, Spent}}
+use Rattle.sh_replay.specs.{Course.{all_asks, ask, budget_of, course, finished, given_by, have_ended, row_asks, rounds_asks, Course, HasFinished, Stage}, Run.{IsRun}}
+use Rattle.sh_replay.specs.{Served.{is_call, item_of, row_of, HasServed, HoldsAll, HoldsRows}, Serving.{IsServable}, declared.turns.TurnRow.{TurnRow}, TurnRows.{kept_asks, turn_rows}}
+use Rattle.sh_replay.proofs.{CallLemmas.{all_given, map_size, turn_same}, EndLemmas.{all_rest, idle_ended}, ItemLemmas.{given_seats, given_setting, kept_are}, RunLemmas.{given_run, stage_is}}
+use Rattle.sh_replay.proofs.TurnLemmas.{all_keep, asked_seats, turn_seats, turn_setting}
 
 -- what a world's laws give
 abbrev pub IsSound : State → Type 0
@@ -64,16 +65,26 @@ some_seats p h = product p.computes p.seats h.ranged.computes.0 h.ranged.seats.0
   product : (a b : ℕ) → 1 ≤ a → 1 ≤ b → 0 < a * b
   product a b x y = grind arith
 
--- the turns of the rows that were kept, and the rounds behind them, are what finishes the items
-pub rows_taken : (given taken : State) (sheet slice : List Item) (rows lent : List TurnRow) → taken ≡ fold made_by given lent → lent ≡ rows → rows ≡ turn_rows slice → slice ≡ sheet → taken ≡ fold turned_by given sheet
-rows_taken given taken sheet slice rows lent is lent_is rows_are same = is ∙ ap (fold made_by given) (lent_is ∙ rows_are) ∙ rows_turn slice given ∙ ap (fold turned_by given) same
+-- the rows that were kept ask the seats of the items
+pub rows_taken : (given taken : State) (budget : ℕ) (sheet slice : List Item) (rows lent : List TurnRow) → record { world = taken; left = budget } ≡ fold ask (record { world = given; left = budget }) (kept_asks lent) → lent ≡ rows → rows ≡ turn_rows slice → slice ≡ sheet → record { world = taken; left = budget } ≡ fold ask (record { world = given; left = budget }) (row_asks sheet)
+rows_taken given taken budget sheet slice rows lent is lent_is rows_are same = is ∙ ap (λ (xs : List TurnRow). fold ask (record { world = given; left = budget }) (kept_asks xs)) (lent_is ∙ rows_are) ∙ ap (fold ask (record { world = given; left = budget })) (kept_are slice ∙ ap row_asks same)
 
-module _ (given taken : State) (sheet : List Item) (budget : ℕ) (is : taken ≡ fold turned_by given sheet) where
-  pub rounds_last : (after : State) → after ≡ (last_round (record { world = taken; left = budget })).world → after ≡ (finished given sheet budget).world
-  rounds_last after last = last ∙ ap (λ (s : State). (last_round (record { world = s; left = budget })).world) is
+-- and the rounds behind them are the rest of the course
+module _ (given taken : State) (sheet : List Item) (budget : ℕ) (is : record { world = taken; left = budget } ≡ fold ask (record { world = given; left = budget }) (row_asks sheet)) where
+  pub taken_seats : length taken.seats ≡ length given.seats
+  taken_seats = ap (λ (r : Stage). length r.world.seats) is ∙ asked_seats (row_asks sheet) (record { world = given; left = budget })
 
-  pub rounds_end : (finish : Finish) → HasFinished budget (last_round (record { world = taken; left = budget })) finish → HasFinished budget (finished given sheet budget) finish
-  rounds_end finish ends = subst (λ (s : State). HasFinished budget (last_round (record { world = s; left = budget })) finish) is ends
+  pub rounds_behind : fold ask (record { world = taken; left = budget }) (rounds_asks budget (length taken.seats)) ≡ (finished given sheet budget).stage
+  rounds_behind =
+      let r : Stage = record { world = given; left = budget } in
+      let rest = rounds_asks budget (length given.seats) in
+      ap (λ n. fold ask (record { world = taken; left = budget }) (rounds_asks budget n)) taken_seats ∙ ap (λ (t : Stage). fold ask t rest) is ∙ sym (fold-append ask r (row_asks sheet) rest) ∙ sym (stage_is (all_asks sheet (length given.seats) budget) (record { stage = r; events = [] }))
+
+  pub rounds_last : (after : State) → after ≡ (fold ask (record { world = taken; left = budget }) (rounds_asks budget (length taken.seats))).world → after ≡ (finished given sheet budget).stage.world
+  rounds_last after last = last ∙ ap (λ (t : Stage). t.world) rounds_behind
+
+  pub rounds_end : (finish : Finish) → HasFinished budget (fold ask (record { world = taken; left = budget }) (rounds_asks budget (length taken.seats))) finish → HasFinished budget (finished given sheet budget).stage finish
+  rounds_end finish ends = subst (λ (t : Stage). HasFinished budget t finish) rounds_behind ends
 
 module _ (p : ConfigParts) (lawful : IsSetting p) (items sheet : List Item) (laid given : State) (is : laid ≡ fresh_state p laid.words) (same : items ≡ sheet) (so : given ≡ fold given_by laid items) (can : All (IsServable p) sheet) where
   pub laid_seats : length laid.seats ≡ all_seats laid.setting
@@ -94,9 +105,16 @@ module _ (p : ConfigParts) (lawful : IsSetting p) (items sheet : List Item) (lai
   pub given_count : length given.calls ≡ sum_by item_calls sheet
   given_count = sym (length-map given.calls item_of) ∙ ap length given_all ∙ calls_counted sheet
 
-  module _ (budget calls : ℕ) (budget_is : budget ≡ budget_of calls) (calls_are : calls ≡ length given.calls) (after : State) (finish : Finish) (last : after ≡ (finished given sheet budget).world) (ends : HasFinished budget (finished given sheet budget) finish) where
+  module _ (budget calls : ℕ) (budget_is : budget ≡ budget_of calls) (calls_are : calls ≡ length given.calls) (after : State) (finish : Finish) (last : after ≡ (finished given sheet budget).stage.world) (ends : HasFinished budget (finished given sheet budget).stage finish) where
+    -- what each turn leaves, the course leaves
+    keeps : {X : Type 0} (f : State → X) → ((s : State) (seat : ℕ) → f (turn_of s seat) ≡ f s) → f (finished given sheet budget).stage.world ≡ f given
+    keeps f each =
+        let xs = all_asks sheet (length given.seats) budget in
+        let r : Stage = record { world = given; left = budget } in
+        ap (λ (t : Stage). f t.world) (stage_is xs (record { stage = r; events = [] })) ∙ all_keep f each xs r
+
     pub after_laid : 0 < length after.seats
-    after_laid = omega (arith, ap (λ (s : State). length s.seats) last, last_seats (fold turned_by given sheet) budget, turned_seats sheet given, given_laid)
+    after_laid = omega (arith, ap (λ (s : State). length s.seats) last, keeps (λ (s : State). length s.seats) turn_seats, given_laid)
 
     budget_same : budget ≡ budget_of (sum_by item_calls sheet)
     budget_same = budget_is ∙ ap budget_of (calls_are ∙ given_count)
@@ -106,14 +124,15 @@ module _ (p : ConfigParts) (lawful : IsSetting p) (items sheet : List Item) (lai
 
     pub has_served : (rows : List Row) → AreLaid p laid.words → sum_by item_calls sheet ≤ 1000000 → IsSound after → HoldsRows after finish rows → HasServed p sheet after finish rows
     has_served rows are_laid few sound holds =
-        let same_items : map item_of after.calls ≡ map item_of given.calls = ap (λ (s : State). map item_of s.calls) last ∙ (finished_same sheet given budget).0 in
+        let same_items : map item_of after.calls ≡ map item_of given.calls = ap (λ (s : State). map item_of s.calls) last ∙ keeps (λ (s : State). map item_of s.calls) turn_same in
         let few_calls : length after.calls ≤ 1000000 = omega (arith, length-map after.calls item_of, ap length same_items, length-map given.calls item_of, given_count, few) in
         record {
           laid = laid.words;
           are_laid = are_laid;
-          last = last ∙ ap (λ (r : Rounds). r.world) on_course;
-          end_is = subst (λ (r : Rounds). HasFinished (budget_of (sum_by item_calls sheet)) r finish) on_course (subst (λ n. HasFinished n (finished given sheet budget) finish) budget_same ends);
-          setting = ap (λ (s : State). s.setting) last ∙ (finished_same sheet given budget).1 ∙ setting_is;
+          last = last ∙ ap (λ (c : Course). c.stage.world) on_course;
+          end_is = subst (λ (c : Course). HasFinished (budget_of (sum_by item_calls sheet)) c.stage finish) on_course (subst (λ n. HasFinished n (finished given sheet budget).stage finish) budget_same ends);
+          run = subst (λ (s : State). IsRun laid.words (course p laid.words sheet).events s.words) (sym (last ∙ ap (λ (c : Course). c.stage.world) on_course)) (given_run sheet (fresh_state p laid.words) (budget_of (sum_by item_calls sheet)) (all_asks sheet (length (fold given_by (fresh_state p laid.words) sheet).seats) (budget_of (sum_by item_calls sheet))));
+          setting = ap (λ (s : State). s.setting) last ∙ keeps (λ (s : State). s.setting) turn_setting ∙ setting_is;
           calls = same_items ∙ given_all;
           lawful = sound.0.book.lawful;
           causes = sound.0.causes;

@@ -1,8 +1,8 @@
 -- Items of which none is unserved.
-use Rattle.std.{proofs.{Common.{◌≡◌, ◌<◌, ℕ, suc, false, List, [], ◌∷◌, length, get_or, Option, Some, None, ◌≢◌, refl, sym, subst, arith}, lemmas.Bool.Decides.{nat_tests}}, specs.Prelude.{All, not}}
-use Rattle.std.proofs.lemmas.List.{Elements.{All-cons, All-head, All-nil, All-tail}, Sums.{fails_before_first}}
+use Rattle.std.proofs.{Common.{◌≡◌, ◌<◌, ℕ, suc, false, List, [], ◌∷◌, map, length, get_or, Option, Some, None, ◌≢◌, refl, sym, subst, arith}, lemmas.Bool.Decides.{nat_tests}}
+use Rattle.std.{specs.{Prelude.{All, not}, List.{range_with_len}}, proofs.lemmas.List.{Elements.{All-cons, All-head, All-nil, All-tail}, Sums.{fails_before_first}}}
 use Rattle.sh_base.specs.declared.config.ConfigParts.{ConfigParts}
-use Rattle.sh_sheet.specs.{declared.item.Item.{Item, TheVariants.{Ask, Mark, After, Turn}}, Sheet.{IsLawfulItem}}
+use Rattle.sh_sheet.specs.{declared.item.Item.{Item, TheVariants.{Ask, Mark, After, Turn}}, Sheet.{IsLawfulItem}, Generate.{made_item, made_items}}
 use Rattle.sh_replay.specs.Serving.{first_unserved, is_served, IsServable}
 
 -- a lawful item that is served is one that can be served
@@ -27,3 +27,11 @@ servable p items lawful none = servable_from p items (Turn 0 0) lawful (no_place
 pub servable_all : (p : ConfigParts) (items sheet : List Item) (found : Option ℕ) → items ≡ sheet → All (IsLawfulItem p) sheet → found ≡ first_unserved sheet → ((x : ℕ) → found ≢ Some x) → All (IsServable p) items
 servable_all p items sheet None same lawful is none = subst (λ xs. All (IsServable p) xs) (sym same) (servable p sheet lawful (sym is))
 servable_all p items sheet (Some x) same lawful is none = absurd (none x refl)
+
+made_servable : (p : ConfigParts) (n seed : ℕ) (ks : List ℕ) → All (IsLawfulItem p) (map (made_item p n seed) ks) → All (IsServable p) (map (made_item p n seed) ks)
+made_servable p n seed [] lawful = All-nil (IsServable p)
+made_servable p n seed (k ∷ ks) lawful = All-cons (IsServable p) (made_item p n seed k) (map (made_item p n seed) ks) (All-head (IsLawfulItem p) (made_item p n seed k) (map (made_item p n seed) ks) lawful) (made_servable p n seed ks (All-tail (IsLawfulItem p) (made_item p n seed k) (map (made_item p n seed) ks) lawful))
+
+-- calls that are made can all be served
+pub all_made_servable : (p : ConfigParts) (n seed : ℕ) (items : List Item) → items ≡ made_items p n seed → All (IsLawfulItem p) items → All (IsServable p) items
+all_made_servable p n seed items made lawful = subst (All (IsServable p)) (sym made) (made_servable p n seed (range_with_len 1 n) (subst (All (IsLawfulItem p)) made lawful))

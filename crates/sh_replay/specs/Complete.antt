@@ -1,6 +1,6 @@
 -- A replay that meets nothing in its way.
-use Rattle.std.specs.Prelude.{ℕ, Bool, ◌≡◌, ◌≢◌, ◌<◌, ◌-◌, ◌^◌, List, length, Option, Some, None}
-use Rattle.sh_sheet.specs.{declared.{item.{Item.{Item}, Mode.TheVariants.{Replay}}, status.Status.{Status}}, Sheet.{Items, AreFew, sheet_of}}
+use Rattle.std.specs.Prelude.{ℕ, Bool, ◌≡◌, ◌≢◌, ◌<◌, ◌⊎◌, ◌-◌, ◌^◌, List, length, Option, Some, None}
+use Rattle.sh_sheet.specs.{declared.{item.{Item.{Item}, Mode.TheVariants.{Replay}}, status.Status.{Status}}, Sheet.{Items, AreFew, sheet_of}, Generate.{made_items}}
 use Rattle.sh_sheet.specs.declared.status.Status.TheVariants as status
 use Rattle.sh_options.specs.Order.{Asked}
 use Rattle.sh_replay.specs.Serving.{first_unserved}
@@ -9,20 +9,31 @@ use Rattle.sh_replay.specs.Serving.{first_unserved}
 abbrev pub HasNoFault : ℕ → ℕ → Type 0
 HasNoFault before now = (now ≡ before) × (now ≢ 2 ^ 64 - 1)
 
--- The words are accepted, the source's bytes are told and not too many, its rows are lawful, not too many and all served,
--- and neither the source nor the sink failed.
-pub record IsFree (asked : Option Asked) (left : Option (List ℕ)) (before now fell fallen : ℕ) : Type 0 where
-  pub order : Asked
+-- The source's bytes are told and not too many, these are the items of its rows, and it didn't fail.
+pub record InputIsFree (o : Asked) (left : Option (List ℕ)) (before now : ℕ) (items : List Item) : Type 0 where
+  pub make : o.make ≡ None
   pub bytes : List ℕ
   pub headed : Bool
-  pub items : List Item
-  pub accepted : asked ≡ Some order
   pub told : left ≡ Some bytes
   pub short : length bytes < 16777217
-  pub reads : sheet_of order.parts Replay bytes ≡ Items headed items
+  pub reads : sheet_of o.parts Replay bytes ≡ Items headed items
+  pub source : HasNoFault before now
+
+-- These calls are made.
+pub record MadeIsFree (o : Asked) (items : List Item) : Type 0 where
+  pub n : ℕ
+  pub make : o.make ≡ Some n
+  pub made : items ≡ made_items o.parts n o.seed
+
+-- The words are accepted, the items are read without a fault or made, they are lawful, not too many and all served, and the
+-- sink didn't fail.
+pub record IsFree (asked : Option Asked) (left : Option (List ℕ)) (before now fell fallen : ℕ) : Type 0 where
+  pub order : Asked
+  pub items : List Item
+  pub accepted : asked ≡ Some order
+  pub are : InputIsFree order left before now items ⊎ MadeIsFree order items
   pub few : AreFew order.parts items
   pub served : first_unserved items ≡ None
-  pub source : HasNoFault before now
   pub sink : HasNoFault fell fallen
 
 -- it ended well, or memory was wanting, or the rounds made so many turns

@@ -1,10 +1,10 @@
--- The course of a replay: all calls are given, then come the turns that the sheet's rows name, and then rounds of all
--- seats.
-use Rattle.std.specs.Prelude.{◌≡◌, ℕ, zero, suc, ◌+◌, ◌-◌, ◌*◌, ◌==◌, if◌then◌else◌, Bool, true, false, is_some, List, length, slice_get}
-use Rattle.std.specs.List.{fold, list_all, range_with_len, sum_by}
-use Rattle.sh_base.specs.declared.config.ConfigParts.{ConfigParts}
+-- The course of a replay: all calls are given, and then seats are asked one after another, first by the sheet's rows of
+-- turns and then in rounds of all seats.
+use Rattle.std.specs.{Prelude.{◌≡◌, ℕ, zero, suc, ◌+◌, ◌-◌, ◌*◌, ◌==◌, ◌++◌, if◌then◌else◌, not, Bool, true, false, is_some, List, [], ◌∷◌, length, map, slice_get}, List.{flat_map, fold, list_all, range_with_len, sum_by}}
+use Rattle.sh_base.specs.declared.{config.ConfigParts.{ConfigParts}, event.Event.{Event}}
 use Rattle.sh_sheet.specs.{declared.item.Item.{Item, TheVariants.{Ask, Mark, After, Turn}}, Sheet.{item_calls}}
-use Rattle.sh_world.specs.{States.{Given, State, fresh_state}, Turning.{give_of, is_idle_at, turn_of}}
+use Rattle.sh_world.specs.{States.{Given, State, fresh_state}, Turning.{answer_of, give_of, is_idle_at, turn_of}, declared.turn.Turn.{Turn as Answer}}
+use Rattle.sh_world.specs.declared.turn.Turn.TheVariants as turn
 use Rattle.sh_replay.specs.declared.ending.Finish.{Finish, TheVariants.{Done, Spent}}
 
 -- a call is given to its seat
@@ -14,50 +14,112 @@ given_by s (Mark seat n) = s
 given_by s (After seat n) = s
 given_by s (Turn seat count) = s
 
--- the seat is asked so often; where it is idle nothing changes
-abbrev pub turns_by : State → (seat count : ℕ) → State
-turns_by s seat zero = s
-turns_by s seat (suc count) = turns_by (turn_of s seat) seat count
+-- ---- one seat is asked
 
--- a row of turns
-abbrev pub turned_by : State → Item → State
-turned_by s (Ask seat call) = s
-turned_by s (Mark seat n) = s
-turned_by s (After seat n) = s
-turned_by s (Turn seat count) = turns_by s seat count
+-- a seat that is asked by a row of turns, or in a round
+pub data Asking : Type 0 where
+  ByRow : ℕ → Asking
+  InRound : ℕ → Asking
 
--- a world in its rounds, and how many turns may still be made in them
-pub record Rounds : Type 0 where
+-- a world, and how many turns may still be made in its rounds
+pub record Stage : Type 0 where
   pub world : State
   pub left : ℕ
 
--- A seat is asked: it takes a turn, where one may still be made and it isn't idle.
-abbrev pub ask : Rounds → (seat : ℕ) → Rounds
-ask r seat = if r.left == 0 then r else if is_idle_at (slice_get r.world.seats seat) then r else record { world = turn_of r.world seat; left = r.left - 1 }
+abbrev pub seat_of : Asking → ℕ
+seat_of (ByRow seat) = seat
+seat_of (InRound seat) = seat
 
--- a round: each seat is asked in its place, rising
-abbrev pub round : Rounds → Rounds
-round r = fold ask r (range_with_len 0 (length r.world.seats))
+-- the seat has a call under way, or one left
+abbrev pub is_busy : State → (seat : ℕ) → Bool
+is_busy s seat = not (is_idle_at (slice_get s.seats seat))
 
-abbrev pub rounds : (count : ℕ) → Rounds → Rounds
-rounds zero r = r
-rounds (suc count) r = rounds count (round r)
+-- whether the seat takes a turn: it is busy, and in a round a turn may still be made
+abbrev pub takes : Stage → Asking → Bool
+takes s (ByRow seat) = is_busy s.world seat
+takes s (InRound seat) = if s.left == 0 then false else is_busy s.world seat
 
--- As many rounds as turns may still be made. A round in which a call hasn't ended makes a turn, so behind the last one
--- every call has ended, or all the turns were made.
-abbrev pub last_round : Rounds → Rounds
-last_round r = rounds r.left r
+-- the stage after a turn of the seat; one in a round is spent
+abbrev pub turned : Stage → Asking → Stage
+turned s (ByRow seat) = record { world = turn_of s.world seat; left = s.left }
+turned s (InRound seat) = record { world = turn_of s.world seat; left = s.left - 1 }
+
+-- the stage when this was asked
+abbrev pub ask : Stage → Asking → Stage
+ask s a = if takes s a then turned s a else s
+
+-- ---- the events
+
+-- a seat's event, and the word that it found
+pub record SeatEvent : Type 0 where
+  pub seat : ℕ
+  pub event : Event
+  pub found : ℕ
+
+-- what is found in a turn: an event, and nothing where the turn is a call on a ticket line
+abbrev pub found_in : (seat : ℕ) → Answer → List SeatEvent
+found_in seat (turn.Event e found) = record { seat = seat; event = e; found = found } ∷ []
+found_in seat turn.Local = []
+found_in seat turn.Idle = []
+
+abbrev pub events_by : Stage → Asking → List SeatEvent
+events_by s a = if takes s a then found_in (seat_of a) (answer_of s.world (seat_of a)) else []
+
+-- how far a course has come: its stage, and the events of all turns so far, in their order
+pub record Course : Type 0 where
+  pub stage : Stage
+  pub events : List SeatEvent
+
+abbrev pub goes_on : Course → Asking → Course
+goes_on c a = record { stage = ask c.stage a; events = c.events ++ events_by c.stage a }
+
+-- the course from this world on, in whose rounds so many turns may be made, when all these were asked
+abbrev pub course_from : State → (budget : ℕ) → List Asking → Course
+course_from s budget asks = fold goes_on (record { stage = record { world = s; left = budget }; events = [] }) asks
+
+-- ---- who is asked
+
+-- a seat, so often
+abbrev pub turn_asks : (seat count : ℕ) → List Asking
+turn_asks seat zero = []
+turn_asks seat (suc count) = ByRow seat ∷ turn_asks seat count
+
+abbrev pub item_asks : Item → List Asking
+item_asks (Ask seat call) = []
+item_asks (Mark seat n) = []
+item_asks (After seat n) = []
+item_asks (Turn seat count) = turn_asks seat count
+
+-- the seats of the rows of turns
+abbrev pub row_asks : List Item → List Asking
+row_asks items = flat_map item_asks items
+
+-- all seats, rising
+abbrev pub round_asks : (seats : ℕ) → List Asking
+round_asks seats = map InRound (range_with_len 0 seats)
+
+-- so many rounds
+abbrev pub rounds_asks : (count seats : ℕ) → List Asking
+rounds_asks zero seats = []
+rounds_asks (suc count) seats = round_asks seats ++ rounds_asks count seats
+
+-- As many rounds follow the rows as turns may be made in them. A round in which a call hasn't ended makes a turn, so behind
+-- the last one every call has ended, or all the turns were made.
+abbrev pub all_asks : List Item → (seats budget : ℕ) → List Asking
+all_asks items seats budget = row_asks items ++ rounds_asks budget seats
+
+-- ---- the whole course
 
 -- what becomes of a world that was given its calls
-abbrev pub finished : State → List Item → (budget : ℕ) → Rounds
-finished s items budget = last_round (record { world = fold turned_by s items; left = budget })
+abbrev pub finished : State → List Item → (budget : ℕ) → Course
+finished s items budget = course_from s budget (all_asks items (length s.seats) budget)
 
 -- how many turns the rounds of so many calls may make
 abbrev pub budget_of : (calls : ℕ) → ℕ
 budget_of calls = 4096 + 100000 * calls
 
--- the course's last state, over these laid words
-abbrev pub course : ConfigParts → (words : List ℕ) → List Item → Rounds
+-- the course's end, over these laid words
+abbrev pub course : ConfigParts → (words : List ℕ) → List Item → Course
 course p words items = finished (fold given_by (fresh_state p words) items) items (budget_of (sum_by item_calls items))
 
 -- every call has ended
@@ -65,6 +127,6 @@ abbrev pub have_ended : List Given → Bool
 have_ended calls = list_all (λ (g : Given). is_some g.reply) calls
 
 -- How the rounds ended: every call has ended, or so many turns were made as were allowed, and a call hasn't ended.
-abbrev pub HasFinished : (budget : ℕ) → Rounds → Finish → Type 0
+abbrev pub HasFinished : (budget : ℕ) → Stage → Finish → Type 0
 HasFinished budget r (Done turns) = (have_ended r.world.calls ≡ true) × (turns + r.left ≡ budget)
 HasFinished budget r (Spent turns) = (have_ended r.world.calls ≡ false) × (turns ≡ budget) × (r.left ≡ 0)

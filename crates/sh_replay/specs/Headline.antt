@@ -1,9 +1,9 @@
 -- What a replay leaves, by how it ended.
-use Rattle.std.specs.{Prelude.{ℕ, ◌≡◌, ◌⊎◌, Bool, List, Option, Some, None}, Io.KnownBytes.{Appends}}
+use Rattle.std.specs.{Prelude.{ℕ, ◌≡◌, ◌≢◌, ◌<◌, ◌⊎◌, Bool, List, Option, Some, None}, Io.KnownBytes.{Appends}, List.{sum_by}}
 use Rattle.sh_base.specs.declared.config.ConfigParts.{ConfigParts}
 use Rattle.sh_map.specs.declared.book.Row.{Row}
 use Rattle.sh_sheet.specs.declared.{item.{Item.{Item}, Mode.TheVariants.{Replay}}, status.{RowCause.{RowCause, TheVariants.{NotYet}}, Status.{Status}}}
-use Rattle.sh_sheet.specs.Sheet.{Reading, Items, Refused, AreFew, IsTooMany, sheet_of}
+use Rattle.sh_sheet.specs.{Sheet.{Reading, Items, Refused, AreFew, IsTooMany, most_rows, rows_of, sheet_of}, Generate.{made_items}}
 use Rattle.sh_sheet.specs.declared.status.Status.TheVariants as status
 use Rattle.sh_text.specs.declared.write.WriteError.{WriteError}
 use Rattle.sh_text.specs.declared.write.WriteError.TheVariants as error
@@ -18,13 +18,33 @@ pub record Read (p : ConfigParts) (left rest : Option (List ℕ)) (before now : 
   pub took : TookAll left rest before now bytes
   pub reads : sheet_of p Replay bytes ≡ reading
 
--- The input's rows are lawful and not too many, and the world has served them; its rounds ended so.
-pub record Served (p : ConfigParts) (left rest : Option (List ℕ)) (before now : ℕ) (s : State) (finish : Finish) (rows : List Row) : Type 0 where
+-- The items are those of the whole input.
+pub record AreRead (o : Asked) (left rest : Option (List ℕ)) (before now : ℕ) (items : List Item) : Type 0 where
+  pub make : o.make ≡ None
   pub headed : Bool
+  pub read : Read o.parts left rest before now (Items headed items)
+
+-- Nothing was read.
+pub record Unread (left rest : Option (List ℕ)) (before now : ℕ) : Type 0 where
+  pub left_is : rest ≡ left
+  pub count : now ≡ before
+
+-- The items are calls that are made from the order's seed, and nothing was read.
+pub record AreMade (o : Asked) (left rest : Option (List ℕ)) (before now : ℕ) (items : List Item) : Type 0 where
+  pub n : ℕ
+  pub make : o.make ≡ Some n
+  pub unread : Unread left rest before now
+  pub made : items ≡ made_items o.parts n o.seed
+
+abbrev pub AreItems : (o : Asked) → (left rest : Option (List ℕ)) → (before now : ℕ) → List Item → Type 0
+AreItems o left rest before now items = AreRead o left rest before now items ⊎ AreMade o left rest before now items
+
+-- The items are lawful and not too many, and the world has served them; its rounds ended so.
+pub record Served (o : Asked) (left rest : Option (List ℕ)) (before now : ℕ) (s : State) (finish : Finish) (rows : List Row) : Type 0 where
   pub items : List Item
-  pub read : Read p left rest before now (Items headed items)
-  pub few : AreFew p items
-  pub served : HasServed p items s finish rows
+  pub are : AreItems o left rest before now items
+  pub few : AreFew o.parts items
+  pub served : HasServed o.parts items s finish rows
 
 -- The input's rows are lawful and not too many, and this row is the first that isn't served yet.
 pub record ReadUnserved (p : ConfigParts) (left rest : Option (List ℕ)) (before now : ℕ) (row : ℕ) (cause : RowCause) : Type 0 where
@@ -36,10 +56,28 @@ pub record ReadUnserved (p : ConfigParts) (left rest : Option (List ℕ)) (befor
   pub cause_is : cause ≡ NotYet
 
 -- There are more calls, turns or rows of ranges than a sheet may ask for.
-pub record ReadTooMany (p : ConfigParts) (left rest : Option (List ℕ)) (before now : ℕ) : Type 0 where
+pub record ReadTooMany (o : Asked) (left rest : Option (List ℕ)) (before now : ℕ) : Type 0 where
+  pub make : o.make ≡ None
   pub reading : Reading
-  pub read : Read p left rest before now reading
-  pub many : IsTooMany p reading
+  pub read : Read o.parts left rest before now reading
+  pub many : IsTooMany o.parts reading
+
+-- The ranges among the calls that are made may be answered with more rows than a sheet may ask for; nothing was read.
+pub record MadeTooMany (o : Asked) (left rest : Option (List ℕ)) (before now : ℕ) : Type 0 where
+  pub n : ℕ
+  pub make : o.make ≡ Some n
+  pub unread : Unread left rest before now
+  pub many : most_rows < sum_by (rows_of o.parts) (made_items o.parts n o.seed)
+
+-- Why there are no items. Of made calls nothing is read, whatever the status.
+abbrev pub HasNoItems : (o : Asked) → (left rest : Option (List ℕ)) → (before now : ℕ) → Status → Type 0
+HasNoItems o left rest before now status.ReadFault = (o.make ≡ None) × TookSome left rest before now
+HasNoItems o left rest before now status.TooLong = (o.make ≡ None) × TookMost left rest before now
+HasNoItems o left rest before now (status.BadRow row cause) =
+    (o.make ≡ None) × (Read o.parts left rest before now (Refused row cause) ⊎ ReadUnserved o.parts left rest before now row cause)
+HasNoItems o left rest before now status.TooMany = ReadTooMany o left rest before now ⊎ MadeTooMany o left rest before now
+HasNoItems o left rest before now status.NoMemory = (now ≡ before) × ((o.make ≢ None) → rest ≡ left)
+HasNoItems o left rest before now s = ⊥
 
 -- the status of a run whose lines weren't all written
 abbrev pub unwritten : WriteError → Status
@@ -60,16 +98,16 @@ pub record Untouched (old new : State) (held after : Option (List ℕ)) (fell fa
 -- The sheet was served and its rounds ended so, and all lines of the output were written.
 pub record Written (o : Asked) (new : State) (finish : Finish) (left rest : Option (List ℕ)) (before now : ℕ) (held after : Option (List ℕ)) (fell fallen : ℕ) : Type 0 where
   pub rows : List Row
-  pub served : Served o.parts left rest before now new finish rows
-  pub written : Appends held after (text_of o.map new.calls rows)
+  pub served : Served o left rest before now new finish rows
+  pub written : Appends held after (text_of o new.calls rows)
   pub count : fallen ≡ fell
 
 -- The sheet was served, and a front of the output was written.
 pub record HalfWritten (o : Asked) (new : State) (left rest : Option (List ℕ)) (before now : ℕ) (held after : Option (List ℕ)) : Type 0 where
   pub finish : Finish
   pub rows : List Row
-  pub served : Served o.parts left rest before now new finish rows
-  pub written : AppendsFront held after (text_of o.map new.calls rows)
+  pub served : Served o left rest before now new finish rows
+  pub written : AppendsFront held after (text_of o new.calls rows)
 
 -- What a replay of an order leaves. The source: the bytes that were left and that are left, and its counts of faults
 -- before and now. The sink: the bytes that it held and holds, and its counts.
@@ -79,17 +117,17 @@ Replayed o old new left rest before now held after fell fallen status.Ok =
 Replayed o old new left rest before now held after fell fallen (status.Unfinished turns) =
     Written o new (Spent turns) left rest before now held after fell fallen
 Replayed o old new left rest before now held after fell fallen status.ReadFault =
-    TookSome left rest before now × Untouched old new held after fell fallen
+    HasNoItems o left rest before now status.ReadFault × Untouched old new held after fell fallen
 Replayed o old new left rest before now held after fell fallen status.TooLong =
-    TookMost left rest before now × Untouched old new held after fell fallen
+    HasNoItems o left rest before now status.TooLong × Untouched old new held after fell fallen
 Replayed o old new left rest before now held after fell fallen (status.BadRow row cause) =
-    (Read o.parts left rest before now (Refused row cause) ⊎ ReadUnserved o.parts left rest before now row cause) × Untouched old new held after fell fallen
+    HasNoItems o left rest before now (status.BadRow row cause) × Untouched old new held after fell fallen
 Replayed o old new left rest before now held after fell fallen status.TooMany =
-    ReadTooMany o.parts left rest before now × Untouched old new held after fell fallen
+    HasNoItems o left rest before now status.TooMany × Untouched old new held after fell fallen
 Replayed o old new left rest before now held after fell fallen status.WriteFault =
     HalfWritten o new left rest before now held after × HasRisen fell fallen
 Replayed o old new left rest before now held after fell fallen status.NoMemory =
-    (now ≡ before) × (Untouched old new held after fell fallen ⊎ (HalfWritten o new left rest before now held after × (fallen ≡ fell)))
+    HasNoItems o left rest before now status.NoMemory × (Untouched old new held after fell fallen ⊎ (HalfWritten o new left rest before now held after × (fallen ≡ fell)))
 Replayed o old new left rest before now held after fell fallen status.Usage = ⊥
 
 -- the words are refused, or memory is wanting

@@ -1,4 +1,5 @@
 pub mod Course
+pub mod Run
 pub mod TurnRows
 pub mod Thinning
 pub mod Output

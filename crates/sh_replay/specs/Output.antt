@@ -1,9 +1,10 @@
 -- The output of a replay: the lines of each call, and the last lines.
 use Rattle.std.specs.{Prelude.{ℕ, ◌+◌, Bool, List, [], ◌∷◌, ◌++◌, length, sum, Option, Some, None, is_some, if◌then◌else◌}, List.{flat_map, sum_by}}
-use Rattle.sh_map.specs.declared.{book.Row.{Row}, call.Reply.{Reply}}
+use Rattle.sh_map.specs.declared.{book.Row.{Row}, call.{Call.{Call}, Reply.{Reply}}}
 use Rattle.sh_text.specs.declared.points.Points.TheVariants as points
-use Rattle.sh_text.specs.Text.{call_text, end_line, map_line, pending_line, unfinished_line}
-use Rattle.sh_world.specs.States.{Given}
+use Rattle.sh_text.specs.{Text.{call_text, end_line, made_line, map_line, pending_line, unfinished_line}, Counts.{counts_line, counts_of, with_answer}, declared.counts.Counts.{Counts}}
+use Rattle.sh_options.specs.Order.{Asked}
+use Rattle.sh_world.specs.States.{Given, dones_of}
 use Rattle.sh_replay.specs.Course.{have_ended}
 
 -- the lines of a call that has ended so, with those of its rows, or the line of one that hasn't ended
@@ -39,6 +40,20 @@ end_lines asked calls rows = map_lines asked rows ++ end_line calls (length rows
 abbrev pub last_lines : (asked : Bool) → List Given → List Row → List ℕ
 last_lines asked calls rows = if have_ended calls then end_lines asked (length calls) rows else unfinished_line (length calls) (count_ended calls)
 
--- the output for these calls, and the rows that the words hold
-unfoldable pub text_of : (asked : Bool) → List Given → List Row → List ℕ
-text_of asked calls rows = lines_from 1 calls ++ last_lines asked calls rows
+-- the counts with this call, where it has ended; and how many calls they count
+abbrev pub counted : Counts → Call → Option Reply → Counts
+counted c call None = c
+counted c call (Some reply) = with_answer c call reply
+
+abbrev pub total : Counts → ℕ
+total c = c.some + c.none + c.rows + c.part + c.full + c.worn
+
+-- what is told of the calls: the lines of each; or of made calls how many they are, their seed, and how many were answered
+-- in which way
+abbrev pub calls_lines : (make : Option ℕ) → (seed : ℕ) → List Given → List ℕ
+calls_lines None seed calls = lines_from 1 calls
+calls_lines (Some n) seed calls = made_line n seed ++ counts_line (counts_of (dones_of calls))
+
+-- the output of an order for these calls, and the rows that the words hold
+unfoldable pub text_of : Asked → List Given → List Row → List ℕ
+text_of o calls rows = calls_lines o.make o.seed calls ++ last_lines o.map calls rows

@@ -6,7 +6,7 @@ use Rattle.sh_sheet.specs.{declared.item.Item.{Item, TheVariants.{Ask, Mark, Aft
 use Rattle.sh_tree.specs.Tree.{IsTree, map_in}
 use Rattle.sh_image.specs.Laid.{AreLaid}
 use Rattle.sh_world.specs.{Laws.{RefusalsHaveCauses}, States.{Given, State, dones_of}}
-use Rattle.sh_replay.specs.{declared.ending.Finish.{Finish}, Course.{budget_of, course, have_ended, HasFinished}}
+use Rattle.sh_replay.specs.{declared.ending.Finish.{Finish}, Course.{budget_of, course, have_ended, HasFinished}, Run.{IsRun}}
 use Rattle.sh_replay.specs.declared.ending.Finish.TheVariants as finish
 
 -- the row of a key and its value
@@ -46,15 +46,17 @@ is_call (Mark seat n) = false
 is_call (After seat n) = false
 is_call (Turn seat count) = false
 
--- The world is the last one of the items' course, over laid words, and its rounds ended so. Its calls are the items'.
+-- The world is the last one of the items' course, over laid words, and its rounds ended so. The course's events are a run
+-- from the laid words to the world's. Its calls are the items'.
 -- The log and the ended calls are a lawful book, so each seat has at most one entry whose call hasn't ended; a put was
 -- full, an update worn and a range ended early by their causes. Where every call has ended the book is closed, and the
 -- words hold the log's map, whose rows these are.
 pub record HasServed (p : ConfigParts) (items : List Item) (s : State) (end : Finish) (rows : List Row) : Type 0 where
   pub laid : List ℕ
   pub are_laid : AreLaid p laid
-  pub last : s ≡ (course p laid items).world
-  pub end_is : HasFinished (budget_of (sum_by item_calls items)) (course p laid items) end
+  pub last : s ≡ (course p laid items).stage.world
+  pub end_is : HasFinished (budget_of (sum_by item_calls items)) (course p laid items).stage end
+  pub run : IsRun laid (course p laid items).events s.words
   pub setting : s.setting ≡ p
   pub calls : map item_of s.calls ≡ filter is_call items
   pub lawful : IsLawful s.log (dones_of s.calls)

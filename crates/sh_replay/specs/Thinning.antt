@@ -1,6 +1,11 @@
--- Lists of seats from which idle ones are left out.
+-- Seats that are asked in a round, and lists of seats from which idle ones are left out.
 use Rattle.std.specs.Prelude.{◌≡◌, ◌⊎◌, ℕ, true, List, [], ◌∷◌, slice_get}
 use Rattle.sh_world.specs.{States.{State}, Turning.{is_idle_at}}
+use Rattle.sh_replay.specs.Course.{ask, InRound, Stage}
+
+-- the seat is asked in a round
+abbrev pub ask_in : Stage → (seat : ℕ) → Stage
+ask_in r seat = ask r (InRound seat)
 
 -- every seat is idle
 abbrev pub AllIdle : State → Type 0

@@ -1,18 +1,20 @@
 // The lines of a replay.
-ghost use Rattle.std.specs.Prelude.{◌≡◌, ◌<◌, ◌≤◌, ◌*◌, ◌^◌, if◌then◌else◌, is_some, length, sum, OnOk, OnErr};
+ghost use Rattle.std.specs.Prelude.{Some, ◌≡◌, ◌<◌, ◌≤◌, ◌*◌, ◌^◌, if◌then◌else◌, is_some, length, sum, OnOk, OnErr};
 ghost use Rattle.std.specs.{List.{flat_map, sum_by}, Io.KnownBytes.{Appends}};
 ghost use Rattle.sh_port.specs.Port.{AppendsFront};
-ghost use Rattle.sh_text.specs.{Text.{row_line}, Write.{HasWriteCause}};
-ghost use Rattle.sh_world.specs.States.{rows_at, with_rows};
-ghost use Rattle.sh_replay.specs.Output.{count_ended, end_lines, last_lines, lines_from, map_lines, sum_of, text_of, text_with};
+ghost use Rattle.sh_options.specs.Order.{asked_of};
+ghost use Rattle.sh_text.specs.{Counts.{counts_of}, Text.{row_line}, Write.{HasWriteCause}};
+ghost use Rattle.sh_world.specs.States.{dones_of, rows_at, with_rows};
+ghost use Rattle.sh_replay.specs.Output.{calls_lines, count_ended, counted, end_lines, last_lines, lines_from, map_lines, sum_of, text_of, text_with, total};
 
 use crate::turns::have_ended;
 use sh_base::Value;
 use sh_map::Row;
+use sh_options::Order;
 use sh_port::Sink;
 use sh_text::{
-    Finished, Points, WriteError, write_end, write_finished, write_map, write_pending, write_row,
-    write_unfinished,
+    Counts, Finished, Points, WriteError, add_answer, write_counts, write_end, write_finished,
+    write_made, write_map, write_pending, write_row, write_unfinished,
 };
 use sh_world::{Calls, GivenCall};
 use std::alloc::Global;
@@ -188,25 +190,86 @@ fn write_last_lines<K: Sink>(
     }
 }
 
-/// Writes the lines of a replay: those of each call, in the order in which they were given, a range's rows behind its own;
-/// then, where every call has ended, the map where it is asked for and the last line, and else the line of a run that was
-/// given up. Conditions: at most 1,000,000 calls, and at most 2^32 keys in the map.
+// Counts one call more, where it has ended.
+fn count_answer(counts: &mut Counts, given: &GivenCall)
+    requires { total counts.old ≤ 1000000 }
+    ensures { counts.new ≡ counted counts.old given.now.call given.now.reply }
+{
+    if let Some(reply) = &given.reply {
+        add_answer(counts, &given.call, reply);
+    }
+}
+
+// How many of the calls were answered in which way.
+fn counts(calls: &Calls) -> Counts
+    requires { length calls.now.calls ≤ 1000000 }
+    ensures { result ≡ counts_of (dones_of calls.now.calls) }
+{
+    let mut counts = Counts::none_yet();
+    for i in 0..calls.len() {
+        count_answer(&mut counts, &calls.get(i));
+    }
+    counts
+}
+
+// Writes how many calls were made of which seed, and how many were answered in which way.
+fn write_made_calls<K: Sink>(
+    alloc: Global,
+    sink: &mut K,
+    n: u64,
+    seed: u64,
+    calls: &Calls,
+) -> Result<(), WriteError>
+    requires { length calls.now.calls ≤ 1000000 }
+    ensures ok { OnOk result (Appends (K.held sink.old) (K.held sink.new) (calls_lines (Some n) seed calls.now.calls)) }
+    ensures err { OnErr result (AppendsFront (K.held sink.old) (K.held sink.new) (calls_lines (Some n) seed calls.now.calls)) }
+    ensures cause { HasWriteCause (K.faults sink.old) (K.faults sink.new) result }
+{
+    match write_made(alloc, sink, n, seed) {
+        Ok(()) => write_counts(alloc, sink, &counts(calls)),
+        Err(error) => Err(error),
+    }
+}
+
+// Writes what an order tells of the calls.
+fn write_calls_lines<K: Sink>(
+    alloc: Global,
+    sink: &mut K,
+    make: Option<u64>,
+    seed: u64,
+    calls: &Calls,
+) -> Result<(), WriteError>
+    requires { length calls.now.calls ≤ 1000000 }
+    ensures ok { OnOk result (Appends (K.held sink.old) (K.held sink.new) (calls_lines make seed calls.now.calls)) }
+    ensures err { OnErr result (AppendsFront (K.held sink.old) (K.held sink.new) (calls_lines make seed calls.now.calls)) }
+    ensures cause { HasWriteCause (K.faults sink.old) (K.faults sink.new) result }
+{
+    match make {
+        Some(n) => write_made_calls(alloc, sink, n, seed, calls),
+        None => write_given_calls(alloc, sink, calls),
+    }
+}
+
+/// Writes the lines of a replay: those of each call, in the order in which they were given, a range's rows behind its own,
+/// or of made calls their number and seed, and how many were answered in which way; then, where every call has ended, the
+/// map where it is asked for and the last line, and else the line of a run that was given up. Conditions: at most 1,000,000
+/// calls, and at most 2^32 keys in the map.
 #[tactic(auto, unfolding(crate::specs::Output::text_of))]
 pub fn write_lines<K: Sink>(
     alloc: Global,
     sink: &mut K,
-    asked: bool,
+    order: &Order,
     calls: &Calls,
     rows: &[Row],
 ) -> Result<(), WriteError>
     requires calls { length calls.now.calls ≤ 1000000 }
     requires rows { length rows.now ≤ 4294967296 }
-    ensures ok { OnOk result (Appends (K.held sink.old) (K.held sink.new) (text_of asked calls.now.calls rows.now)) }
-    ensures err { OnErr result (AppendsFront (K.held sink.old) (K.held sink.new) (text_of asked calls.now.calls rows.now)) }
+    ensures ok { OnOk result (Appends (K.held sink.old) (K.held sink.new) (text_of (asked_of order.now) calls.now.calls rows.now)) }
+    ensures err { OnErr result (AppendsFront (K.held sink.old) (K.held sink.new) (text_of (asked_of order.now) calls.now.calls rows.now)) }
     ensures cause { HasWriteCause (K.faults sink.old) (K.faults sink.new) result }
 {
-    match write_given_calls(alloc, sink, calls) {
-        Ok(()) => write_last_lines(alloc, sink, asked, calls, rows),
+    match write_calls_lines(alloc, sink, order.make, order.seed, calls) {
+        Ok(()) => write_last_lines(alloc, sink, order.map, calls, rows),
         Err(error) => Err(error),
     }
 }

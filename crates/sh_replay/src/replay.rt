@@ -1,11 +1,12 @@
 // From the bytes in to the bytes out.
-ghost use Rattle.std.specs.{Prelude.{◌≡◌, ◌≤◌, length, map, All, IfOk, OnOk, OnErr}, Io.KnownBytes.{Appends}};
+ghost use Rattle.std.specs.{Prelude.{◌≡◌, ◌≤◌, ℕ, List, Option, None, Some, length, map, All, IfOk, MatchResult, OnOk, OnErr}, Io.KnownBytes.{Appends}};
 ghost use Rattle.sh_base.specs.Parts.{parts_of};
 ghost use Rattle.sh_port.specs.Port.{AppendsFront};
+ghost use Rattle.sh_sheet.specs.Sheet.{AreFew};
 ghost use Rattle.sh_text.specs.Write.{HasWriteCause};
 ghost use Rattle.sh_options.specs.Order.{asked_of};
 ghost use Rattle.sh_world.specs.States.{IsBlank};
-ghost use Rattle.sh_replay.specs.{Serving.{accepted}, Headline.{ended_with, unwritten, Headline, Replayed}};
+ghost use Rattle.sh_replay.specs.{Serving.{accepted, HasCount, IsServable}, Headline.{ended_with, unwritten, AreItems, HasNoItems, Headline, Replayed}};
 
 use crate::Finish;
 use crate::output::write_lines;
@@ -13,7 +14,7 @@ use crate::serve::serve;
 use crate::serving::{first_unserved, read_order};
 use sh_options::{Order, WordFault};
 use sh_port::{Intake, Sink, Source, read_all};
-use sh_sheet::{Mode, RowCause, SheetFault, Status, read_sheet};
+use sh_sheet::{Mode, RowCause, Sheet, SheetFault, Status, generate, read_sheet};
 use sh_text::WriteError;
 use sh_world::World;
 use std::alloc::Global;
@@ -38,7 +39,63 @@ fn ended_with(finish: Finish) -> Status
     }
 }
 
-// Replays the order: reads the sheet, serves it and writes its lines.
+// The sheet that the source's bytes say.
+fn read_items<S: Source>(alloc: Global, order: &Order, source: &mut S) -> Result<Sheet, Status>
+    requires { order.now.make ≡ None }
+    ensures are { MatchResult result (λ s. AreItems (asked_of order.now) (S.left source.old) (S.left source.new) (S.faults source.old) (S.faults source.new) s.items) (HasNoItems (asked_of order.now) (S.left source.old) (S.left source.new) (S.faults source.old) (S.faults source.new)) }
+    ensures few { IfOk result (λ s. AreFew (parts_of order.now.cfg) s.items) }
+    ensures servable { IfOk result (λ s. All (IsServable (parts_of order.now.cfg)) s.items) }
+{
+    let bytes = match read_all(alloc, source) {
+        Ok(bytes) => bytes,
+        Err(Intake::Fault) => return Err(Status::ReadFault),
+        Err(Intake::TooLong) => return Err(Status::TooLong),
+        Err(Intake::NoMemory) => return Err(Status::NoMemory),
+    };
+    let sheet = match read_sheet(alloc, &bytes, Mode::Replay, &order.cfg) {
+        Ok(sheet) => sheet,
+        Err(SheetFault::Row { row, cause }) => return Err(Status::BadRow { row, cause }),
+        Err(SheetFault::TooMany) => return Err(Status::TooMany),
+        Err(SheetFault::NoMemory) => return Err(Status::NoMemory),
+    };
+    if let Some(at) = first_unserved(sheet.as_slice()) {
+        return Err(Status::BadRow {
+            row: sheet.row_of(at),
+            cause: RowCause::NotYet,
+        });
+    }
+    Ok(sheet)
+}
+
+// The sheet of the calls that are made for the order.
+fn make_items(alloc: Global, order: &Order, n: u64) -> Result<Sheet, Status>
+    requires make { order.now.make ≡ Some n }
+    requires count { HasCount (Some n) }
+    ensures are { (left : Option (List ℕ)) (now : ℕ) → MatchResult result (λ s. AreItems (asked_of order.now) left left now now s.items) (HasNoItems (asked_of order.now) left left now now) }
+    ensures few { IfOk result (λ s. AreFew (parts_of order.now.cfg) s.items) }
+    ensures servable { IfOk result (λ s. All (IsServable (parts_of order.now.cfg)) s.items) }
+{
+    match generate(alloc, &order.cfg, n, order.seed) {
+        Ok(sheet) => Ok(sheet),
+        Err(SheetFault::TooMany) => Err(Status::TooMany),
+        Err(_) => Err(Status::NoMemory),
+    }
+}
+
+// The sheet of the order: calls that are made, or what is read.
+fn items_of<S: Source>(alloc: Global, order: &Order, source: &mut S) -> Result<Sheet, Status>
+    requires { HasCount order.now.make }
+    ensures are { MatchResult result (λ s. AreItems (asked_of order.now) (S.left source.old) (S.left source.new) (S.faults source.old) (S.faults source.new) s.items) (HasNoItems (asked_of order.now) (S.left source.old) (S.left source.new) (S.faults source.old) (S.faults source.new)) }
+    ensures few { IfOk result (λ s. AreFew (parts_of order.now.cfg) s.items) }
+    ensures servable { IfOk result (λ s. All (IsServable (parts_of order.now.cfg)) s.items) }
+{
+    match order.make {
+        Some(n) => make_items(alloc, order, n),
+        None => read_items(alloc, order, source),
+    }
+}
+
+// Replays the order: serves its sheet and writes the lines.
 fn replay<S: Source, K: Sink>(
     alloc: Global,
     order: &Order,
@@ -46,49 +103,34 @@ fn replay<S: Source, K: Sink>(
     source: &mut S,
     sink: &mut K,
 ) -> Status
-    requires { IsBlank world.old }
+    requires blank { IsBlank world.old }
+    requires count { HasCount order.now.make }
     ensures { Replayed (asked_of order.now) world.old world.new (S.left source.old) (S.left source.new) (S.faults source.old) (S.faults source.new) (K.held sink.old) (K.held sink.new) (K.faults sink.old) (K.faults sink.new) result }
 {
-    let cfg = &order.cfg;
-    let bytes = match read_all(alloc, source) {
-        Ok(bytes) => bytes,
-        Err(Intake::Fault) => return Status::ReadFault,
-        Err(Intake::TooLong) => return Status::TooLong,
-        Err(Intake::NoMemory) => return Status::NoMemory,
-    };
-    let sheet = match read_sheet(alloc, &bytes, Mode::Replay, cfg) {
+    let sheet = match items_of(alloc, order, source) {
         Ok(sheet) => sheet,
-        Err(SheetFault::Row { row, cause }) => return Status::BadRow { row, cause },
-        Err(SheetFault::TooMany) => return Status::TooMany,
-        Err(SheetFault::NoMemory) => return Status::NoMemory,
+        Err(status) => return status,
     };
-    drop(bytes);
-    if let Some(at) = first_unserved(sheet.as_slice()) {
-        return Status::BadRow {
-            row: sheet.row_of(at),
-            cause: RowCause::NotYet,
-        };
-    }
-    let Ok((served, finish, rows)) = serve(alloc, cfg, sheet) else {
+    let Ok((served, finish, rows)) = serve(alloc, &order.cfg, sheet) else {
         return Status::NoMemory;
     };
     *world = served;
-    match write_lines(alloc, sink, order.map, world.calls(), rows.as_slice()) {
+    match write_lines(alloc, sink, order, world.calls(), rows.as_slice()) {
         Ok(()) => ended_with(finish),
         Err(error) => unwritten(error),
     }
 }
 
-/// Replays a sheet as the words ask for it: reads it from the source, lays a pool and gives its calls to their seats;
-/// makes the turns of its rows in their order, and then rounds of all seats until every call has ended; and writes a line
-/// for each call to the sink, then the map where it is asked for, and a last line with the number of calls, the keys that
-/// the pool's words hold, and the sum of their values. All turns are made before the first line is written. Condition:
-/// the world is blank.
+/// Replays a sheet as the words ask for it: reads it from the source, or makes its calls and reads nothing; lays a pool and
+/// gives the calls to their seats; makes the turns of its rows in their order, and then rounds of all seats until every call
+/// has ended; and writes a line for each call to the sink, or of made calls their number and seed and how many were answered
+/// in which way; then the map where it is asked for, and a last line with the number of calls, the keys that the pool's
+/// words hold, and the sum of their values. All turns are made before the first line is written. Condition: the world is
+/// blank.
 ///
-/// `Usage` comes exactly where the words are refused, and for now where they ask for events or made calls; then nothing
-/// is read. `ReadFault` comes only where the source's count of faults rose, `TooLong` exactly where 16,777,217 bytes were
+/// `Usage` comes exactly where the words are refused, and for now where they ask for events; then nothing is read. `ReadFault` comes only where the source's count of faults rose, `TooLong` exactly where 16,777,217 bytes were
 /// taken, `BadRow` exactly where a row is refused, with the first such row and its cause, and `TooMany` exactly where the
-/// rows ask for too many calls, turns or rows of ranges. A sheet that passes all this is still `BadRow` with the cause
+/// rows ask for too many calls, turns or rows of ranges, or the calls that are made for too many rows. A sheet that passes all this is still `BadRow` with the cause
 /// `NotYet` where it has a row that isn't served yet: a mark or an after. Up to there nothing is written and the
 /// world is blank. `Unfinished` comes exactly where the rounds made 4,096 turns and 100,000 more for each call, and a call
 /// hasn't ended; then a call without an end has the word `pending` in its line, and the last line tells how many have

@@ -2,6 +2,7 @@
 use super::*;
 use sh_base::{Config, ConfigParts};
 use sh_map::judge;
+use sh_options::Order;
 use sh_port::{ListSink, ListSource, SureSink, SureSource};
 use sh_sheet::{Mode, RowCause, Status, read_sheet};
 use sh_tree::unposted;
@@ -142,11 +143,63 @@ fn refused_words_leave_nothing(rt: HostRuntime) -> Result<(), Fail> {
         &[""],
         &["--map=1"],
         &["--events"],
-        &["--make", "1"],
+        &["--make", "0"],
+        &["--make", "1000001"],
+        &["--make=1", "--seed"],
+        &["--make=1", "--make=1"],
         &["--chunks", "4096", "--leaf", "64"],
     ] {
         assert!(rt; refuses(rt.alloc(), words, SHEET, Status::Usage)?);
     }
+    Ok(())
+}
+
+// The sheet that stands in the input is never read.
+#[test]
+fn made_calls_are_counted(rt: HostRuntime) -> Result<(), Fail> {
+    let alloc = rt.alloc();
+    for (words, output) in [
+        (
+            ["--make", "1", "--seed", "7"].as_slice(),
+            "made,1,7\ncounts,0,1,0,0,0,0\nend,1,1,1\n",
+        ),
+        (
+            &[
+                "--make=5",
+                "--seed=8",
+                "--computes=1",
+                "--seats=2",
+                "--value-words=2",
+                "--map",
+            ],
+            "made,5,8\ncounts,1,3,1,0,0,0\nmap,3,4:5\nend,5,1,9\n",
+        ),
+    ] {
+        assert!(rt; answers(alloc, words, "push,0,5,5\n", output)?, "{output}");
+    }
+    Ok(())
+}
+
+// Whether the line of counts, which is the second, tells of no full and no worn.
+fn refused_none(written: &[u8]) -> bool {
+    let Some(first) = written.iter().position(|byte| *byte == b'\n') else {
+        return false;
+    };
+    let rest = &written[first + 1..];
+    let Some(second) = rest.iter().position(|byte| *byte == b'\n') else {
+        return false;
+    };
+    rest[..second].ends_with(b",0,0")
+}
+
+#[test]
+fn made_calls_end_alike_at_each_run(rt: HostRuntime) -> Result<(), Fail> {
+    let alloc = rt.alloc();
+    let words = ["--make=1500", "--seed=7", "--chunks=64"];
+    let first = replay(alloc, &words, "")?;
+    assert!(rt; is_lawful(alloc, &first)? && refused_none(&first.written));
+    let second = replay(alloc, &words, "")?;
+    assert!(rt; second.written.as_slice() == first.written.as_slice());
     Ok(())
 }
 
@@ -609,8 +662,15 @@ fn ends_with(alloc: Global, budget: u64) -> Result<Option<(Finish, Vec<u8>)>, Al
     }
     let end = finish(&mut world, &sheet, budget);
     let mut sink = ListSink::new(alloc, 1024, 64, Vec::new(alloc))?;
+    let order = Order {
+        cfg,
+        map: false,
+        events: false,
+        make: None,
+        seed: 1,
+    };
     if world.calls().len() > 9
-        || output::write_lines(alloc, &mut sink, false, world.calls(), &[]).is_err()
+        || output::write_lines(alloc, &mut sink, &order, world.calls(), &[]).is_err()
     {
         return Ok(None);
     }

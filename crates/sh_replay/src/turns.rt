@@ -1,6 +1,6 @@
 // The turns of a replay: those that the sheet's rows name, and then the finishing rounds.
 ghost use Rattle.std.specs.{Prelude.{◌≡◌, ◌≢◌, ◌≤◌, ◌<◌, ◌+◌, ℕ, [], All, IfOk, length, take}, List.{fold, range_with_len}};
-ghost use Rattle.sh_replay.specs.{Course.{ask, finished, have_ended, last_round, turned_by, turns_by, HasFinished}, Thinning.{AllIdle, Thins}, TurnRows.{made_by, turn_rows}};
+ghost use Rattle.sh_replay.specs.{Course.{ask, finished, have_ended, row_asks, rounds_asks, turn_asks, HasFinished}, Thinning.{ask_in, AllIdle, Thins}, TurnRows.{kept_asks, turn_rows}};
 
 use crate::Finish;
 use sh_sheet::{Item, Sheet};
@@ -23,7 +23,7 @@ struct Left {
 
 // The seat takes so many turns, where there is one. Once it is idle the rest is left out.
 fn take_turns(world: &mut World, seat: u32, count: u64)
-    ensures { world.new ≡ turns_by world.old seat count }
+    ensures { (left : ℕ) → record { world = world.new; left = left } ≡ fold ask (record { world = world.old; left = left }) (turn_asks seat count) }
 {
     if seat >= world.seats() {
         return;
@@ -38,7 +38,7 @@ fn take_turns(world: &mut World, seat: u32, count: u64)
 
 // The turns of the sheet's rows, in their order.
 fn take_rows(world: &mut World, items: &[Item])
-    ensures { world.new ≡ fold turned_by world.old items.now }
+    ensures { (left : ℕ) → record { world = world.new; left = left } ≡ fold ask (record { world = world.old; left = left }) (row_asks items.now) }
 {
     for item in items {
         if let Item::Turn { seat, count } = item {
@@ -65,7 +65,7 @@ pub(crate) fn turn_rows(alloc: Global, items: &[Item]) -> Result<Vec<TurnRow>, A
 
 // The turns of these rows, in their order.
 pub(crate) fn take_all(world: &mut World, rows: &[TurnRow])
-    ensures { world.new ≡ fold made_by world.old rows.now }
+    ensures { (left : ℕ) → record { world = world.new; left = left } ≡ fold ask (record { world = world.old; left = left }) (kept_asks rows.now) }
 {
     for row in rows {
         take_turns(world, row.seat, row.count);
@@ -77,7 +77,7 @@ pub(crate) fn take_all(world: &mut World, rows: &[TurnRow])
 fn round(world: &mut World, seats: &mut [u32], count: usize, turns: u64) -> Left
     requires count { count ≤ length seats.old }
     requires seats { All (λ x. x < length world.old.seats) (take count seats.old) }
-    ensures round { record { world = world.new; left = result.turns } ≡ fold ask (record { world = world.old; left = turns }) (take count seats.old) }
+    ensures round { record { world = world.new; left = result.turns } ≡ fold ask_in (record { world = world.old; left = turns }) (take count seats.old) }
     ensures made { result.seats + result.turns ≡ turns }
     ensures count { result.seats ≤ count }
     ensures length { length seats.new ≡ length seats.old }
@@ -121,7 +121,7 @@ fn rounds(world: &mut World, budget: u64) -> u64
     requires { length world.old.seats ≤ 64 }
     ensures left { result ≤ budget }
     ensures rest { result ≢ 0 → AllIdle world.new }
-    ensures rounds { record { world = world.new; left = result } ≡ last_round (record { world = world.old; left = budget }) }
+    ensures rounds { record { world = world.new; left = result } ≡ fold ask (record { world = world.old; left = budget }) (rounds_asks budget (length world.old.seats)) }
 {
     let mut count = world.seats() as usize;
     let mut seats = rising(count);
@@ -152,8 +152,8 @@ pub fn have_ended(calls: &Calls) -> bool
 // The rounds of a world whose turn rows were made, and how they ended.
 pub(crate) fn finish_rounds(world: &mut World, budget: u64) -> Finish
     requires { 0 < length world.old.seats }
-    ensures course { world.new ≡ (last_round (record { world = world.old; left = budget })).world }
-    ensures finish { HasFinished budget (last_round (record { world = world.old; left = budget })) result }
+    ensures course { world.new ≡ (fold ask (record { world = world.old; left = budget }) (rounds_asks budget (length world.old.seats))).world }
+    ensures finish { HasFinished budget (fold ask (record { world = world.old; left = budget }) (rounds_asks budget (length world.old.seats))) result }
 {
     world.keeps_the_laws();
     let turns = budget - rounds(world, budget);
@@ -171,8 +171,8 @@ pub(crate) fn finish_rounds(world: &mut World, budget: u64) -> Finish
 /// A row of turns by a seat that the world hasn't changes nothing. Condition: the world is laid.
 pub fn finish(world: &mut World, sheet: &Sheet, budget: u64) -> Finish
     requires { 0 < length world.old.seats }
-    ensures course { world.new ≡ (finished world.old sheet.now.items budget).world }
-    ensures finish { HasFinished budget (finished world.old sheet.now.items budget) result }
+    ensures course { world.new ≡ (finished world.old sheet.now.items budget).stage.world }
+    ensures finish { HasFinished budget (finished world.old sheet.now.items budget).stage result }
 {
     take_rows(world, sheet.as_slice());
     finish_rounds(world, budget)

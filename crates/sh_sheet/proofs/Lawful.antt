@@ -30,7 +30,7 @@ length-numbers_of [] ns e = ap length (sym (same_Some _ _ e))
 length-numbers_of (part ∷ parts) ns e = length-joined (number_of part) (numbers_of parts) ns (length parts) (length-numbers_of parts) e ∙ omega arith
 
 -- a value has as many words as it is to have
-length-value_in : (count : ℕ) (text ns : List ℕ) → value_in count text ≡ Some ns → length ns ≡ count
+pub length-value_in : (count : ℕ) (text ns : List ℕ) → value_in count text ≡ Some ns → length ns ≡ count
 length-value_in count text ns e =
     let parts = then_some _ _ _ e in
     let counted : length (colon_parts text) ≡ count = grind (arith, nat_tests) in

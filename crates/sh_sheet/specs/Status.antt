@@ -27,6 +27,10 @@ cause_text BadBounds = codes "BadBounds"
 cause_text BadMark = codes "BadMark"
 cause_text NotYet = codes "NotYet"
 
+-- the text of a row that is refused: its number, and the cause's name
+abbrev pub row_text : ℕ → RowCause → List ℕ
+row_text row cause = ((codes "row " ++ decimal row) ++ codes " ") ++ cause_text cause
+
 -- the text of a status: empty where the last line of the output says it
 abbrev pub status_text : Status → List ℕ
 status_text status.Ok = []
@@ -34,7 +38,7 @@ status_text status.Usage = codes "usage"
 status_text status.ReadFault = codes "read fault"
 status_text status.WriteFault = codes "write fault"
 status_text status.TooLong = codes "too long"
-status_text (status.BadRow row cause) = codes "row " ++ (decimal row ++ (codes " " ++ cause_text cause))
+status_text (status.BadRow row cause) = row_text row cause
 status_text status.TooMany = codes "too many"
 status_text status.NoMemory = codes "no memory"
 status_text (status.Unfinished turns) = []

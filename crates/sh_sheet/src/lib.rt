@@ -18,8 +18,9 @@ pub use laws::{known_rows, sheet_laws};
 pub use made::generate;
 pub use number::parse_number;
 pub use records::known_sheets;
+pub use rows::{field, parse_value};
 pub use sheet::{Sheet, read_sheet};
-pub use status::{RowCause, Status};
+pub use status::{RowCause, Status, StatusText};
 pub use totals::{MOST_CALLS, MOST_ROWS, MOST_TURNS};
 
 #[cfg(test)]

@@ -173,4 +173,31 @@ mod tests {
         }
         Ok(())
     }
+
+    // Whether so many calls by 64 seats are made, the last of them by this seat.
+    fn are_made(alloc: Global, n: u64, last: u32) -> bool {
+        let mut parts = ConfigParts::default();
+        parts.computes = 8;
+        parts.seats = 8;
+        if n < 1 || n > 1_000_000 {
+            return false;
+        }
+        let Ok(cfg) = Config::new(parts) else {
+            return false;
+        };
+        match generate(alloc, &cfg, n, 7) {
+            Ok(sheet) => {
+                let items = sheet.as_slice();
+                items.len() as u64 == n && items.last().is_some_and(|item| told(item).0 == last)
+            }
+            Err(_) => false,
+        }
+    }
+
+    #[test]
+    fn calls_are_made_up_to_the_most(rt: HostRuntime) {
+        for (n, last) in [(1, 0), (64, 63), (65, 0), (100_001, 32), (1_000_000, 63)] {
+            assert!(rt; are_made(rt.alloc(), n, last), "{n}");
+        }
+    }
 }

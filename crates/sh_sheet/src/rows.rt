@@ -30,8 +30,9 @@ fn cut(text: &[u8]) -> (&[u8], Option<&[u8]>)
     }
 }
 
-// The value of so many words that a field says, if it says one.
-fn parse_value(text: &[u8], count: usize) -> Option<Value>
+/// The value of so many words that a field says, if it says one: as many numbers joined by colons. Condition: 1 to 8
+/// words.
+pub fn parse_value(text: &[u8], count: usize) -> Option<Value>
     requires low { 1 ≤ count }
     requires high { count ≤ 8 }
     ensures { result ≡ value_in count text.now }
@@ -99,9 +100,9 @@ struct Fields<'a> {
     b: &'a [u8],
 }
 
-// The field at a place, and past the last field an empty text.
+/// The field of a row at a place, and past the last field an empty text.
 #[tactic(auto, using(crate::proofs::RowFields::field_none, crate::proofs::RowFields::field_some))]
-fn field(row: &ByteRecord, place: usize) -> &[u8]
+pub fn field(row: &ByteRecord, place: usize) -> &[u8]
     ensures { result.now ≡ get_or (fields_of row.now) place [] }
 {
     match row.get(place) {

@@ -1,8 +1,8 @@
 // The items of a sheet.
-ghost use Rattle.std.specs.Prelude.{ℕ, List, ◌≡◌, ◌≤◌, ◌<◌, ◌∷◌, ◌↔◌, All, IfOk, IfErr, OnOk, IsTrue, MatchResult, length};
+ghost use Rattle.std.specs.Prelude.{ℕ, List, ◌≡◌, ◌≤◌, ◌<◌, ◌∷◌, ◌↔◌, All, IfOk, IfErr, IsErrOf, IsOk, OnOk, IsTrue, MatchResult, length};
 ghost use Rattle.csv.specs.Records.{fields_of};
 ghost use Rattle.sh_base.specs.Parts.{parts_of};
-ghost use Rattle.sh_sheet.specs.{Sheet.{Items, row_of, sheet_of, AreFew, AreMarksLawful, IsFault, IsLawfulItem}, Reader.{rows_behind, HasMarks}};
+ghost use Rattle.sh_sheet.specs.{Row.{item_in}, Sheet.{Items, marks_in, row_of, sheet_of, AreFew, AreMarksLawful, IsFault, IsLawfulItem}, Reader.{rows_behind, HasMarks}};
 
 use crate::found::Found;
 use crate::rows::{is_heading, item_in};
@@ -55,11 +55,12 @@ impl Sheet {
     }
 }
 
-// Takes the next row.
+// Takes the next row. Memory may be wanting only for the item of a row that passed all tests.
 fn take_row(found: &mut Found, cfg: &Config, mode: Mode, row: &ByteRecord) -> Result<(), SheetFault>
     requires { HasMarks found.old.marks found.old.items.items }
     ensures marks { OnOk result (HasMarks found.new.marks found.new.items.items) }
     ensures taken { OnOk result ((rest : List (List (List ℕ))) → rows_behind (parts_of cfg.now) mode found.old.headed found.old.items.items (fields_of row.now ∷ rest) ≡ rows_behind (parts_of cfg.now) mode found.new.headed found.new.items.items rest) }
+    ensures memory { IsErrOf result SheetFault.NoMemory → IsOk (item_in (parts_of cfg.now) mode (marks_in found.old.items.items) (fields_of row.now)) }
     ensures refused { IfErr result (λ e. (rest : List (List (List ℕ))) → IsFault (parts_of cfg.now) (rows_behind (parts_of cfg.now) mode found.old.headed found.old.items.items (fields_of row.now ∷ rest)) e) }
 {
     if found.is_start() && is_heading(row) {

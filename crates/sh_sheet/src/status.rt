@@ -1,8 +1,13 @@
 // How a run ended, as a code and as a text.
-ghost use Rattle.std.specs.Prelude.{◌≡◌, Some};
-ghost use Rattle.sh_sheet.specs.Status.{cause_text, status_code, status_text};
+ghost use Rattle.std.specs.Prelude.{◌≡◌, ◌≤◌, length, Some};
+ghost use Rattle.sh_sheet.specs.Status.{cause_text, row_text, status_code, status_text};
 
+use arrayvec::ArrayString;
+use itoa::Buffer;
 use std::fmt;
+
+/// The text of a status, which needs no memory.
+pub type StatusText = ArrayString<48>;
 
 /// Why a row of a sheet was refused. Its text is its name.
 #[derive(Clone, Copy, Debug, PartialEq, Eq)]
@@ -53,7 +58,8 @@ pub enum Status {
 impl RowCause {
     /// Its name.
     pub fn name(self) -> &'static str
-        ensures { result.now ≡ cause_text self }
+        ensures text { result.now ≡ cause_text self }
+        ensures short { length result.now ≤ 11 }
     {
         match self {
             RowCause::FieldCount => "FieldCount",
@@ -96,19 +102,52 @@ impl Status {
     }
 }
 
+// A text of one part.
+fn text_of(part: &str) -> StatusText
+    requires { length part.now ≤ 48 }
+    ensures { result.bytes ≡ part.now }
+{
+    let mut text = ArrayString::new();
+    text.push_str(part);
+    text
+}
+
+// The text of a row that is refused.
+fn row_text(row: u64, cause: RowCause) -> StatusText
+    ensures { result.bytes ≡ row_text row cause }
+{
+    let mut digits = Buffer::new();
+    let mut text = text_of("row ");
+    text.push_str(digits.format(row));
+    text.push_str(" ");
+    text.push_str(cause.name());
+    text
+}
+
+impl Status {
+    /// The text that tells it: `usage`, `read fault`, `write fault`, `too long`, `too many`, `no memory`, or `row R CAUSE`
+    /// with the row's number and the cause's name; and none where the last line of the output tells it, with `Ok` and
+    /// `Unfinished`.
+    pub fn text(&self) -> StatusText
+        ensures { result.bytes ≡ status_text self.now }
+    {
+        match *self {
+            Status::Ok | Status::Unfinished { .. } => ArrayString::new(),
+            Status::Usage => text_of("usage"),
+            Status::ReadFault => text_of("read fault"),
+            Status::WriteFault => text_of("write fault"),
+            Status::TooLong => text_of("too long"),
+            Status::BadRow { row, cause } => row_text(row, cause),
+            Status::TooMany => text_of("too many"),
+            Status::NoMemory => text_of("no memory"),
+        }
+    }
+}
+
 impl fmt::Display for Status {
     ghost output = { λ status. Some (status_text status) };
 
     fn fmt<W: fmt::Write>(&self, f: &mut fmt::Formatter<W>) -> fmt::Result {
-        match self {
-            Status::Ok | Status::Unfinished { .. } => Ok(()),
-            Status::Usage => f.write_str("usage"),
-            Status::ReadFault => f.write_str("read fault"),
-            Status::WriteFault => f.write_str("write fault"),
-            Status::TooLong => f.write_str("too long"),
-            Status::BadRow { row, cause } => write!(f, "row {row} {cause}"),
-            Status::TooMany => f.write_str("too many"),
-            Status::NoMemory => f.write_str("no memory"),
-        }
+        f.write_str(self.text().as_str())
     }
 }

@@ -2,7 +2,8 @@
 use super::*;
 use sh_base::{Config, ConfigParts};
 use sh_map::Call;
-use std::alloc::Global;
+use std::alloc::{AllocError, Global};
+use std::test::Fail;
 
 fn setting(rows: u32, value_words: u32) -> ConfigParts {
     ConfigParts {
@@ -137,6 +138,88 @@ fn rows_are_read(rt: HostRuntime) {
     }
 }
 
+// Why a sheet in the setting with the most seats, 64, is refused.
+fn fault_of_64_seats(alloc: Global, bytes: &[u8]) -> Option<SheetFault> {
+    let parts = ConfigParts {
+        computes: 8,
+        seats: 8,
+        ..setting(256, 1)
+    };
+    let cfg = Config::new(parts).ok()?;
+    read_sheet(alloc, bytes, Mode::Run, &cfg).err()
+}
+
+#[test]
+fn the_last_of_64_seats_is_one(rt: HostRuntime) {
+    assert!(rt; fault_of_64_seats(rt.alloc(), b"get,63,5,".as_slice()).is_none());
+    let fault = fault_of_64_seats(rt.alloc(), b"get,64,5,".as_slice());
+    let cause = RowCause::BadSeat;
+    assert_eq!(rt; fault, Some(SheetFault::Row { row: 1, cause }));
+}
+
+// Whether a status has this text and this code, also as it is displayed.
+fn is_told(alloc: Global, status: Status, code: u8, text: &str) -> Result<bool, AllocError> {
+    let shown = format!(in alloc; "{status}")?;
+    Ok(status.code() == code && status.text().as_str() == text && shown.as_str() == text)
+}
+
+#[test]
+fn statuses_are_told(rt: HostRuntime) -> Result<(), Fail> {
+    for (status, code, text) in [
+        (Status::Ok, 0, ""),
+        (Status::Usage, 2, "usage"),
+        (Status::ReadFault, 3, "read fault"),
+        (Status::WriteFault, 4, "write fault"),
+        (Status::TooLong, 5, "too long"),
+        (Status::TooMany, 7, "too many"),
+        (Status::NoMemory, 8, "no memory"),
+        (Status::Unfinished { turns: 5 }, 9, ""),
+    ] {
+        assert!(rt; is_told(rt.alloc(), status, code, text)?, "{text}");
+    }
+    Ok(())
+}
+
+// Whether a row's cause has this text, also as it is displayed.
+fn is_row_told(alloc: Global, row: u64, cause: RowCause, text: &[u8]) -> Result<bool, AllocError> {
+    let status = Status::BadRow { row, cause };
+    let shown = format!(in alloc; "{status}")?;
+    let named = format!(in alloc; "row {row} {cause}")?;
+    let told = status.text();
+    let is_shown = shown.as_bytes() == text && named.as_bytes() == text;
+    Ok(status.code() == 6 && is_shown && told.as_str().as_bytes() == text)
+}
+
+#[test]
+fn causes_are_told(rt: HostRuntime) -> Result<(), Fail> {
+    for (row, cause, text) in [
+        (1, RowCause::FieldCount, b"row 1 FieldCount".as_slice()),
+        (9, RowCause::BadOp, b"row 9 BadOp".as_slice()),
+        (10, RowCause::BadNumber, b"row 10 BadNumber".as_slice()),
+        (100, RowCause::BadSeat, b"row 100 BadSeat".as_slice()),
+        (10_000, RowCause::BadKey, b"row 10000 BadKey".as_slice()),
+        (
+            99_999,
+            RowCause::BadBounds,
+            b"row 99999 BadBounds".as_slice(),
+        ),
+        (
+            1_000_000,
+            RowCause::BadMark,
+            b"row 1000000 BadMark".as_slice(),
+        ),
+        (0, RowCause::NotYet, b"row 0 NotYet".as_slice()),
+        (
+            u64::MAX,
+            RowCause::TurnNotHere,
+            b"row 18446744073709551615 TurnNotHere".as_slice(),
+        ),
+    ] {
+        assert!(rt; is_row_told(rt.alloc(), row, cause, text)?, "{cause}");
+    }
+    Ok(())
+}
+
 // Whether an item is the one of its kind in the sheet below.
 fn is_meant(item: &Item) -> bool {
     match *item {
@@ -186,6 +269,7 @@ fn sheets_are_too_many(rt: HostRuntime) {
         (b"range,0,1,18446744073709551615\n".as_slice(), 1024, false),
         (b"range,0,1,18446744073709551615\n".as_slice(), 1025, true),
         (b"range,0,8,9\n".as_slice(), 1025, false),
+        (b"get,0,1,\n".as_slice(), 100_001, false),
     ] {
         assert_eq!(rt; is_too_many(rt.alloc(), row, times), Some(wanted));
     }

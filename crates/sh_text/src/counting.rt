@@ -8,8 +8,24 @@ use sh_map::{Call, Done, Reply};
 use std::alloc::{AllocError, Global};
 use std::fmt::Write;
 
-// One more call that was answered so.
-fn add_answer(counts: &mut Counts, call: &Call, reply: &Reply)
+impl Counts {
+    /// No call yet.
+    pub fn none_yet() -> Counts
+        ensures { result ≡ no_counts }
+    {
+        Counts {
+            some: 0,
+            none: 0,
+            rows: 0,
+            part: 0,
+            full: 0,
+            worn: 0,
+        }
+    }
+}
+
+/// Counts one more call that was answered so. Condition: no count stands at 2^64 - 1.
+pub fn add_answer(counts: &mut Counts, call: &Call, reply: &Reply)
     requires some { counts.old.some < 2 ^ 64 - 1 }
     requires none { counts.old.none < 2 ^ 64 - 1 }
     requires rows { counts.old.rows < 2 ^ 64 - 1 }
@@ -34,14 +50,7 @@ fn add_answer(counts: &mut Counts, call: &Call, reply: &Reply)
 pub fn counts_of(dones: &[Done]) -> Counts
     ensures { result ≡ counts_of dones.now }
 {
-    let mut counts = Counts {
-        some: 0,
-        none: 0,
-        rows: 0,
-        part: 0,
-        full: 0,
-        worn: 0,
-    };
+    let mut counts = Counts::none_yet();
     for done in dones {
         add_answer(&mut counts, &done.call, &done.reply);
     }

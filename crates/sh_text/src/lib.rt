@@ -11,7 +11,7 @@ mod push;
 mod write;
 
 pub use call::{call_line, pending_line};
-pub use counting::{counts_line, counts_of};
+pub use counting::{add_answer, counts_line, counts_of};
 pub use counts::Counts;
 pub use finished::Finished;
 pub use line::{end_line, event_line, made_line, map_line, row_line, unfinished_line};

@@ -16,8 +16,6 @@ pub mod WantLemmas
 pub mod TurnLemmas
 pub mod StartLemmas
 pub mod WorldLemmas
-pub mod LaidLemmas
-pub mod NodeLemmas
 pub mod GiveLemmas
 pub mod OpenLemmas
 pub mod LawLemmas

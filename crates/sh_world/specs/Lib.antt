@@ -4,5 +4,4 @@ pub mod Turning
 pub mod Lines
 pub mod Running
 pub mod Seats
-pub mod Laid
 pub mod Laws

@@ -11,7 +11,6 @@ mod columns;
 mod laid;
 mod laws;
 mod lines;
-mod node;
 mod points;
 mod rows;
 mod seats;

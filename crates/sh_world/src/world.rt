@@ -5,11 +5,12 @@ ghost use Rattle.sh_map.specs.Calls.{IsInRange};
 ghost use Rattle.sh_image.specs.Laid.{AreLaid};
 ghost use Rattle.sh_world.specs.{States.{dones_by, dones_of, fresh_state, IsBlank}, Turning.{answer_of, give_of, is_idle_at, tally_at, turn_of, IsTurn}};
 
-use crate::laid::{ended_calls, free_lines, fresh_seats, laid_words};
+use crate::laid::{ended_calls, free_lines, fresh_seats};
 use crate::lines::{line_at, wanted_lock};
 use crate::{Calls, Turn, World};
 use sh_base::Config;
 use sh_client::{Tally, Want};
+use sh_laid::laid_words;
 use sh_map::{Book, Call, Entry};
 use std::alloc::{AllocError, Global};
 

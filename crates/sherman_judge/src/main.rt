@@ -2,48 +2,27 @@
 #![tactic(auto)]
 
 use sh_judge::{JudgeStatus, judge_top};
-use sh_port::{StdSink, StdSource};
-use sh_sheet::Status;
-use std::alloc::AllocError;
+use sh_options::{WordFault, behind_name, words_given};
+use sh_port::{StdSink, StdSource, write_line};
 use std::io;
 use std::process::ExitCode;
 
 fn main(rt: HostRuntime) -> ExitCode {
-    let status = judge(&rt);
-    tell(&rt, status);
+    let status = match judge(&rt) {
+        Ok(status) => status,
+        Err(fault) => JudgeStatus::Served(fault.status()),
+    };
+    // A fault of the text is of no account: the code tells the status too.
+    let _ = write_line(&mut StdSink::new(io::writer(&rt)), status.text().as_str());
     ExitCode::from(status.code())
 }
 
-// Judges what standard input holds, as the program's words ask for it. A word that is no UTF-8 is refused like any other.
-fn judge(rt: &HostRuntime) -> JudgeStatus {
-    let args = match std::env::args(rt) {
-        Ok(args) => args,
-        Err(error) if error.kind() == io::ErrorKind::OutOfMemory => {
-            return JudgeStatus::Served(Status::NoMemory);
-        }
-        Err(_) => return JudgeStatus::Served(Status::Usage),
-    };
-    judge_words(rt, args).unwrap_or(JudgeStatus::Served(Status::NoMemory))
-}
-
-fn judge_words(rt: &HostRuntime, args: std::env::Args) -> Result<JudgeStatus, AllocError> {
+// Judges what standard input holds, as the program's words ask for it.
+fn judge(rt: &HostRuntime) -> Result<JudgeStatus, WordFault> {
     let alloc = rt.alloc();
-    let args: Vec<String> = args.collect(alloc)?;
-    let mut words = Vec::with_capacity(alloc, args.len())?;
-    for arg in args.iter().skip(1) {
-        words.push(arg.as_str())?;
-    }
+    let given = words_given(alloc, std::env::args(rt))?;
+    let words = behind_name(alloc, &given)?;
     let mut source = StdSource::new(rt.reader());
     let mut sink = StdSink::new(io::writer(rt));
-    Ok(judge_top(alloc, words.as_slice(), &mut source, &mut sink))
-}
-
-// Prints the text of a status that no line of the output tells. A fault of that is of no account: the code tells it too.
-fn tell(rt: &HostRuntime, status: JudgeStatus) {
-    match status {
-        JudgeStatus::Served(Status::Ok) | JudgeStatus::NotLawful => {}
-        JudgeStatus::Served(status) => {
-            let _ = println!(rt; "{status}");
-        }
-    }
+    Ok(judge_top(alloc, &words, &mut source, &mut sink))
 }

@@ -1,49 +1,28 @@
 //! Checks the picture of a pool: reads it from standard input, and writes the verdict to standard output.
 #![tactic(auto)]
 
+use sh_options::{WordFault, behind_name, words_given};
 use sh_picture::{PictureStatus, check_top};
-use sh_port::{StdSink, StdSource};
-use sh_sheet::Status;
-use std::alloc::AllocError;
+use sh_port::{StdSink, StdSource, write_line};
 use std::io;
 use std::process::ExitCode;
 
 fn main(rt: HostRuntime) -> ExitCode {
-    let status = check(&rt);
-    tell(&rt, status);
+    let status = match check(&rt) {
+        Ok(status) => status,
+        Err(fault) => PictureStatus::Served(fault.status()),
+    };
+    // A fault of the text is of no account: the code tells the status too.
+    let _ = write_line(&mut StdSink::new(io::writer(&rt)), status.text().as_str());
     ExitCode::from(status.code())
 }
 
-// Checks what standard input holds, as the program's words ask for it. A word that is no UTF-8 is refused like any other.
-fn check(rt: &HostRuntime) -> PictureStatus {
-    let args = match std::env::args(rt) {
-        Ok(args) => args,
-        Err(error) if error.kind() == io::ErrorKind::OutOfMemory => {
-            return PictureStatus::Served(Status::NoMemory);
-        }
-        Err(_) => return PictureStatus::Served(Status::Usage),
-    };
-    check_words(rt, args).unwrap_or(PictureStatus::Served(Status::NoMemory))
-}
-
-fn check_words(rt: &HostRuntime, args: std::env::Args) -> Result<PictureStatus, AllocError> {
+// Checks what standard input holds, as the program's words ask for it.
+fn check(rt: &HostRuntime) -> Result<PictureStatus, WordFault> {
     let alloc = rt.alloc();
-    let args: Vec<String> = args.collect(alloc)?;
-    let mut words = Vec::with_capacity(alloc, args.len())?;
-    for arg in args.iter().skip(1) {
-        words.push(arg.as_str())?;
-    }
+    let given = words_given(alloc, std::env::args(rt))?;
+    let words = behind_name(alloc, &given)?;
     let mut source = StdSource::new(rt.reader());
     let mut sink = StdSink::new(io::writer(rt));
-    Ok(check_top(alloc, words.as_slice(), &mut source, &mut sink))
-}
-
-// Prints the text of a status that no line of the output tells. A fault of that is of no account: the code tells it too.
-fn tell(rt: &HostRuntime, status: PictureStatus) {
-    match status {
-        PictureStatus::NotLawful | PictureStatus::Served(Status::Ok) => {}
-        PictureStatus::Served(status) => {
-            let _ = println!(rt; "{status}");
-        }
-    }
+    Ok(check_top(alloc, &words, &mut source, &mut sink))
 }

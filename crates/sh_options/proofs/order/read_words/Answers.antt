@@ -7,12 +7,12 @@ returns-in_err-matches-clause-usage c used =
     let is_usage : c.in_err-matches.field-0.0 ≡ Usage = let p = err_from_is_err_and c.from_residual.result c.from_residual.ensures.1 in cc in
     no_order c.args.mode _ (map (λ w. w.now) c.args.words.now) (names_are c.args.mode c.options_for.ensures c.flags_for.ensures) (c.in_err-matches.ensures.usage (ap Err is_usage))
 
-pub returns-clause-order : goal.returns-clause-order
-returns-clause-order c =
+pub returns-in-Some-clause-order : goal.returns-in-Some-clause-order
+returns-in-Some-clause-order c =
     let is = order_is c.args.mode _ (map (λ w. w.now) c.args.words.now) c.in_ok-matches.matches c.read_given.result (names_are c.args.mode c.options_for.ensures c.flags_for.ensures) c.in_ok-matches.ensures.told c.read_given.ensures in
-    rw is c.order_from.ensures.order
+    rw is c.in-Some.ensures.order
 
 pub returns-clause-usage : goal.returns-clause-usage
 returns-clause-usage c used =
     order_is c.args.mode _ (map (λ w. w.now) c.args.words.now) c.in_ok-matches.matches c.read_given.result (names_are c.args.mode c.options_for.ensures c.flags_for.ensures) c.in_ok-matches.ensures.told c.read_given.ensures
-    ∙ c.order_from.ensures.usage used
+    ∙ c.in-None.ensures.order

@@ -6,7 +6,10 @@ pub loop-turns-init : goal.loop-turns-init
 loop-turns-init c =
     let count = c.seats-count.ensures in
     record {
-      last = refl;
+      made = 0;
+      same = refl;
+      few = omega arith;
+      room = λ some. omega arith;
       long = c.rising-seats.ensures.length;
       within = omega (arith, count, c.requires);
       left = omega arith;
@@ -33,7 +36,7 @@ pub loop-turns-smaller : goal.loop-turns-smaller
 loop-turns-smaller c = omega (arith, c.round-left.ensures.made, c.if-count-eq0.false)
 
 pub loop-turns-preserved : goal.loop-turns-preserved
-loop-turns-preserved c = rounds_step _ _ _ _ _ c.loop-turns.invariant _ _ _ _ c.loop-turns-test.true c.round-left.ensures.round c.round-left.ensures.made c.round-left.ensures.count c.round-left.ensures.length c.round-left.ensures.thins
+loop-turns-preserved c = rounds_step _ _ _ _ _ c.loop-turns.invariant _ _ _ _ c.loop-turns-test.true c.if-count-eq0.false c.round-left.ensures.round c.round-left.ensures.made c.round-left.ensures.count c.round-left.ensures.length c.round-left.ensures.thins
 
 pub returns-clause-left : goal.returns-clause-left
 returns-clause-left c = c.loop-turns.invariant.left

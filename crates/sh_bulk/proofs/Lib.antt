@@ -1,0 +1,11 @@
+pub mod FillLemmas
+pub mod HoldLemmas
+pub mod LevelLemmas
+pub mod OrderLemmas
+pub mod PieceLemmas
+pub mod RangeLemmas
+pub mod RowLemmas
+pub mod ShapeLemmas
+pub mod SheetLemmas
+pub mod TreeLemmas
+pub mod TopLemmas

@@ -1,0 +1,95 @@
+use Rattle.std.proofs.Common.{◌≡◌, ◌+◌, ◌-◌, ◌*◌, ◌∙◌, ◌++◌, ◌∷◌, [], ap, sym, length, map, arith}
+use Rattle.std.{specs.List.{range_with_len}, proofs.lemmas.List.FromFn.{length-map-range_with_len, map-range_with_len_more}}
+use Rattle.sh_base.proofs.LayoutLemmas.{nodes_small}
+use Rattle.sh_bulk.{specs.{Shape.{count_in, inner_fill}, Nodes.{inner_of, pair_to, taken_by}}, proofs.ShapeLemmas.{child_begins, within_need}}
+use Rattle.sh_bulk.proofs.inner.image_of.Goals as goal
+
+pub overflow_mul-from : goal.overflow_mul-from
+overflow_mul-from c =
+    let p = c.args.cfg.now.parts in
+    let lawful = c.args.cfg.now.lawful in
+    let n = length c.args.rows.now in
+    let l = c.args.below in
+    let this = within_need p lawful n l.number (omega (arith, c.requires.level.below)) in
+    let few = nodes_small p lawful in
+    let start = child_begins p lawful n l.number c.args.j c.requires.node in
+    let at = ap (λ f. c.args.j * f) c.inner_fill-fill.ensures.fill in
+    omega (arith, this, few, start, at, c.inner_fill-fill.ensures, c.requires.room, c.requires.level.first_is, c.requires.level.count_is)
+
+pub overflow_add-from : goal.overflow_add-from
+overflow_add-from c =
+    let p = c.args.cfg.now.parts in
+    let lawful = c.args.cfg.now.lawful in
+    let n = length c.args.rows.now in
+    let l = c.args.below in
+    let this = within_need p lawful n l.number (omega (arith, c.requires.level.below)) in
+    let few = nodes_small p lawful in
+    let start = child_begins p lawful n l.number c.args.j c.requires.node in
+    let at = ap (λ f. c.args.j * f) c.inner_fill-fill.ensures.fill in
+    omega (arith, this, few, start, at, c.inner_fill-fill.ensures, c.requires.room, c.requires.level.first_is, c.requires.level.count_is)
+
+pub head_of-image-requires-clause-to : goal.head_of-image-requires-clause-to
+head_of-image-requires-clause-to c =
+    let p = c.args.cfg.now.parts in
+    let lawful = c.args.cfg.now.lawful in
+    let n = length c.args.rows.now in
+    let l = c.args.below in
+    let this = within_need p lawful n l.number (omega (arith, c.requires.level.below)) in
+    let few = nodes_small p lawful in
+    let start = child_begins p lawful n l.number c.args.j c.requires.node in
+    let at = ap (λ f. c.args.j * f) c.inner_fill-fill.ensures.fill in
+    omega (arith, this, few, start, at, c.inner_fill-fill.ensures, c.requires.room, c.requires.level.first_is, c.requires.level.count_is)
+
+pub overflow_add-below : goal.overflow_add-below
+overflow_add-below c =
+    let p = c.args.cfg.now.parts in
+    let lawful = c.args.cfg.now.lawful in
+    let n = length c.args.rows.now in
+    let l = c.args.below in
+    let this = within_need p lawful n l.number (omega (arith, c.requires.level.below)) in
+    let few = nodes_small p lawful in
+    let start = child_begins p lawful n l.number c.args.j c.requires.node in
+    let at = ap (λ f. c.args.j * f) c.inner_fill-fill.ensures.fill in
+    omega (arith, this, few, start, at, c.inner_fill-fill.ensures, c.requires.room, c.requires.level.first_is, c.requires.level.count_is)
+
+pub overflow_cast-below : goal.overflow_cast-below
+overflow_cast-below c =
+    let p = c.args.cfg.now.parts in
+    let lawful = c.args.cfg.now.lawful in
+    let n = length c.args.rows.now in
+    let l = c.args.below in
+    let this = within_need p lawful n l.number (omega (arith, c.requires.level.below)) in
+    let few = nodes_small p lawful in
+    let start = child_begins p lawful n l.number c.args.j c.requires.node in
+    let at = ap (λ f. c.args.j * f) c.inner_fill-fill.ensures.fill in
+    omega (arith, this, few, start, at, c.inner_fill-fill.ensures, c.requires.room, c.requires.level.first_is, c.requires.level.count_is)
+
+pub push-requires : goal.push-requires
+push-requires c =
+    let p = c.args.cfg.now.parts in
+    let many = length-map-range_with_len (pair_to p c.args.rows.now c.args.below.number) (c.args.j * c.inner_fill-fill.result) (c.loop-i.i - c.args.j * c.inner_fill-fill.result) in
+    omega (arith, ap (λ a. length a.pairs) c.loop-i.invariant, many, c.inner_fill-fill.ensures)
+
+pub loop-i-preserved : goal.loop-i-preserved
+loop-i-preserved c =
+    let p = c.args.cfg.now.parts in
+    let rows = c.args.rows.now in
+    let l = c.args.below in
+    let from = c.args.j * c.inner_fill-fill.result in
+    let i = c.loop-i.i in
+    let same : l.first + i ≡ Rattle.sh_bulk.specs.Shape.first_in p (length rows) l.number + i = ap (λ f. f + i) c.requires.level.first_is in
+    let here : from + (i - from) ≡ i = omega arith in
+    let count : i - from + 1 ≡ i + 1 - from = omega arith in
+    let pairs = ap (λ m. map (pair_to p rows l.number) (range_with_len from m)) (sym count) ∙ map-range_with_len_more (pair_to p rows l.number) from (i - from) i here in
+    c.push.ensures ∙ ((λ t. record (c.loop-i.invariant t) { pairs = (c.loop-i.invariant t).pairs ++ record { separator = c.low_of.ensures t; child = same t } ∷ [] }) ∙ (λ t. record (inner_of p rows l.number c.args.j) { pairs = sym pairs t }))
+
+pub returns : goal.returns
+returns c =
+    let p = c.args.cfg.now.parts in
+    let rows = c.args.rows.now in
+    let l = c.args.below in
+    let from = c.args.j * c.inner_fill-fill.result in
+    let at = ap (λ f. c.args.j * f) c.inner_fill-fill.ensures.fill in
+    let start = child_begins p c.args.cfg.now.lawful (length rows) l.number c.args.j c.requires.node in
+    let many : c.loop-i.i - from ≡ taken_by p rows l.number c.args.j = omega (arith, at, start, c.inner_fill-fill.ensures, c.requires.level.count_is) in
+    c.loop-i.invariant ∙ (λ t. record (inner_of p rows l.number c.args.j) { pairs = map (pair_to p rows l.number) (range_with_len (at t) (many t)) })

@@ -1,0 +1,10 @@
+pub mod Turns
+pub mod Found
+pub mod Causes
+pub mod Skips
+pub mod Ranges
+pub mod Stores
+pub mod Counts
+pub mod Answers
+pub mod Life
+pub mod Ends

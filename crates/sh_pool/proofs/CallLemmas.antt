@@ -1,0 +1,82 @@
+-- A call of a pass, from its begin to its end.
+use Rattle.std.proofs.Common.{◌≡◌, ℕ, Bool, true, false, Option, Some, None, List, [], ◌∷◌, ◌++◌, refl, ap, sym, ◌∙◌, subst, append-nil, append_assoc}
+use Rattle.sh_map.specs.declared.{call.{Call.{Call}, Reply.{Reply}}, log.Entry.{Entry}, book.Done.{Done}}
+use Rattle.sh_client.{specs.{Machine.{Machine}, Rests.{has_ended, is_resting, reply_of, rests}, declared.state.Phase.{Phase, TheVariants.{Ended as AtEnd}}}, proofs.BeginLemmas.{has_begun}}
+use Rattle.sh_client.proofs.Wanting.{ended_in, going_in}
+use Rattle.sh_core.specs.Actors.{Actor, done_of}
+use Rattle.sh_core_says.specs.Books.{HasAnswers}
+use Rattle.sh_pool_rule.specs.Views.{view_seat, Begins}
+use Rattle.sh_pool.specs.{Calls.{HasServed, IsServing}, Passes.{IsPass, pass_actor, PoolTable, Standing}, Pools.{IsOfTables}, Turns.{step_of, GoesOrEnds, TookTurn}}
+use Rattle.sh_pool.{specs.declared.state.Step.TheVariants.{Going, Done as Ended}, proofs.Steps.{begun_actor, begun_as, begun_setting}}
+
+pub begun_serves : (p : Standing) (call : Call) → IsPass p → is_resting p.client ≡ true → IsServing call p (begun_as p call)
+begun_serves p call i rest =
+    let has = has_begun p.client call in
+    let is = begun_actor p call i rest in
+    record {
+      busy = has.busy;
+      call_is = has.call_is;
+      seat_is = refl;
+      seen = ([], sym (append-nil p.view.seen));
+      dones = ap (λ (a : Actor). a.dones) is;
+      first = ap (λ (a : Actor). a.first) is;
+      number = ap (λ (a : Actor). a.number) is;
+    }
+
+begins_more : (xs ys zs : List Entry) → Begins xs ys → Begins ys zs → Begins xs zs
+begins_more xs ys zs b c = (b.0 ++ c.0, c.1 ∙ ap (λ (es : List Entry). es ++ c.0) b.1 ∙ append_assoc xs b.0 c.0)
+
+pub goes_serves : (p q r : Standing) (call : Call) → IsServing call p q → TookTurn q r → reply_of r.client ≡ None → IsServing call p r
+goes_serves p q r call s t none =
+    let e : has_ended r.client.phase ≡ false = going_in r.client r.client.phase none in
+    let g = subst (λ (b : Bool). GoesOrEnds b (view_seat q.view) (pass_actor q) t.log r.client (pass_actor r)) e t.goes in
+    record {
+      busy = t.busy e;
+      call_is = t.call ∙ s.call_is;
+      seat_is = t.seat_is ∙ s.seat_is;
+      seen = begins_more p.view.seen q.view.seen r.view.seen s.seen t.seen;
+      dones = g.0 ∙ s.dones;
+      first = g.1 ∙ s.first;
+      number = g.2 ∙ s.number;
+    }
+
+ended_rests : (m : Machine) (reply : Reply) → reply_of m ≡ Some reply → (has_ended m.phase ≡ true) × (reply ≡ m.registers.reply)
+ended_rests m reply e = ended_in m reply m.phase e
+
+pub ends_served : (p q r : Standing) (call : Call) (reply : Reply) → IsServing call p q → TookTurn q r → reply_of r.client ≡ Some reply → is_resting r.client ≡ true → HasServed call reply p r
+ends_served p q r call reply s t some rest =
+    let e = ended_rests r.client reply some in
+    let d : Done = done_of (view_seat q.view) (pass_actor q) t.log r.client in
+    let g : (pass_actor r).dones ≡ (pass_actor q).dones ++ d ∷ [] = subst (λ (b : Bool). GoesOrEnds b (view_seat q.view) (pass_actor q) t.log r.client (pass_actor r)) e.0 t.goes in
+    record {
+      done = d;
+      dones = g ∙ ap (λ (ds : List Done). ds ++ d ∷ []) s.dones;
+      call_is = t.call ∙ s.call_is;
+      reply_is = sym e.1;
+      rows_are = refl;
+      seat_is = s.seat_is;
+      first = s.first;
+      number = s.number;
+      seen = begins_more p.view.seen q.view.seen r.view.seen s.seen t.seen;
+      answered = subst (λ (k : ℕ). HasAnswers r.view.seen k (pass_actor r)) (t.seat_is ∙ s.seat_is) t.answered;
+      rests = rest;
+    }
+
+pub pool_begun : (laid : Option PoolTable) (p : Standing) (call : Call) → IsOfTables laid p → IsOfTables laid (begun_as p call)
+pool_begun None p call h = absurd h
+pool_begun (Some t) p call h = record { table = h.table; setting = begun_setting p.client call ∙ h.setting; chair = h.chair }
+
+pub not_ended : (o : Option Reply) → step_of o ≡ Going → o ≡ None
+not_ended None e = refl
+not_ended (Some r) e = absurd (cc)
+
+pub ended_with : (o : Option Reply) (r : Reply) → step_of o ≡ Ended r → o ≡ Some r
+ended_with None r e = absurd (cc)
+ended_with (Some x) r e = cc
+
+end_rests : (ph : Phase) → has_ended ph ≡ true → rests ph ≡ true
+end_rests AtEnd e = refl
+end_rests ph e = absurd (cc)
+
+pub reply_rests : (m : Machine) (reply : Reply) → reply_of m ≡ Some reply → is_resting m ≡ true
+reply_rests m reply e = end_rests m.phase ((ended_rests m reply e).0)

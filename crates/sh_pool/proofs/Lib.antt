@@ -1,0 +1,9 @@
+pub mod Busy
+pub mod UntoldLemmas
+pub mod Steps
+pub mod Locals
+pub mod Cells
+pub mod Staying
+pub mod Acting
+pub mod CallLemmas
+pub mod LayLemmas

@@ -1,0 +1,7 @@
+use Rattle.std.proofs.Common.{◌≡◌, false}
+use Rattle.sh_client.specs.Rests.{is_resting}
+use Rattle.sh_pool.specs.Pools.{IsOfPool}
+use Rattle.sh_pool.proofs.state.Pass.step_up_to.Given as goal
+
+abbrev pub invariant-loop : goal.invariant-loop
+invariant-loop l = IsOfPool l.pool l.self × (is_resting l.self.client ≡ false)

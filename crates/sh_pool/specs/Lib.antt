@@ -1,0 +1,6 @@
+pub mod Handed
+pub mod Fitting
+pub mod Passes
+pub mod Turns
+pub mod Pools
+pub mod Calls

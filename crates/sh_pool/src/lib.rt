@@ -1,0 +1,19 @@
+//! The running pool: clients in threads of their callers, over one table of words.
+#![tactic(auto)]
+
+mod events;
+mod laying;
+mod local;
+mod pass;
+mod pool;
+mod right;
+mod serving;
+mod state;
+mod stepping;
+
+pub use pool::{LaidPool, Pool};
+pub use right::{Knower, Right};
+pub use state::{Pass, Step};
+
+#[cfg(test)]
+mod tests;

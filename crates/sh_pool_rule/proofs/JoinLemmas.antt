@@ -1,0 +1,194 @@
+-- A pass that is taken_view in keeps the rule; and what the rule says where all rest.
+use Rattle.std.proofs.Common.{◌≡◌, ◌≢◌, ◌⊎◌, ℕ, zero, suc, ◌+◌, ◌<◌, ◌≤◌, ◌==◌, Bool, true, Some, None, List, [], ◌∷◌, ◌++◌, length, set, refl, ap, sym, ◌∙◌, subst, ⊎_elim, inl, inr, arith, eq-eqb, ne_eqb}
+use Rattle.std.specs.Prelude.{if◌then◌else◌}
+use mathlib.Core.{Option.{some}, Logic.{dite}}
+use native.Mathlib.Decide.{ℕ_discrete}
+use lib.ListN.{get_elem?}
+use Rattle.atomic_table.{specs.Table.{Joins}, proofs.Lists.{at_set, set_here, set_else, at_longer}}
+use Rattle.sh_base.specs.{declared.config.ConfigParts.{ConfigParts}, Setting.{all_seats, IsSetting}}
+use Rattle.sh_map.specs.declared.log.Entry.{Entry}
+use Rattle.sh_client.specs.Rests.{is_resting}
+use Rattle.sh_core.{specs.{Actors.{Actor}, Core.{AreSame}}, proofs.Moves.{same_keeps}}
+use Rattle.sh_core_says.{specs.Rest.{AreAtRest}, proofs.AtRest.{at_rest}}
+use Rattle.sh_local.{specs.Calls.{weight}, proofs.Sums.{same_at, at_lt, total_alone, total_part}}
+use Rattle.sh_logic.proofs.{Lists.{all_join}, Options.{none_some}}
+use Rattle.sh_pool_rule.specs.{declared.view.{PassView.{PassView}, Member.{Member}, LockRight.{LockRight}}, Views.{empty_view, member, lock_right, longer, Begins, AllBegin, In, Has, Out}}
+use Rattle.sh_pool_rule.{specs.{Rights.{joined_view}, Rule.{all_given, all_out, all_taken, KnowsLog, SeesAll, KeepsPool}}, proofs.Relations.{counts_set, counts_spent, none_in, one, only}}
+use Rattle.sh_pool_rule.proofs.{Allowed.{Pooled}, Changed.{longer_long, longer_begins, longer_all}}
+
+in_front : (m : Member) (ms ns : List Member) → In m ms → In m (ms ++ ns)
+in_front m ms ns (i, e) = (i, at_longer ms ns i m e)
+
+in_back : (m : Member) (ms ns : List Member) → In m ns → In m (ms ++ ns)
+in_back m [] ns h = h
+in_back m (x ∷ ms) ns h = let r = in_back m ms ns h in (suc r.0, r.1)
+
+in_either : (m : Member) (ms ns : List Member) → In m (ms ++ ns) → In m ms ⊎ In m ns
+in_either m [] ns h = inr h
+in_either m (x ∷ ms) ns (zero, e) = inl (zero, e)
+in_either m (x ∷ ms) ns (suc i, e) = ⊎_elim (λ (h : In m ms). inl (suc h.0, h.1)) (λ (h : In m ns). inr h) (in_either m ms ns (i, e))
+
+module _ (p : ConfigParts) (words : List ℕ) (views : List PassView) (r : KeepsPool p words views) (id : ℕ) (v : PassView) (at : get_elem? views id ≡ some v)
+    (other : ℕ) (w : PassView) (apart : other ≢ id) (there : get_elem? (set views id (joined_view v w)) other ≡ some w) (k : ℕ) (a : Actor) (members : w.members ≡ member k a ∷ []) (no_right : w.right ≡ None) where
+  abbrev new : PassView
+  new = joined_view v w
+
+  abbrev mid : List PassView
+  mid = set views id new
+
+  abbrev now : List PassView
+  now = set mid other empty_view
+
+  other_at : get_elem? views other ≡ some w
+  other_at = sym (set_else views id other new apart) ∙ there
+
+  id_at : get_elem? now id ≡ some new
+  id_at = set_else mid other id empty_view (λ (e : id ≡ other). apart (sym e)) ∙ set_here views id new (at_lt views id v at)
+
+  known : KnowsLog r.log r.home r.bearer id v
+  known = r.each id v at
+
+  others : KnowsLog r.log r.home r.bearer other w
+  others = r.each other w other_at
+
+  now_at : (i : ℕ) (u : PassView) → get_elem? now i ≡ some u → ((i ≡ other) × (empty_view ≡ u)) ⊎ (((i ≡ id) × (new ≡ u)) ⊎ ((i ≢ other) × (i ≢ id) × (get_elem? views i ≡ some u)))
+  now_at i u e =
+      ⊎_elim (λ (t : (i ≡ other) × (empty_view ≡ u)). inl t)
+      (λ (t : (i ≢ other) × (get_elem? mid i ≡ some u)).
+      ⊎_elim (λ (q : (i ≡ id) × (new ≡ u)). inr (inl q)) (λ (q : (i ≢ id) × (get_elem? views i ≡ some u)). inr (inr (t.0, q.0, q.1))) (at_set views id i new u t.1))
+      (at_set mid other i empty_view u e)
+
+  else_at : (i : ℕ) (u : PassView) → i ≢ other → i ≢ id → get_elem? views i ≡ some u → get_elem? now i ≡ some u
+  else_at i u ne no_id e = set_else mid other i empty_view ne ∙ set_else views id i new no_id ∙ e
+
+  same : AreSame (Has views) (Has now)
+  same = record {
+    on = λ j b h. dite (ℕ_discrete h.0 other)
+        (λ (q : h.0 ≡ other). let is : h.1 ≡ w = same_at views other h.1 w (ap (get_elem? views) (sym q) ∙ h.2) other_at in
+        (id, new, id_at, in_back (member j b) v.members w.members (subst (λ (u : PassView). In (member j b) u.members) is h.3)))
+        (λ (ne : h.0 ≢ other). dite (ℕ_discrete h.0 id)
+        (λ (q : h.0 ≡ id). let is : h.1 ≡ v = same_at views id h.1 v (ap (get_elem? views) (sym q) ∙ h.2) at in
+        (id, new, id_at, in_front (member j b) v.members w.members (subst (λ (u : PassView). In (member j b) u.members) is h.3)))
+        (λ (no_id : h.0 ≢ id). (h.0, h.1, else_at h.0 h.1 ne no_id h.2, h.3)));
+    back = λ j b h. ⊎_elim (λ (t : (h.0 ≡ other) × (empty_view ≡ h.1)). absurd (none_in (member j b) (subst (λ (u : PassView). In (member j b) u.members) (sym t.1) h.3)))
+        (λ z. ⊎_elim (λ (t : (h.0 ≡ id) × (new ≡ h.1)). ⊎_elim (λ (m : In (member j b) v.members). (id, v, at, m)) (λ (m : In (member j b) w.members). (other, w, other_at, m))
+        (in_either (member j b) v.members w.members (subst (λ (u : PassView). In (member j b) u.members) (sym t.1) h.3)))
+        (λ (t : (h.0 ≢ other) × (h.0 ≢ id) × (get_elem? views h.0 ≡ some h.1)). (h.0, h.1, t.2, h.3)) z)
+        (now_at h.0 h.1 h.2);
+  }
+
+  out_on : (l c d : ℕ) → Out views l c d → Out now l c d
+  out_on l c d (i, u, e, q) = dite (ℕ_discrete i other)
+      (λ (o : i ≡ other). let is : u ≡ w = same_at views other u w (ap (get_elem? views) (sym o) ∙ e) other_at in
+      absurd (none_some (sym no_right ∙ ap (λ (x : PassView). x.right) (sym is) ∙ q)))
+      (λ (ne : i ≢ other). dite (ℕ_discrete i id)
+      (λ (o : i ≡ id). let is : u ≡ v = same_at views id u v (ap (get_elem? views) (sym o) ∙ e) at in (id, new, id_at, ap (λ (x : PassView). x.right) (sym is) ∙ q))
+      (λ (no_id : i ≢ id). (i, u, else_at i u ne no_id e, q)))
+
+  out_back : (l c d : ℕ) → Out now l c d → Out views l c d
+  out_back l c d (i, u, e, q) =
+      ⊎_elim (λ (t : (i ≡ other) × (empty_view ≡ u)). absurd (none_some (ap (λ (x : PassView). x.right) t.1 ∙ q)))
+      (λ z. ⊎_elim (λ (t : (i ≡ id) × (new ≡ u)). (id, v, at, ap (λ (x : PassView). x.right) t.1 ∙ q)) (λ (t : (i ≢ other) × (i ≢ id) × (get_elem? views i ≡ some u)). (i, u, t.2, q)) z)
+      (now_at i u e)
+
+  abbrev lives : ℕ → ℕ
+  lives j = if j == k then id else r.home j
+
+  lives_here : lives k ≡ id
+  lives_here = ap (λ (t : Bool). if t then id else r.home k) (eq-eqb k k refl)
+
+  lives_else : (j : ℕ) → j ≢ k → lives j ≡ r.home j
+  lives_else j ne = ap (λ (t : Bool). if t then id else r.home j) (ne_eqb j k ne)
+
+  home_k : r.home k ≡ other
+  home_k = (others.here k a (subst (In (member k a)) (sym members) (one k a))).0
+
+  long : (length v.seen ≤ length (longer v.seen w.seen)) × (length w.seen ≤ length (longer v.seen w.seen))
+  long = longer_long v.seen w.seen
+
+  knows : (i : ℕ) (u : PassView) → get_elem? now i ≡ some u → KnowsLog r.log lives r.bearer i u
+  knows i u e =
+      let K : ℕ → PassView → Type 0 = KnowsLog r.log lives r.bearer in
+      ⊎_elim (λ (t : (i ≡ other) × (empty_view ≡ u)). subst (λ (q : ℕ × PassView). K q.0 q.1) (λ z. (sym t.0 z, t.1 z)) (
+      let kn : K other empty_view = record { begins = (r.log, refl); pasts = tt; here = λ j b m. absurd (none_in (member j b) m); right = λ c q. absurd (none_some q); idle = λ n. (refl, refl) } in kn))
+      (λ z. ⊎_elim
+      (λ (t : (i ≡ id) × (new ≡ u)). subst (λ (q : ℕ × PassView). K q.0 q.1) (λ z. (sym t.0 z, t.1 z)) (
+      let kn : K id new = record {
+        begins = longer_begins v.seen w.seen r.log known.begins others.begins;
+        pasts = all_join (λ (es : List Entry). Begins es r.log) v.pasts (w.seen ∷ []) known.pasts (others.begins, tt);
+        here = λ j b m. ⊎_elim
+            (λ (h : In (member j b) v.members). let q = known.here j b h in let le = q.1 in (lives_else j (λ (s : j ≡ k). apart (sym home_k ∙ ap r.home (sym s) ∙ q.0)) ∙ q.0, omega (arith, le, long.0)))
+            (λ (h : In (member j b) w.members). let o = only k j a b (subst (In (member j b)) members h) in let q = others.here j b h in let le = q.1 in (subst (λ (n : ℕ). lives n ≡ id) (sym o.0) lives_here, omega (arith, le, long.1)))
+            (in_either (member j b) v.members w.members m);
+        right = known.right;
+        idle = λ n. absurd (n (member k a) (in_back (member k a) v.members w.members (subst (In (member k a)) (sym members) (one k a))));
+      } in kn))
+      (λ (t : (i ≢ other) × (i ≢ id) × (get_elem? views i ≡ some u)). let kn = r.each i u t.2 in
+      record { begins = kn.begins; pasts = kn.pasts; here = λ j b m. let q = kn.here j b m in (lives_else j (λ (s : j ≡ k). t.0 (sym q.0 ∙ ap r.home s ∙ home_k)) ∙ q.0, q.1); right = kn.right; idle = kn.idle }) z)
+      (now_at i u e)
+
+  whole_if : (v.seen ≡ r.log) ⊎ (w.seen ≡ r.log) → new.seen ≡ r.log
+  whole_if h = longer_all v.seen w.seen r.log known.begins others.begins h
+
+  top : SeesAll now r.log
+  top = let t = r.top in dite (ℕ_discrete t.id other)
+      (λ (q : t.id ≡ other). let is : t.view ≡ w = same_at views other t.view w (ap (get_elem? views) (sym q) ∙ t.at) other_at in
+      record { id = id; view = new; at = id_at; whole = whole_if (inr (ap (λ (x : PassView). x.seen) (sym is) ∙ t.whole)); some = t.some; live = in_back t.some v.members w.members (subst (λ (u : PassView). In t.some u.members) is t.live) })
+      (λ (ne : t.id ≢ other). dite (ℕ_discrete t.id id)
+      (λ (q : t.id ≡ id). let is : t.view ≡ v = same_at views id t.view v (ap (get_elem? views) (sym q) ∙ t.at) at in
+      record { id = id; view = new; at = id_at; whole = whole_if (inl (ap (λ (x : PassView). x.seen) (sym is) ∙ t.whole)); some = t.some; live = in_front t.some v.members w.members (subst (λ (u : PassView). In t.some u.members) is t.live) })
+      (λ (no_id : t.id ≢ id). record { id = t.id; view = t.view; at = else_at t.id t.view ne no_id t.at; whole = t.whole; some = t.some; live = t.live }))
+
+  even : all_given now ≡ all_taken now + all_out now
+  even =
+      let q = r.even in
+      let a = counts_set views id v new w.gave w.took 0 at refl refl (omega arith) in
+      let b = counts_spent mid other w there in
+      let none : weight w.right ≡ 0 = ap weight no_right in
+      let a0 = a.0 in let a1 = a.1 in let a2 = a.2 in let b0 = b.0 in let b1 = b.1 in let b2 = b.2 in
+      omega (arith, q, a0, a1, a2, b0, b1, b2, none)
+
+  pub joining_kept : KeepsPool p words now
+  joining_kept = record { ok = r.ok; log = r.log; inv = same_keeps p words r.log (Has views) (Has now) (Out views) (Out now) r.inv same record { on = out_on; back = out_back }; top = top; home = lives; even = even; bearer = r.bearer; each = knows }
+
+pub joining : (p : ConfigParts) (id : ℕ) (v : PassView) (other : ℕ) (w : PassView) (k : ℕ) (a : Actor) → w.members ≡ member k a ∷ [] → w.right ≡ None → Joins (Pooled p) id v other w (joined_view v w) empty_view
+joining p id v other w k a members no_right s r at apart there = joining_kept p s.words s.views r id v at other w apart there k a members no_right
+
+-- where one view has all seats of the setting, it has the actors and has seen the log
+pub gathered_top : (p : ConfigParts) (words : List ℕ) (views : List PassView) (r : KeepsPool p words views) (id : ℕ) (v : PassView) → get_elem? views id ≡ some v → ((k : ℕ) → k < all_seats p → (a : Actor) × In (member k a) v.members) → ((k : ℕ) (a : Actor) → Has views k a → In (member k a) v.members) × (v.seen ≡ r.log)
+gathered_top p words views r id v at all =
+    let there : (k : ℕ) (a : Actor) → Has views k a → (a' : PassView) × (get_elem? views id ≡ some a') × In (member k a) a'.members
+    = λ k a h.
+    let lt = (r.inv.kept k a h).work.seated.within in
+    let m = all k lt in
+    let home : r.home k ≡ id = ((r.each id v at).here k m.0 m.1).0 in
+    let here : h.0 ≡ id = sym ((r.each h.0 h.1 h.2).here k a h.3).0 ∙ home in
+    (h.1, ap (get_elem? views) (sym here) ∙ h.2, h.3) in
+    let own_ : (k : ℕ) (a : Actor) → Has views k a → In (member k a) v.members = λ k a h. let t = there k a h in subst (λ (u : PassView). In (member k a) u.members) (same_at views id t.0 v t.1 at) t.2 in
+    let t = r.top in
+    let s = t.some in
+    let lives : (u : PassView) × (get_elem? views id ≡ some u) × In s u.members = there s.seat s.actor (t.id, t.view, t.at, t.live) in
+    let home : r.home s.seat ≡ t.id = ((r.each t.id t.view t.at).here s.seat s.actor t.live).0 in
+    let mine : r.home s.seat ≡ id = ((r.each id lives.0 lives.1).here s.seat s.actor lives.2).0 in
+    let is : t.view ≡ v = same_at views id t.view v (ap (get_elem? views) (sym mine ∙ home) ∙ t.at) at in
+    (own_, ap (λ (x : PassView). x.seen) (sym is) ∙ t.whole)
+
+-- what the words are at the end
+pub rests_so : (p : ConfigParts) (words : List ℕ) (views : List PassView) (r : KeepsPool p words views) → ((k : ℕ) (a : Actor) → Has views k a → is_resting a.client ≡ true) → ((l c d : ℕ) → Out views l c d → ⊥) → AreAtRest p words r.log (Has views)
+rests_so p words views r rest none = at_rest p r.ok words r.log (Has views) (Out views) r.inv rest none
+
+-- where that view has taken_view up as many rights as it has parted_view with, none is out
+pub none_out : (p : ConfigParts) (words : List ℕ) (views : List PassView) (r : KeepsPool p words views) (id : ℕ) (v : PassView) → get_elem? views id ≡ some v → ((k : ℕ) → k < all_seats p → (a : Actor) × In (member k a) v.members) → v.gave ≡ v.took → (l c d : ℕ) → Out views l c d → ⊥
+none_out p words views r id v at all same l c d (i, u, e, q) =
+    let mine = (gathered_top p words views r id v at all).0 in
+    let idle : (j : ℕ) (x : PassView) → get_elem? views j ≡ some x → j ≢ id → (x.gave ≡ 0) × (x.took ≡ 0)
+    = λ j x f ne. (r.each j x f).idle (λ m h.
+    let here = ((r.each j x f).here m.seat m.actor h).0 in
+    let there = ((r.each id v at).here m.seat m.actor (mine m.seat m.actor (j, x, f, h))).0 in
+    ne (sym here ∙ there)) in
+    let g : all_given views ≡ v.gave = total_alone (λ (x : PassView). x.gave) views id v at (λ j x ne f. (idle j x f ne).0) in
+    let t : all_taken views ≡ v.took = total_alone (λ (x : PassView). x.took) views id v at (λ j x ne f. (idle j x f ne).1) in
+    let w : weight u.right ≤ all_out views = total_part (λ (x : PassView). weight x.right) views i u e in
+    let one_right : weight u.right ≡ 1 = ap weight q in
+    let even = r.even in
+    absurd (omega (arith, g, t, w, one_right, even, same))

@@ -1,0 +1,14 @@
+pub mod Relations
+pub mod Untold
+pub mod Staying
+pub mod Allowed
+pub mod Changed
+pub mod PartLemmas
+pub mod TakeLemmas
+pub mod OpenLemmas
+pub mod JoinLemmas
+pub mod SettleLemmas
+pub mod LifeLemmas
+pub mod BesideLemmas
+pub mod GatherLemmas
+pub mod Stayed

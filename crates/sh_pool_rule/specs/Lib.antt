@@ -1,0 +1,5 @@
+pub mod Views
+pub mod Lives
+pub mod Rights
+pub mod Untold
+pub mod Rule

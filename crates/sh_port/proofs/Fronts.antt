@@ -1,0 +1,32 @@
+-- A front of a text that is written part by part.
+use Rattle.std.{proofs.{Common.{ℕ, ◌≡◌, List, [], ◌∷◌, ◌++◌, Option, Result, Ok, Err, length, ◌==◌, Bool, false, sym, ap, ◌∙◌, append_assoc}, lemmas.List.{append-nil}}, specs.Prelude.{OnErr}}
+use Rattle.std.specs.Io.KnownBytes.{Appends}
+use Rattle.sh_port.{specs.Port.{AppendsFront, line_of}, proofs.Bytes.{appends_more}}
+
+-- what is written so far is a front of the whole
+pub front_so_far : (a b : Option (List ℕ)) (before after whole : List ℕ) → whole ≡ before ++ after → Appends a b before → AppendsFront a b whole
+front_so_far a b before after whole e h = record { front = before; rest = after; whole = e; written = h }
+
+-- a front of the next part goes on from what is written
+pub front_more : (a b c : Option (List ℕ)) (before part after whole : List ℕ) → whole ≡ before ++ (part ++ after) → Appends a b before → AppendsFront b c part → AppendsFront a c whole
+front_more a b c before part after whole e h f = record {
+  front = before ++ f.front;
+  rest = f.rest ++ after;
+  whole = e ∙ (ap (λ t. before ++ (t ++ after)) f.whole ∙ (ap (λ t. before ++ t) (append_assoc f.front f.rest after) ∙ sym (append_assoc before f.front (f.rest ++ after))));
+  written = appends_more a b c before f.front h f.written;
+}
+
+-- the first part is written; where the second isn't, a front of it is
+pub front_behind : {E : Type 0} (a b c : Option (List ℕ)) (first second : List ℕ) (r : Result (Unit {0}) E) → Appends a b first → OnErr r (AppendsFront b c second) → OnErr r (AppendsFront a c (first ++ second))
+front_behind a b c first second (Ok x) before f = tt
+front_behind a b c first second (Err e) before f = front_more a b c first second [] (first ++ second) (ap (λ t. first ++ t) (sym (append-nil second))) before f
+
+-- a front of a text that isn't empty is one of its line
+pub front_of_line : (a b : Option (List ℕ)) (text : List ℕ) → (length text == 0) ≡ false → AppendsFront a b text → AppendsFront a b (line_of text)
+front_of_line a b [] e f = absurd (cc)
+front_of_line a b (x ∷ xs) e f = record { front = f.front; rest = f.rest ++ 10 ∷ []; whole = ap (λ t. t ++ 10 ∷ []) f.whole ∙ append_assoc f.front f.rest (10 ∷ []); written = f.written }
+
+-- the text is written; where the line feed behind it isn't, a front of the line is
+pub text_of_line : {E : Type 0} (a b c : Option (List ℕ)) (text : List ℕ) (r : Result (Unit {0}) E) → (length text == 0) ≡ false → Appends a b text → OnErr r (AppendsFront b c (10 ∷ [])) → OnErr r (AppendsFront a c (line_of text))
+text_of_line a b c [] r e before f = absurd (cc)
+text_of_line a b c (x ∷ xs) r e before f = front_behind a b c (x ∷ xs) (10 ∷ []) r before f

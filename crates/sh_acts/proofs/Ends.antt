@@ -1,15 +1,28 @@
--- The last store of a WRITE of a linked node: over the same fences, or as a split, on any level.
-use Rattle.std.{proofs.Common.{◌≡◌, ◌≢◌, ◌⊎◌, None, ℕ, suc, ◌<◌, ◌≤◌, List, ◌++◌, length, set, refl, ap, sym, ◌∙◌, subst, ⊎_elim, inl, inr, arith}, specs.Prelude.{◌-◌, ◌^◌, ◌↔◌}}
+-- The last store of a WRITE: of a leaf, of an entry, and of an inner node.
+use Rattle.std.proofs.Common.{◌≡◌, ◌≢◌, ◌⊎◌, None, ℕ, suc, ◌<◌, ◌≤◌, List, ◌++◌, length, set, refl, ap, sym, ◌∙◌, subst, ⊎_elim, inl, inr, arith, ◌*◌, [], ◌∷◌, take, drop, get_or, append-nil, zero}
+use Rattle.std.{proofs.{Common.{◌+◌}, lemmas.{Bool.{cases_lt, cases_eq}, List.{take-append-drop}}}, specs.{List.{AllByRecursion}, Prelude.{◌-◌, ◌^◌, ◌↔◌}}}
 use mathlib.Core.Logic.{dite}
 use native.Mathlib.Decide.{ℕ_discrete}
-use Rattle.sh_base.specs.{declared.config.ConfigParts.{ConfigParts}, Setting.{node_size}, Layout.{lock_of}, Places.{Site, Own, Root, Counter, Lock, Node, address, IsSite}}
-use Rattle.sh_map.specs.{declared.log.Entry.{Entry}, Map.{get}, Log.{map_of, IsLegal}}
-use Rattle.sh_read.specs.Moments.{Writing, Idle, word, Next, still}
-use Rattle.sh_state.specs.TreeState.{Class, Undrawn, Fresh, Linked, ParentLink, Posted, Pending, Owner, Seat, LockState, Held, Writes, Owns, hold_word, TreeState, put, writing_of, writing, shown}
-use Rattle.sh_state.specs.{Nodes.{level_in, low_in, high_in, next_in, IsLinked, LeadsTo, standing_pairs, Body, LeadsRight, Sits, AreApart, Orderly}, Ground.{Ground, HasParent}}
-use Rattle.sh_state.{specs.Change.{IsPostOf, HasNoneOf, Change}, proofs.Puts.{put_here, put_else, put_case, shows_store}}
+use Rattle.sh_base.specs.{Layout.{lock_of, rear_at, entry_at, entry_rear_at}, Places.{Site, Own, Root, Counter, Lock, Node, address, IsSite}, Setting.{node_size, last_version, IsSetting}}
+use Rattle.sh_base.specs.declared.config.ConfigParts.{ConfigParts}
+use Rattle.sh_map.{proofs.{LogLemmas.{map_of-push, changed_other, IsLegal-push}, MapLemmas.{get-put, get-put_other, get-del, get-del_other}}, specs.Log.{map_of, IsLegal, change_key, changed, IsNext}}
+use Rattle.sh_map.specs.{Map.{get, Map}, declared.log.{Change.{TheVariants.{Put, Del}, Change as MapChange}, Entry.{Entry}}}
+use Rattle.sh_read.specs.Moments.{Writing, Idle, word, Next, still, Whole, One}
+use Rattle.sh_state.{proofs.{Puts.{put_here, put_else, put_case, shows_store}, Spelled.{inner_is, inner_long, inner_stands, leaf_long, leaf_stands}}, specs.Change.{IsPostOf, HasNoneOf, Change}}
 use Rattle.sh_state.proofs.Scenes.{Links, linked_is, fresh_linked, fresh_is, undrawn_fresh, links_on, follows_on, sits_on, orderly_on, child_linked, led_down, leads_join, leads_left, leads_right}
-use Rattle.sh_acts.{specs.{Stores.{Ends}, Acts.{ended}, Images.{IsOver, IsHalved, PostsOver}}, proofs.{Holds.{IsWriter, none_else}, Posts.{pending_of, posted_of}}}
+use Rattle.sh_state.{proofs.Scenes.{lead_on, body_on, inner_on}, specs.Ground.{Ground, HasParent}}
+use Rattle.sh_state.specs.Nodes.{level_in, low_in, high_in, next_in, IsLinked, LeadsTo, standing_pairs, Body, LeadsRight, Sits, AreApart, Orderly, LeadDown, IsStandingInner, standing_entries}
+use Rattle.sh_state.specs.Nodes.{IsStandingLeaf}
+use Rattle.sh_state.specs.TreeState.{Class, Undrawn, Fresh, Linked, ParentLink, Posted, Pending, Owner, Seat, LockState, Held, Writes, Owns, hold_word, TreeState, put, writing_of, writing, shown}
+use Rattle.sh_acts.{proofs.{EntryStores.{entries_patched, leaf_patched, spelled_patched}, Holds.{IsWriter, none_else, pending_of, posted_of, writer_writes}}, specs.{Acts.{ended}, Stores.{Ends}}}
+use Rattle.sh_acts.{proofs.StoreLemmas.{whole_ends, one_ends, patched_word, length-patched}, specs.Images.{IsOver, IsHalved, PostsOver, patched}}
+use Rattle.sh_logic.proofs.{Lists.{all_drop, all_take}, Tests.{less_test, not_less_test}}
+use Rattle.sh_image.specs.{Entries.{entry_words}, Inner.{Inner, IsInner, inner_in, inner_words, HasChild}, Leaf.{Leaf, IsEntry, IsLeaf, leaf_in, leaf_words}, declared.inner.Pair.{Pair}}
+use Rattle.sh_image.specs.declared.leaf.LeafEntry.{LeafEntry}
+use Rattle.sh_edit.proofs.{HalvesLemmas.{left_once, right_once, separator_within, left_lawful, right_lawful}, HeldLemmas.{get-map_of_entries}, SplitLemmas.{sides}}
+use Rattle.sh_edit.{proofs.RiseLemmas.{with_lawful, middle_within, left_inner_lawful, right_inner_lawful}, specs.Held.{held, map_of_entries, HasKeysOnce}}
+use Rattle.sh_edit.specs.{Pairing.{pairs_with, with_pair, middle_of, left_inner, right_inner, IsNewSeparator}, Splitting.{left_half, right_half, separator_of, IsSplit}}
+use Rattle.sh_map.specs.Map as map
 
 module _ (p : ConfigParts) (words : List ℕ) (s : TreeState) (g : Ground p words s) (i d n lv a : ℕ) (image : List ℕ) (w : Writing) (at x : ℕ) (more : List Entry)
     (link : s.class n ≡ Linked lv a) (k : IsWriter p (s.hold (lock_of p n)) i d n w) (bound : d ≤ p.bound) (e : Ends p (s.node n) w image at x)
@@ -254,3 +267,322 @@ module _ (p : ConfigParts) (words : List ℕ) (s : TreeState) (g : Ground p word
           | inl v ↦ inr record { parent = n; low = a; linked = on' n (suc l) a (link ∙ ap (λ (y : ℕ). Linked y a) q); leads = subst (λ (zs : List ℕ). LeadsTo (standing_pairs zs) m) (sym (e_n ∙ at_n)) v }
           | inr v ↦ inr record { parent = r; low = sep; linked = r_is' ∙ ap (λ (y : ℕ). Linked y sep) q; leads = subst (λ (zs : List ℕ). LeadsTo (standing_pairs zs) m) (sym (e_r ∙ at_r)) v }
         ]
+
+-- ---- an inner node's WRITE ends: a pair was added, or the node was split at one
+
+all_with : (P : Pair → Type 0) (xs : List Pair) (new : Pair) → P new → AllByRecursion P xs → AllByRecursion P (pairs_with xs new)
+all_with P [] new q h = (q, tt)
+all_with P (x ∷ xs) new q h = elim (cases_lt x.separator new.separator) [
+  | inl below ↦ rw (less_test x.separator new.separator below) (h.0, all_with P xs new q h.1)
+  | inr from ↦ rw (not_less_test x.separator new.separator from) (q, h)
+]
+
+-- whom the pairs with a new one lead to
+leads_with : (n : ℕ) (xs : List Pair) (new : Pair) → LeadsTo (pairs_with xs new) n → (new.child ≡ n) ⊎ LeadsTo xs n
+leads_with n [] new (inl e) = inl e
+leads_with n [] new (inr h) = absurd h
+leads_with n (x ∷ xs) new h = elim (cases_lt x.separator new.separator) [
+  | inl below ↦
+      let first : pairs_with (x ∷ xs) new ≡ x ∷ pairs_with xs new = rw (less_test x.separator new.separator below) refl in
+      elim (subst (λ (ys : List Pair). LeadsTo ys n) first h) [ inl e ↦ inr (inl e) | inr k ↦ elim (leads_with n xs new k) [ inl e ↦ inl e | inr z ↦ inr (inr z) ] ]
+  | inr from ↦
+      let first : pairs_with (x ∷ xs) new ≡ new ∷ x ∷ xs = rw (not_less_test x.separator new.separator from) refl in
+      elim (subst (λ (ys : List Pair). LeadsTo ys n) first h) [ inl e ↦ inl e | inr k ↦ inr k ]
+]
+
+with_new : (n : ℕ) (xs : List Pair) (new : Pair) → new.child ≡ n → LeadsTo (pairs_with xs new) n
+with_new n [] new e = inl e
+with_new n (x ∷ xs) new e = elim (cases_lt x.separator new.separator) [
+  | inl below ↦ rw (less_test x.separator new.separator below) (inr (with_new n xs new e))
+  | inr from ↦ rw (not_less_test x.separator new.separator from) (inl e)
+]
+
+with_old : (n : ℕ) (xs : List Pair) (new : Pair) → LeadsTo xs n → LeadsTo (pairs_with xs new) n
+with_old n [] new h = absurd h
+with_old n (x ∷ xs) new h = elim (cases_lt x.separator new.separator) [
+  | inl below ↦ rw (less_test x.separator new.separator below) (elim h [ inl e ↦ inl e | inr k ↦ inr (with_old n xs new k) ])
+  | inr from ↦ rw (not_less_test x.separator new.separator from) (inr h)
+]
+
+posted_pending : (i : ℕ) → Posted ≡ Pending i → ⊥
+posted_pending i e = cc
+
+module _ (p : ConfigParts) (words : List ℕ) (s : TreeState) (g : Ground p words s) where
+  -- a level and a low fence name one node
+  pub unique : (m n l a : ℕ) → s.class m ≡ Linked l a → s.class n ≡ Linked l a → m ≡ n
+  unique m n l a e f = dite (ℕ_discrete m n) (λ q. q) (λ ne.
+      let y = g.sits m l a e in
+      let z = g.sits n l a f in
+      absurd (⊎_elim (λ (le : high_in (s.node m) ≤ a). omega (arith, le, y.fences)) (λ (le : high_in (s.node n) ≤ a). omega (arith, le, z.fences)) (g.apart m n l a a e f ne)))
+
+  -- the separator of a node that is to be posted isn't there
+  pub is_new : (i n c l a sep : ℕ) → s.class n ≡ Linked (suc l) a → s.class c ≡ Linked l sep → s.post c ≡ Pending i → IsNewSeparator (standing_pairs (s.node n)) sep
+  is_new i n c l a sep link child mine = go (standing_pairs (s.node n)) (g.sits n (suc l) a link).body.children (g.children n l a)
+    where
+      go : (pairs : List Pair) → LeadDown s l pairs → ((m : ℕ) → s.class n ≡ Linked (suc l) a → LeadsTo pairs m → s.post m ≡ Posted) → IsNewSeparator pairs sep
+      go [] h led = tt
+      go (x ∷ xs) h led = (
+        (λ q. posted_pending i (sym (led x.child link (inl refl)) ∙ ap s.post (unique x.child c l sep (h.0 ∙ ap (λ (z : ℕ). Linked l z) q) child) ∙ mine)),
+        go xs h.1 (λ m f k. led m f (inr k)),
+      )
+
+module _ (p : ConfigParts) (words : List ℕ) (s : TreeState) (g : Ground p words s) (i d n l a : ℕ) (x : Pair) (ok : IsSetting p)
+    (link : s.class n ≡ Linked (suc l) a) (bound : d ≤ p.bound) (child : s.class x.child ≡ Linked l x.separator) (mine : s.post x.child ≡ Pending i)
+    (lo : low_in (s.node n) ≤ x.separator) (hi : x.separator < high_in (s.node n)) where
+  abbrev inner : Inner
+  inner = inner_in (s.node n)
+
+  stands : IsStandingInner p s l (s.node n)
+  stands = (g.sits n (suc l) a link).body
+
+  new : IsNewSeparator inner.pairs x.separator
+  new = is_new p words s g i n x.child l a x.separator link child mine
+
+  real : HasChild p x
+  real = let r = (g.sits x.child l x.separator child).real in (r.first, r.last)
+
+  posts : PostsOver s i (suc l) inner.pairs (pairs_with inner.pairs x) (put s.post x.child Posted)
+  posts = record {
+    others = λ j m y ne z. (
+      λ f. put_else s.post x.child Posted m (λ v. ne (ap Seat (sym (pending_of i j y z (sym mine ∙ ap s.post (sym v) ∙ f))))) ∙ f,
+      put_case (λ u. u ≡ y → s.post m ≡ y) s.post x.child Posted m (λ v f. absurd (posted_of j y z f)) (λ v f. f),
+    );
+    stays = λ m k b f z. put_case (λ u. u ≡ Posted) s.post x.child Posted m (λ v. refl) (λ v. z);
+    newly = λ m. put_case (λ u. u ≡ Posted → (s.post m ≡ Posted) ⊎ ((k : ℕ) × (b : ℕ) × (suc l ≡ suc k) × (s.class m ≡ Linked k b) × LeadsTo (pairs_with inner.pairs x) m)) s.post x.child Posted m
+        (λ v z. inr (l, x.separator, refl, ap s.class v ∙ child, with_new m inner.pairs x (sym v))) (λ v z. inl z);
+    outside = λ m. ⊎_elim (λ z. inl z) (λ z. inr (put_case (λ u. u ≡ Posted) s.post x.child Posted m (λ v. refl) (λ v. z))) (g.outside m);
+    kids = λ k m e led. put_case (λ u. u ≡ Posted) s.post x.child Posted m (λ v. refl) (λ ne. elim (leads_with m inner.pairs x led) [ inl q ↦ absurd (ne (sym q)) | inr old ↦ g.children n l a m link old ]);
+    keeps = λ k m e led. with_old m inner.pairs x led;
+  }
+
+  same_log : s.log ≡ s.log ++ []
+  same_log = sym (append-nil s.log)
+
+  -- the pair was added
+  pair_at : s.hold (lock_of p n) ≡ Writes i d n (Whole (inner_words p (with_pair inner x)) (rear_at p)) → length inner.pairs < 2 * p.leaf → inner.version < last_version p
+      → let t : TreeState = ended p s n i d (inner_words p (with_pair inner x)) s.class (put s.post x.child Posted) [] in
+      Change p i s t × Ground p (set words (address p (Node n (rear_at p))) (get_or (inner_words p (with_pair inner x)) (rear_at p) 0)) t
+  pair_at e room version =
+      let b : Inner = with_pair inner x in
+      let t : TreeState = ended p s n i d (inner_words p b) s.class (put s.post x.child Posted) [] in
+      let lawful : IsInner p b = with_lawful p inner x stands.spells.lawful room new lo hi real version in
+      let pairs : standing_pairs (inner_words p b) ≡ pairs_with inner.pairs x = ap (λ (c : Inner). c.pairs) (inner_is p (inner_words p b) b refl lawful) in
+      over_end p words s g i d n (suc l) a (inner_words p b) (Whole (inner_words p b) (rear_at p)) (rear_at p) (get_or (inner_words p b) (rear_at p) 0) [] link (writer_writes p (s.hold (lock_of p n)) i d n _ e) bound
+      (whole_ends p (suc l) (s.node n) (inner_words p b) (inner_long p b ok.ranged.value_words.0 lawful)) (λ j ne. tt) (subst IsLegal same_log g.legal) (subst (λ (log : List Entry). (key : ℕ) → (key ≡ 0) ⊎ (2 ^ 64 - 1 ≤ key) → get (map_of log) key ≡ None) same_log g.bare) (put s.post x.child Posted)
+      (subst (λ (xs : List Pair). PostsOver s i (suc l) inner.pairs xs (put s.post x.child Posted)) (sym pairs) posts)
+      record { level = refl; low = refl; high = refl; next = refl }
+      (inner_stands p t l (inner_words p b) b refl lawful (all_with (λ (y : Pair). s.class y.child ≡ Linked l y.separator) inner.pairs x child stands.children))
+      (λ m k c ne f body. body_on p s t (λ n l a z. z) same_log k (s.node m) body)
+
+  -- the node was split: the left half was written, the right one before
+  split_at : (r : ℕ) → s.hold (lock_of p n) ≡ Writes i d n (Whole (inner_words p (left_inner p.leaf inner x r)) (rear_at p)) → s.class r ≡ Fresh i → s.node r ≡ inner_words p (right_inner p.leaf inner x)
+      → length inner.pairs ≡ 2 * p.leaf → inner.version < last_version p
+      → let sep : ℕ = middle_of p.leaf inner.pairs x in
+      let image : List ℕ = inner_words p (left_inner p.leaf inner x r) in
+      let t : TreeState = ended p s n i d image (put s.class r (Linked (suc l) sep)) (put (put s.post x.child Posted) r (Pending i)) [] in
+      Change p i s t × Ground p (set words (address p (Node n (rear_at p))) (get_or image (rear_at p) 0)) t
+  split_at r e fresh is full version =
+      let left : Inner = left_inner p.leaf inner x r in
+      let right : Inner = right_inner p.leaf inner x in
+      let sep : ℕ = middle_of p.leaf inner.pairs x in
+      let t : TreeState = ended p s n i d (inner_words p left) (put s.class r (Linked (suc l) sep)) (put (put s.post x.child Posted) r (Pending i)) [] in
+      let own = g.own r i fresh in
+      let old = g.sits n (suc l) a link in
+      let within = middle_within p inner x stands.spells.lawful full new lo hi in
+      let left_ok : IsInner p left = left_inner_lawful p inner x stands.spells.lawful full new lo hi r real version own.first own.last (omega (arith, old.past)) in
+      let right_ok : IsInner p right = right_inner_lawful p inner x stands.spells.lawful full new lo hi real in
+      let on : Links s t = λ m k b f. put_else s.class r (Linked (suc l) sep) m (λ q. fresh_linked i k b (sym fresh ∙ ap s.class (sym q) ∙ f)) ∙ f in
+      let all : LeadDown s l (pairs_with inner.pairs x) = all_with (λ (y : Pair). s.class y.child ≡ Linked l y.separator) inner.pairs x child stands.children in
+      let left_pairs : standing_pairs (inner_words p left) ≡ take p.leaf (pairs_with inner.pairs x) = ap (λ (c : Inner). c.pairs) (inner_is p (inner_words p left) left refl left_ok) in
+      let right_pairs : standing_pairs (inner_words p right) ≡ drop p.leaf (pairs_with inner.pairs x) = ap (λ (c : Inner). c.pairs) (inner_is p (inner_words p right) right refl right_ok) in
+      let joined : standing_pairs (inner_words p left) ++ standing_pairs (inner_words p right) ≡ pairs_with inner.pairs x = (λ z. left_pairs z ++ right_pairs z) ∙ take-append-drop p.leaf (pairs_with inner.pairs x) in
+      split_end p words s g i d n (suc l) a (inner_words p left) (Whole (inner_words p left) (rear_at p)) (rear_at p) (get_or (inner_words p left) (rear_at p) 0) [] link (writer_writes p (s.hold (lock_of p n)) i d n _ e) bound
+      (whole_ends p (suc l) (s.node n) (inner_words p left) (inner_long p left ok.ranged.value_words.0 left_ok)) (λ j ne. tt) (subst IsLegal same_log g.legal) (subst (λ (log : List Entry). (key : ℕ) → (key ≡ 0) ⊎ (2 ^ 64 - 1 ≤ key) → get (map_of log) key ≡ None) same_log g.bare) r sep (inner_words p right) fresh is
+      record { above = within.0; below = within.1; level = refl; low = refl; high = refl; next = refl; right_level = refl; right_low = refl; right_high = refl; right_next = refl }
+      (put s.post x.child Posted)
+      (subst (λ (xs : List Pair). PostsOver s i (suc l) inner.pairs xs (put s.post x.child Posted)) (sym joined) posts)
+      (inner_stands p t l (inner_words p left) left refl left_ok (lead_on p s t on l (take p.leaf (pairs_with inner.pairs x)) (all_take (λ (y : Pair). s.class y.child ≡ Linked l y.separator) p.leaf (pairs_with inner.pairs x) all)))
+      (inner_stands p t l (inner_words p right) right refl right_ok (lead_on p s t on l (drop p.leaf (pairs_with inner.pairs x)) (all_drop (λ (y : Pair). s.class y.child ≡ Linked l y.separator) p.leaf (pairs_with inner.pairs x) all)))
+      (λ m k c ne f body. body_on p s t on same_log k (s.node m) body)
+
+  -- both, of the node as it was read
+  pub pair_end : (b : Inner) → b ≡ inner → s.hold (lock_of p n) ≡ Writes i d n (Whole (inner_words p (with_pair b x)) (rear_at p)) → length b.pairs < 2 * p.leaf → b.version < last_version p
+      → let t : TreeState = ended p s n i d (inner_words p (with_pair b x)) s.class (put s.post x.child Posted) [] in
+      Change p i s t × Ground p (set words (address p (Node n (rear_at p))) (get_or (inner_words p (with_pair b x)) (rear_at p) 0)) t
+  pair_end b same = subst (λ (b : Inner). s.hold (lock_of p n) ≡ Writes i d n (Whole (inner_words p (with_pair b x)) (rear_at p)) → length b.pairs < 2 * p.leaf → b.version < last_version p
+      → let t : TreeState = ended p s n i d (inner_words p (with_pair b x)) s.class (put s.post x.child Posted) [] in
+      Change p i s t × Ground p (set words (address p (Node n (rear_at p))) (get_or (inner_words p (with_pair b x)) (rear_at p) 0)) t) (sym same) pair_at
+
+  pub inner_split_end : (b : Inner) → b ≡ inner → (r : ℕ) → s.hold (lock_of p n) ≡ Writes i d n (Whole (inner_words p (left_inner p.leaf b x r)) (rear_at p)) → s.class r ≡ Fresh i → s.node r ≡ inner_words p (right_inner p.leaf b x)
+      → length b.pairs ≡ 2 * p.leaf → b.version < last_version p
+      → let sep : ℕ = middle_of p.leaf b.pairs x in
+      let image : List ℕ = inner_words p (left_inner p.leaf b x r) in
+      let t : TreeState = ended p s n i d image (put s.class r (Linked (suc l) sep)) (put (put s.post x.child Posted) r (Pending i)) [] in
+      Change p i s t × Ground p (set words (address p (Node n (rear_at p))) (get_or image (rear_at p) 0)) t
+  inner_split_end b same r = subst (λ (b : Inner). s.hold (lock_of p n) ≡ Writes i d n (Whole (inner_words p (left_inner p.leaf b x r)) (rear_at p)) → s.class r ≡ Fresh i → s.node r ≡ inner_words p (right_inner p.leaf b x)
+      → length b.pairs ≡ 2 * p.leaf → b.version < last_version p
+      → let sep : ℕ = middle_of p.leaf b.pairs x in
+      let image : List ℕ = inner_words p (left_inner p.leaf b x r) in
+      let t : TreeState = ended p s n i d image (put s.class r (Linked (suc l) sep)) (put (put s.post x.child Posted) r (Pending i)) [] in
+      Change p i s t × Ground p (set words (address p (Node n (rear_at p))) (get_or image (rear_at p) 0)) t) (sym same) (split_at r)
+
+-- ---- a leaf's WRITE ends, and its entry comes into the log
+
+-- two maps that agree at a key agree there after the same change
+changed_alike : (m n : Map) (c : MapChange) (q : ℕ) → get m q ≡ get n q → get (changed m c) q ≡ get (changed n c) q
+changed_alike m n (Put key value) q e = elim (cases_eq q key) [
+  | inl here ↦ subst (λ (z : ℕ). get (map.put m key value) z ≡ get (map.put n key value) z) (sym here) (get-put m key value ∙ sym (get-put n key value))
+  | inr ne ↦ get-put_other m key q value ne ∙ e ∙ sym (get-put_other n key q value ne)
+]
+changed_alike m n (Del key) q e = elim (cases_eq q key) [
+  | inl here ↦ subst (λ (z : ℕ). get (map.del m key) z ≡ get (map.del n key) z) (sym here) (get-del m key ∙ sym (get-del n key))
+  | inr ne ↦ get-del_other m key q ne ∙ e ∙ sym (get-del_other n key q ne)
+]
+
+-- the map of a leaf that has another entry
+pub map_changed : (log : List Entry) (entry : Entry) (es fs : List LeafEntry) (q : ℕ) → q ≢ 0 → get (map_of_entries fs) q ≡ get (changed (map_of_entries es) entry.change) q → held es q ≡ get (map_of log) q → held fs q ≡ get (map_of (log ++ entry ∷ [])) q
+map_changed log entry es fs q nz h e =
+    sym (get-map_of_entries fs q nz) ∙ h ∙ changed_alike (map_of_entries es) (map_of log) entry.change q (get-map_of_entries es q nz ∙ e) ∙ ap (λ (m : Map). get m q) (sym (map_of-push log entry))
+
+-- a leaf whose keys the entry isn't about
+pub leaf_else : (p : ConfigParts) (log : List Entry) (entry : Entry) (ws : List ℕ) → ((q : ℕ) → q ≢ 0 → low_in ws ≤ q → q < high_in ws → q ≢ change_key entry.change) → IsStandingLeaf p log ws → IsStandingLeaf p (log ++ entry ∷ []) ws
+leaf_else p log entry ws away h = record {
+  spells = h.spells;
+  once = h.once;
+  map = λ q nz lo hi. h.map q nz lo hi ∙ sym (ap (λ (m : Map). get m q) (map_of-push log entry) ∙ changed_other (map_of log) entry.change q (away q nz lo hi));
+}
+
+module _ (p : ConfigParts) (words : List ℕ) (s : TreeState) (g : Ground p words s) (i d n a : ℕ) (image : List ℕ) (w : Writing) (at x : ℕ) (entry : Entry)
+    (link : s.class n ≡ Linked 0 a) (k : IsWriter p (s.hold (lock_of p n)) i d n w) (bound : d ≤ p.bound) (e : Ends p (s.node n) w image at x)
+    (by : entry.seat ≡ i) (next : IsNext (map_of s.log) entry) (some : 1 ≤ change_key entry.change) (lo : low_in (s.node n) ≤ change_key entry.change) (hi : change_key entry.change < high_in (s.node n)) where
+  mades : (j : ℕ) → Seat j ≢ Seat i → HasNoneOf j (entry ∷ [])
+  mades j ne = ((λ q. ne (ap Seat (sym q ∙ by))), tt)
+
+  legal : IsLegal (s.log ++ entry ∷ [])
+  legal = IsLegal-push s.log entry g.legal next
+
+  bare : (key : ℕ) → (key ≡ 0) ⊎ (2 ^ 64 - 1 ≤ key) → get (map_of (s.log ++ entry ∷ [])) key ≡ None
+  bare key out = ap (λ (m : Map). get m key) (map_of-push s.log entry) ∙ changed_other (map_of s.log) entry.change key (λ z. ⊎_elim (λ (e : key ≡ 0). omega (arith, e, z, some)) (λ (le : 2 ^ 64 - 1 ≤ key). omega (arith, le, z, hi, (g.sits n 0 a link).past)) out) ∙ g.bare key out
+
+  old_low : low_in (s.node n) ≡ a
+  old_low = (g.sits n 0 a link).low_is
+
+  -- the other nodes
+  others : (t : TreeState) → t.log ≡ s.log ++ entry ∷ [] → Links s t → (m l b : ℕ) → m ≢ n → s.class m ≡ Linked l b → Body p s l (s.node m) → Body p t l (s.node m)
+  others t log on m zero b ne f body =
+      let low : low_in (s.node m) ≡ b = (g.sits m 0 b f).low_is in
+      subst (λ (es : List Entry). IsStandingLeaf p es (s.node m)) (sym log) (leaf_else p s.log entry (s.node m)
+      (λ q nz ge lt is. ⊎_elim (λ (le : high_in (s.node n) ≤ b). omega (arith, le, hi, is, ge, low)) (λ (le : high_in (s.node m) ≤ a). omega (arith, le, lo, is, lt, old_low)) (g.apart n m 0 a b link f (λ z. ne (sym z)))) body)
+  others t log on m (suc l) b ne f body = inner_on p s t on l (s.node m) body
+
+  none_new : (news : List Pair) → PostsOver s i 0 (standing_pairs (s.node n)) news s.post
+  none_new news = record {
+    others = λ j m y ne h. ((λ z. z), λ z. z);
+    stays = λ m l b f z. z;
+    newly = λ m z. inl z;
+    outside = g.outside;
+    kids = λ l m z. absurd (omega (arith, z));
+    keeps = λ l m z. absurd (omega (arith, z));
+  }
+
+  pub leaf_end : IsOver (s.node n) image → IsStandingLeaf p (s.log ++ entry ∷ []) image
+      → Change p i s (ended p s n i d image s.class s.post (entry ∷ [])) × Ground p (set words (address p (Node n at)) x) (ended p s n i d image s.class s.post (entry ∷ []))
+  leaf_end over body = over_end p words s g i d n 0 a image w at x (entry ∷ []) link k bound e mades legal bare s.post (none_new (standing_pairs image)) over body (others (ended p s n i d image s.class s.post (entry ∷ [])) refl (λ m l b f. f))
+
+  pub leaf_split : (r sep : ℕ) (right : List ℕ) → s.class r ≡ Fresh i → s.node r ≡ right → IsHalved (s.node n) image right r sep → IsStandingLeaf p (s.log ++ entry ∷ []) image → IsStandingLeaf p (s.log ++ entry ∷ []) right
+      → Change p i s (ended p s n i d image (put s.class r (Linked 0 sep)) (put s.post r (Pending i)) (entry ∷ [])) × Ground p (set words (address p (Node n at)) x) (ended p s n i d image (put s.class r (Linked 0 sep)) (put s.post r (Pending i)) (entry ∷ []))
+  leaf_split r sep right fresh is halved left_body right_body =
+      split_end p words s g i d n 0 a image w at x (entry ∷ []) link k bound e mades legal bare r sep right fresh is halved s.post (none_new (standing_pairs image ++ standing_pairs right)) left_body right_body
+      (others (ended p s n i d image (put s.class r (Linked 0 sep)) (put s.post r (Pending i)) (entry ∷ [])) refl (λ m l b f. put_else s.class r (Linked 0 sep) m (λ q. fresh_linked i l b (sym fresh ∙ ap s.class (sym q) ∙ f)) ∙ f))
+
+-- a writer's handovers
+pub bound_of : (p : ConfigParts) (words : List ℕ) (s : TreeState) → Ground p words s → (i d n : ℕ) (w : Writing) → s.hold (lock_of p n) ≡ Writes i d n w → d ≤ p.bound
+bound_of p words s g i d n w e = let o : Orderly p s (lock_of p n) (Writes i d n w) = subst (Orderly p s (lock_of p n)) e (g.orderly (lock_of p n)) in o.0
+
+-- What the last store of a leaf's WRITE is, by how the leaf changes.
+module _ (p : ConfigParts) (words : List ℕ) (s : TreeState) (g : Ground p words s) (i d n a : ℕ) (entry : Entry)
+    (link : s.class n ≡ Linked 0 a) (bound : d ≤ p.bound)
+    (by : entry.seat ≡ i) (next : IsNext (map_of s.log) entry) (some : 1 ≤ change_key entry.change) (lo : low_in (s.node n) ≤ change_key entry.change) (hi : change_key entry.change < high_in (s.node n)) where
+  abbrev leaf : Leaf
+  leaf = leaf_in p (s.node n)
+
+  leaf_here : IsStandingLeaf p s.log (s.node n)
+  leaf_here = (g.sits n 0 a link).body
+
+  -- one entry was written
+  pub entry_end : (j : ℕ) (x : LeafEntry) → j < p.leaf → s.hold (lock_of p n) ≡ Writes i d n (One j (entry_words x) (2 + p.value_words)) → IsEntry p leaf.low leaf.high x
+      → HasKeysOnce (set leaf.entries j x) → map_of_entries (set leaf.entries j x) ≡ changed (map_of_entries leaf.entries) entry.change
+      → let t : TreeState = ended p s n i d (patched (s.node n) (entry_at p j) (entry_words x)) s.class s.post (entry ∷ []) in
+      Change p i s t × Ground p (set words (address p (Node n (entry_rear_at p j))) (get_or (entry_words x) (2 + p.value_words) 0)) t
+  entry_end j x lt e good once map =
+      let node : List ℕ = s.node n in
+      let image : List ℕ = patched node (entry_at p j) (entry_words x) in
+      let size : length (entry_words x) ≡ 3 + p.value_words = Rattle.sh_image.proofs.EntriesLemmas.length-entry_words p.value_words x good.value in
+      let es : standing_entries p image ≡ set leaf.entries j x = entries_patched p node j x (g.long n) lt good.value in
+      let is = leaf_patched p node j x (g.long n) lt good.value in
+      leaf_end p words s g i d n a image (One j (entry_words x) (2 + p.value_words)) (entry_rear_at p j) (get_or (entry_words x) (2 + p.value_words) 0) entry link (writer_writes p (s.hold (lock_of p n)) i d n _ e) bound
+      (one_ends p 0 node (entry_words x) j image lt (length-patched node (entry_at p j) (entry_words x) ∙ g.long n) (patched_word p node j (entry_words x) lt (g.long n) size))
+      by next some lo hi
+      record { level = patched_level j x; low = ap (λ (b : Leaf). b.low) is; high = ap (λ (b : Leaf). b.high) is; next = ap (λ (b : Leaf). b.next) is }
+      record {
+        spells = spelled_patched p node j x (g.long n) lt good.value leaf_here.spells good;
+        once = subst HasKeysOnce (sym es) once;
+        map = λ q nz ge less. map_changed s.log entry leaf.entries (standing_entries p image) q nz (ap (λ (fs : List LeafEntry). get (map_of_entries fs) q) es ∙ ap (λ (m : Map). get m q) map)
+            (leaf_here.map q nz (subst (λ (b : Leaf). b.low ≤ q) is ge) (subst (λ (b : Leaf). q < b.high) is less));
+      }
+    where
+      patched_level : (j : ℕ) (x : LeafEntry) → get_or (patched (s.node n) (entry_at p j) (entry_words x)) 1 0 ≡ get_or (s.node n) 1 0
+      patched_level j x = Rattle.sh_acts.proofs.StoreLemmas.patched_outside (s.node n) (entry_at p j) (entry_words x) 1 (inl (omega (arith, Rattle.sh_base.proofs.LayoutLemmas.entry_low p j)))
+
+  -- the whole leaf was written
+  pub rewritten_end : (b : Leaf) → s.hold (lock_of p n) ≡ Writes i d n (Whole (leaf_words b) (rear_at p)) → IsLeaf p b → b.low ≡ leaf.low → b.high ≡ leaf.high → b.next ≡ leaf.next
+      → HasKeysOnce b.entries → map_of_entries b.entries ≡ changed (map_of_entries leaf.entries) entry.change
+      → let t : TreeState = ended p s n i d (leaf_words b) s.class s.post (entry ∷ []) in
+      Change p i s t × Ground p (set words (address p (Node n (rear_at p))) (get_or (leaf_words b) (rear_at p) 0)) t
+  rewritten_end b e lawful low high after once map =
+      leaf_end p words s g i d n a (leaf_words b) (Whole (leaf_words b) (rear_at p)) (rear_at p) (get_or (leaf_words b) (rear_at p) 0) entry link (writer_writes p (s.hold (lock_of p n)) i d n _ e) bound
+      (whole_ends p 0 (s.node n) (leaf_words b) (leaf_long p b lawful)) by next some lo hi
+      record { level = sym (g.sits n 0 a link).level_is; low = low; high = high; next = after }
+      (leaf_stands p (s.log ++ entry ∷ []) (leaf_words b) b refl lawful once (λ q nz ge less. map_changed s.log entry leaf.entries b.entries q nz (ap (λ (m : Map). get m q) map) (leaf_here.map q nz (omega (arith, ge, low)) (omega (arith, less, high)))))
+
+  -- the left half was written, the right one before
+  leaf_splits : (key : ℕ) (value : List ℕ) (r : ℕ) → entry.change ≡ Put key value → s.hold (lock_of p n) ≡ Writes i d n (Whole (leaf_words (left_half leaf key value r)) (rear_at p)) → s.class r ≡ Fresh i → s.node r ≡ leaf_words (right_half leaf key value)
+      → IsSplit leaf key → length value ≡ p.value_words → leaf.version < last_version p
+      → let sep : ℕ = separator_of leaf.entries key value in
+      let image : List ℕ = leaf_words (left_half leaf key value r) in
+      let t : TreeState = ended p s n i d image (put s.class r (Linked 0 sep)) (put s.post r (Pending i)) (entry ∷ []) in
+      Change p i s t × Ground p (set words (address p (Node n (rear_at p))) (get_or image (rear_at p) 0)) t
+  leaf_splits key value r put_is e fresh is full words_are version =
+      let left : Leaf = left_half leaf key value r in
+      let right : Leaf = right_half leaf key value in
+      let sep : ℕ = separator_of leaf.entries key value in
+      let lo' : leaf.low ≤ key = omega (arith, lo, ap change_key put_is) in
+      let hi' : key < leaf.high = omega (arith, hi, ap change_key put_is) in
+      let nz : key ≢ 0 = λ z. omega (arith, z, full.is_key) in
+      let old = g.sits n 0 a link in
+      let real = g.own r i fresh in
+      let lawful : IsLeaf p leaf = leaf_here.spells.lawful in
+      let within = separator_within p leaf key value r lawful full.some full.lacks full.full full.once lo' full.is_key hi' words_are in
+      let high_word : leaf.high < 2 ^ 64 = omega (arith, old.past) in
+      let left_ok : IsLeaf p left = left_lawful p leaf key value r lawful full.some full.lacks full.full full.once lo' full.is_key hi' words_are version real.first real.last high_word in
+      let right_ok : IsLeaf p right = right_lawful p leaf key value r lawful full.some full.lacks full.full full.once lo' full.is_key hi' words_are in
+      let side = sides leaf key value r full.some nz full.lacks full.full full.once in
+      let change : (m : Map) (q : ℕ) → get (map.put m key value) q ≡ get (changed m entry.change) q = λ m q. ap (λ (c : MapChange). get (changed m c) q) (sym put_is) in
+      leaf_split p words s g i d n a (leaf_words left) (Whole (leaf_words left) (rear_at p)) (rear_at p) (get_or (leaf_words left) (rear_at p) 0) entry link (writer_writes p (s.hold (lock_of p n)) i d n _ e) bound
+      (whole_ends p 0 (s.node n) (leaf_words left) (leaf_long p left left_ok)) by next some lo hi r sep (leaf_words right) fresh is
+      record { above = within.0; below = within.1; level = sym old.level_is; low = refl; high = refl; next = refl; right_level = sym old.level_is; right_low = refl; right_high = refl; right_next = refl }
+      (leaf_stands p (s.log ++ entry ∷ []) (leaf_words left) left refl left_ok (left_once leaf key value r nz) (λ q nq ge less. map_changed s.log entry leaf.entries left.entries q nq (((side q).0 less).0 ∙ change (map_of_entries leaf.entries) q) (leaf_here.map q nq ge (omega (arith, less, within.1)))))
+      (leaf_stands p (s.log ++ entry ∷ []) (leaf_words right) right refl right_ok (right_once leaf key value r nz) (λ q nq ge less. map_changed s.log entry leaf.entries right.entries q nq (((side q).1 ge).1 ∙ change (map_of_entries leaf.entries) q) (leaf_here.map q nq (omega (arith, ge, within.0)) less)))
+
+  pub leaf_split_end : (b : Leaf) → b ≡ leaf → (key : ℕ) (value : List ℕ) (r : ℕ) → entry.change ≡ Put key value → s.hold (lock_of p n) ≡ Writes i d n (Whole (leaf_words (left_half b key value r)) (rear_at p)) → s.class r ≡ Fresh i → s.node r ≡ leaf_words (right_half b key value)
+      → IsSplit b key → length value ≡ p.value_words → b.version < last_version p
+      → let sep : ℕ = separator_of b.entries key value in
+      let image : List ℕ = leaf_words (left_half b key value r) in
+      let t : TreeState = ended p s n i d image (put s.class r (Linked 0 sep)) (put s.post r (Pending i)) (entry ∷ []) in
+      Change p i s t × Ground p (set words (address p (Node n (rear_at p))) (get_or image (rear_at p) 0)) t
+  leaf_split_end b same key value r put_is = subst (λ (b : Leaf). s.hold (lock_of p n) ≡ Writes i d n (Whole (leaf_words (left_half b key value r)) (rear_at p)) → s.class r ≡ Fresh i → s.node r ≡ leaf_words (right_half b key value)
+      → IsSplit b key → length value ≡ p.value_words → b.version < last_version p
+      → let sep : ℕ = separator_of b.entries key value in
+      let image : List ℕ = leaf_words (left_half b key value r) in
+      let t : TreeState = ended p s n i d image (put s.class r (Linked 0 sep)) (put s.post r (Pending i)) (entry ∷ []) in
+      Change p i s t × Ground p (set words (address p (Node n (rear_at p))) (get_or image (rear_at p) 0)) t) (sym same) (leaf_splits key value r put_is)

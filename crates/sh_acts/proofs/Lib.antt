@@ -1,14 +1,7 @@
 pub mod Holds
-pub mod Posts
-pub mod Roots
 pub mod Events
-pub mod ChunkLemmas
 pub mod Own
-pub mod Late
-pub mod LaidLemmas
 pub mod StoreLemmas
 pub mod EntryStores
 pub mod Ends
-pub mod LeafEnds
-pub mod InnerEnds
 pub mod Broken

@@ -1,12 +1,63 @@
--- A seat's own nodes: a store into one, and a chunk that is drawn.
-use Rattle.std.proofs.Common.{◌≡◌, ◌≢◌, ◌⊎◌, ℕ, suc, ◌+◌, ◌<◌, ◌≤◌, Bool, true, false, List, [], length, set, refl, ap, sym, ◌∙◌, subst, ⊎_elim, inl, inr, arith, append-nil, length-set, get_or-set_same, get_or-set_other}
-use Rattle.std.specs.Prelude.{if◌then◌else◌}
-use Rattle.sh_base.specs.{declared.config.ConfigParts.{ConfigParts}, Setting.{node_size, IsNode}, Layout.{lock_of}, Places.{Site, Own, Root, Counter, Lock, Node, address, IsSite}}
+-- A seat's own nodes, the chunks and the counters that they come from, and a laid pool.
+use Rattle.std.proofs.Common.{◌≡◌, ℕ, ◌+◌, ◌*◌, ◌<◌, ◌≤◌, true, inl, inr, arith, ◌≢◌, ◌⊎◌, suc, Bool, false, List, [], length, set, refl, ap, sym, ◌∙◌, subst, ⊎_elim, append-nil, length-set}
+use Rattle.std.{proofs.{Common.{get_or-set_same, get_or-set_other, get_or, replicate, zero}, Math.Nat.{mul-le-mul_right}, lemmas.Bool.{Decides.{nat_tests}, cases_lt}}, specs.FinMap.{get-empty}}
+use Rattle.std.{proofs.lemmas.List.{length-replicate, get_or-replicate}, specs.{Ordering.{nat_cmp}, Prelude.{if◌then◌else◌, ◌-◌, ◌^◌}}}
+use Rattle.sh_base.{proofs.LayoutLemmas.{part_word}, specs.{Layout.{first_node, lock_of}, Places.{Site, Own, Root, Counter, Lock, Node, address, IsSite}, Setting.{IsNode, node_size, IsSetting}}}
+use Rattle.sh_base.specs.declared.config.ConfigParts.{ConfigParts}
+use Rattle.sh_state.{proofs.{Puts.{put_here, put_else, put_case, shows_store}, Spelled.{leaf_long, leaf_stands}}, specs.{Change.{Change}, Ground.{IsInChunk, Ground, HasParent}}}
+use Rattle.sh_state.proofs.Scenes.{Links, fresh_linked, fresh_is, undrawn_fresh, undrawn_linked, links_on, writes_else, body_on, sits_on, orderly_on, linked_is}
+use Rattle.sh_state.specs.Nodes.{high_in, LeadsTo, standing_pairs, Orderly, IsStandingLeaf, Sits}
+use Rattle.sh_state.specs.TreeState.{Class, Undrawn, Fresh, Linked, Seat, LockState, Nobody, Held, Writes, TreeState, put, writing_of, writing, shown, Reserved}
+use Rattle.sh_acts.specs.{Acts.{in_chunk, filled, counted, drawn}, Laid.{laid_class, none_drawn, laid_scene}, Counters.{one_where, count, Bounded}}
 use Rattle.sh_read.specs.Moments.{Writing, Idle, word, Next, still}
-use Rattle.sh_state.specs.TreeState.{Class, Undrawn, Fresh, Linked, Seat, LockState, Nobody, Held, Writes, TreeState, put, writing_of, writing, shown}
-use Rattle.sh_state.{specs.{Nodes.{high_in, LeadsTo, standing_pairs, Orderly}, Ground.{Ground, IsInChunk, HasParent}, Change.{Change}}, proofs.Puts.{put_here, put_else, put_case, shows_store}}
-use Rattle.sh_state.proofs.Scenes.{Links, fresh_linked, fresh_is, undrawn_fresh, undrawn_linked, links_on, writes_else, body_on, sits_on, orderly_on}
-use Rattle.sh_acts.{specs.Acts.{in_chunk, filled, counted, drawn}, proofs.ChunkLemmas.{chunk_node, chunk_once, in_chunk_is, is_in_chunk}}
+use Rattle.sh_image.{specs.{declared.leaf.LeafEntry.{LeafEntry}, Leaf.{leaf_words, empty_entry}, Laid.{blank_leaf, AreLaid}}, proofs.LaidLemmas.{blank_lawful, laid_zero}}
+use Rattle.sh_edit.{specs.Held.{key_at, no_entry}, proofs.HeldLemmas.{held_none}}
+use Rattle.sh_logic.proofs.Tests.{not_true}
+use mathlib.Core.Logic.{dite}
+use native.Mathlib.{Decide.{ℕ_discrete, dec_le}, Nat.{lt_of_not-le}}
+
+module _ (p : ConfigParts) where
+  pub chunk_node : (server chunk n : ℕ) → server < p.servers → chunk < p.chunks → IsInChunk p server chunk n → IsNode p n
+  unfolding first_node
+  chunk_node server chunk n s c h =
+      let row : (server + 1) * p.chunks ≤ p.servers * p.chunks = mul-le-mul_right p.chunks (omega arith) in
+      let all : (server * p.chunks + chunk + 1) * p.chunk_nodes ≤ p.servers * p.chunks * p.chunk_nodes = mul-le-mul_right p.chunk_nodes (omega (arith, row)) in
+      record { first = omega (arith, h.from); last = omega (arith, h.below, all) }
+
+  -- a chunk ends before a later one
+  later : (a b c d n : ℕ) → a * p.chunks + b < c * p.chunks + d → IsInChunk p a b n → IsInChunk p c d n → ⊥
+  unfolding first_node
+  later a b c d n lt g h =
+      let row : (a * p.chunks + b + 1) * p.chunk_nodes ≤ (c * p.chunks + d) * p.chunk_nodes = mul-le-mul_right p.chunk_nodes (omega (arith, lt)) in
+      omega (arith, row, g.below, h.from)
+
+  before : (a b c d : ℕ) → b < p.chunks → a < c → a * p.chunks + b < c * p.chunks + d
+  before a b c d lb lt = let row : (a + 1) * p.chunks ≤ c * p.chunks = mul-le-mul_right p.chunks (omega arith) in omega (arith, row)
+
+  pub chunk_once : (a b c d n : ℕ) → b < p.chunks → d < p.chunks → IsInChunk p a b n → IsInChunk p c d n → (a ≡ c) × (b ≡ d)
+  chunk_once a b c d n lb ld g h = elim (cases_lt a c) [
+    | inl lt ↦ absurd (later a b c d n (before a b c d lb lt) g h)
+    | inr ge ↦ elim (cases_lt c a) [
+      | inl lt ↦ absurd (later c d a b n (before c d a b ld lt) h g)
+      | inr le ↦
+          let e : a ≡ c = omega arith in
+          elim (cases_lt b d) [
+            | inl lt ↦ absurd (later a b c d n (rw e (omega arith)) g h)
+            | inr from ↦ elim (cases_lt d b) [
+              | inl lt ↦ absurd (later c d a b n (rw e (omega arith)) h g)
+              | inr to ↦ (e, omega arith)
+            ]
+          ]
+    ]
+  ]
+
+  pub in_chunk_is : (server chunk n : ℕ) → in_chunk p server chunk n ≡ true → IsInChunk p server chunk n
+  in_chunk_is server chunk n e = record { from = grind (arith, nat_tests); below = grind (arith, nat_tests) }
+
+  pub is_in_chunk : (server chunk n : ℕ) → IsInChunk p server chunk n → in_chunk p server chunk n ≡ true
+  is_in_chunk server chunk n h = let a = h.from in let b = h.below in grind (arith, nat_tests)
+
+-- ---- a seat's own nodes: a store into one, and a chunk that is drawn
 
 module _ (p : ConfigParts) (words : List ℕ) (s : TreeState) (g : Ground p words s) where
   not_linked : (r j n l a : ℕ) → s.class r ≡ Fresh j → s.class n ≡ Linked l a → n ≢ r
@@ -158,3 +209,158 @@ module _ (p : ConfigParts) (words : List ℕ) (s : TreeState) (g : Ground p word
 -- its nodes are the seat's own
 pub drawn_mine : (p : ConfigParts) (s : TreeState) (seat server n : ℕ) → IsInChunk p server (s.counter server) n → (drawn p s server seat).class n ≡ Fresh seat
 drawn_mine p s seat server n h = ap (λ (b : Bool). if b then Fresh seat else s.class n) (is_in_chunk p server (s.counter server) n h)
+
+-- ---- a laid pool shows its scene, and all holds of it
+
+module _ (p : ConfigParts) (ok : IsSetting p) where
+  no_key : (n i : ℕ) → i < length (replicate n (empty_entry p)) → key_at (replicate n (empty_entry p)) i ≡ 0
+  no_key n i lt = ap (λ (e : LeafEntry). e.key) (get_or-replicate n i (empty_entry p) no_entry (omega (arith, lt, length-replicate n (empty_entry p))))
+
+  stands : IsStandingLeaf p [] (leaf_words (blank_leaf p))
+  stands = leaf_stands p [] (leaf_words (blank_leaf p)) (blank_leaf p) refl (blank_lawful p) (λ i j lt below e. no_key p.leaf i (omega (arith, lt, below)))
+      (λ key nz lo hi. held_none (blank_leaf p).entries key (λ j below e. nz (sym e ∙ no_key p.leaf j below)) ∙ sym (get-empty nat_cmp key))
+
+  first_is : first_node p 0 0 ≡ 1
+  unfolding first_node
+  first_is = omega arith
+
+  first_chunk : IsInChunk p 0 0 1
+  first_chunk = record { from = omega (arith, first_is); below = omega (arith, first_is, ok.ranged.chunk_nodes.0) }
+
+  first_real : IsNode p 1
+  first_real = chunk_node p 0 0 1 (omega (arith, ok.ranged.servers.0)) (omega (arith, ok.ranged.chunks.0)) first_chunk
+
+  -- only node 1 is linked, and no node is a seat's own
+  by_test : (b : Bool) (P : Class → Type 0) → P Reserved → P Undrawn → P (if b then Reserved else Undrawn)
+  by_test true P r u = r
+  by_test false P r u = u
+
+  only : (n l a : ℕ) → laid_class p n ≡ Linked l a → (n ≡ 1) × (l ≡ 0) × (a ≡ 0)
+  only n l a = put_case (λ c. c ≡ Linked l a → (n ≡ 1) × (l ≡ 0) × (a ≡ 0)) (λ n. if in_chunk p 0 0 n then Reserved else Undrawn) 1 (Linked 0 0) n
+      (λ q e. let w = linked_is 0 0 l a e in (q, sym w.0, sym w.1))
+      (λ ne. by_test (in_chunk p 0 0 n) (λ c. c ≡ Linked l a → (n ≡ 1) × (l ≡ 0) × (a ≡ 0)) (λ e. absurd (cc)) (λ e. absurd (cc)))
+
+  no_own : (n i : ℕ) → laid_class p n ≡ Fresh i → ⊥
+  no_own n i = put_case (λ c. c ≡ Fresh i → ⊥) (λ n. if in_chunk p 0 0 n then Reserved else Undrawn) 1 (Linked 0 0) n (λ q e. cc) (λ ne. by_test (in_chunk p 0 0 n) (λ c. c ≡ Fresh i → ⊥) (λ e. cc) (λ e. cc))
+
+  undrawn : (server chunk n : ℕ) → chunk < p.chunks → put none_drawn 0 1 server ≤ chunk → IsInChunk p server chunk n → laid_class p n ≡ Undrawn
+  undrawn server chunk n lt le h =
+      let room : 0 < p.chunks = omega (arith, ok.ranged.chunks.0) in
+      let away : IsInChunk p 0 0 n → ⊥ = λ k.
+      let same = chunk_once p 0 0 server chunk n room lt k h in
+      past server chunk (sym same.0) (sym same.1) le in
+      put_else (λ n. if in_chunk p 0 0 n then Reserved else Undrawn) 1 (Linked 0 0) n (λ q. away (subst (IsInChunk p 0 0) (sym q) first_chunk))
+      ∙ ap (λ (b : Bool). if b then Reserved else Undrawn) (not_true (in_chunk p 0 0 n) (λ e. away (in_chunk_is p 0 0 n e)))
+    where
+      past : (v c : ℕ) → v ≡ 0 → c ≡ 0 → put none_drawn 0 1 v ≤ c → ⊥
+      past v c e f le =
+          let here : put none_drawn 0 1 v ≡ put none_drawn 0 1 0 = ap (put none_drawn 0 1) e in
+          let one : put none_drawn 0 1 0 ≡ 1 = put_here none_drawn 0 1 in
+          omega (arith, le, f, here, one)
+
+  module _ (words : List ℕ) (laid : AreLaid p words) where
+    places : (a : Site) → IsSite p a → get_or words (address p a) 0 ≡ shown p (laid_scene p) a
+    places Own ia = laid_zero p ok words laid first_real Own ia (λ q. cc) (λ q. cc) (λ o q. cc)
+    places Root ia = laid.root
+    places (Counter v) ia = put_case (λ x. get_or words (address p (Counter v)) 0 ≡ x) none_drawn 0 1 v (λ q. ap (λ (z : ℕ). get_or words (address p (Counter z)) 0) q ∙ laid.counter) (λ ne. laid_zero p ok words laid first_real (Counter v) ia (λ q. cc) (λ q. ne (counter_is v 0 q)) (λ o q. cc))
+      where
+        counter_is : (u v : ℕ) → Counter u ≡ Counter v → u ≡ v
+        counter_is u v e = cc
+    places (Lock l) ia = laid_zero p ok words laid first_real (Lock l) ia (λ q. cc) (λ q. cc) (λ o q. cc)
+    places (Node n o) ia = put_case (λ (ws : List ℕ). get_or words (address p (Node n o)) 0 ≡ get_or ws o 0) (λ (m : ℕ). replicate (node_size p) 0) 1 (leaf_words (blank_leaf p)) n
+        (λ q. ap (λ (z : ℕ). get_or words (address p (Node z o)) 0) q ∙ sym (part_word p words 1 o ia.1) ∙ ap (λ (ws : List ℕ). get_or ws o 0) laid.leaf)
+        (λ ne. laid_zero p ok words laid first_real (Node n o) ia (λ q. cc) (λ q. cc) (λ k q. ne (node_is n 1 o k q)) ∙ sym (get_or-replicate (node_size p) o 0 0 ia.1))
+      where
+        node_is : (m n o k : ℕ) → Node m o ≡ Node n k → m ≡ n
+        node_is m n o k e = cc
+
+    pub laid_ground : Ground p words (laid_scene p)
+    laid_ground =
+        let s : TreeState = laid_scene p in
+        let blank : List ℕ = leaf_words (blank_leaf p) in
+        let here : s.node 1 ≡ blank = put_here (λ (n : ℕ). replicate (node_size p) 0) 1 blank in
+        let first : Sits p s 1 0 0 = subst (λ (ws : List ℕ). (get_or ws 1 0 ≡ 0) × (get_or ws 2 0 ≡ 0) × (0 < get_or ws 3 0) × (get_or ws 3 0 ≤ 2 ^ 64 - 1) × (get_or ws 4 0 ≡ 0) × (get_or ws 3 0 ≡ 2 ^ 64 - 1) × IsStandingLeaf p [] ws → Sits p s 1 0 0) here
+        (λ h. record { real = first_real; level_is = ap (λ (ws : List ℕ). get_or ws 1 0) here ∙ h.0; low_is = ap (λ (ws : List ℕ). get_or ws 2 0) here ∙ h.1; fences = omega (arith, ap (λ (ws : List ℕ). get_or ws 3 0) here, h.2); past = omega (arith, ap (λ (ws : List ℕ). get_or ws 3 0) here, h.3); next = inl (ap (λ (ws : List ℕ). get_or ws 4 0) here ∙ h.4, ap (λ (ws : List ℕ). get_or ws 3 0) here ∙ h.5); body = subst (IsStandingLeaf p []) (sym here) stands })
+        (refl, refl, omega arith, omega arith, refl, refl, stands) in
+        record {
+          shows = record { size = laid.long; each = places };
+          long = λ n. put_case (λ ws. length ws ≡ node_size p) (λ (m : ℕ). replicate (node_size p) 0) 1 blank n (λ q. leaf_long p (blank_leaf p) (blank_lawful p)) (λ q. length-replicate (node_size p) 0);
+          orderly = λ lock. tt;
+          sits = λ n l a e. let w = only n l a e in subst (λ (z : ℕ × ℕ × ℕ). Sits p s z.0 z.1 z.2) (λ z. (sym w.0 z, sym w.1 z, sym w.2 z)) first;
+          apart = λ m n l a b e f ne. absurd (ne ((only m l a e).0 ∙ sym (only n l b f).0));
+          own = λ n i e. absurd (no_own n i e);
+          undrawn = λ v c n lv lc le h. undrawn v c n lc le h;
+          root = put_here (λ n. if in_chunk p 0 0 n then Reserved else Undrawn) 1 (Linked 0 0);
+          heights = λ n l a e. let w = only n l a e in omega (arith, w.1);
+          outside = λ n. inr refl;
+          firsts = λ n l e. refl;
+          children = λ q l b n e h. refl;
+          posted = λ n l a e q. inl (only n l a e).2;
+          legal = tt;
+          bare = λ key out. get-empty nat_cmp key;
+        }
+
+-- ---- a counter that seats raise after they have found it below a limit doesn't pass the limit by more than the seats
+
+one_le : (b : Bool) → one_where b ≤ 1
+one_le true = omega arith
+one_le false = omega arith
+
+count_le : (k : ℕ) (f : ℕ → Bool) → count k f ≤ k
+count_le zero f = omega arith
+count_le (suc k) f = let a = one_le (f k) in let b = count_le k f in omega (arith, a, b)
+
+count_past : (k : ℕ) (f : ℕ → Bool) (i : ℕ) → k ≤ i → count k (put f i true) ≡ count k f
+count_past zero f i le = refl
+count_past (suc k) f i le = let a : put f i true k ≡ f k = put_else f i true k (λ e. omega (arith, e, le)) in let b = count_past k f i (omega (arith, le)) in omega (arith, ap one_where a, b)
+
+count_put : (k : ℕ) (f : ℕ → Bool) (i : ℕ) → i < k → f i ≡ false → count k (put f i true) ≡ count k f + 1
+count_put zero f i lt not_yet = absurd (omega (arith, lt))
+count_put (suc k) f i lt not_yet = dite (ℕ_discrete k i)
+    (λ (e : k ≡ i).
+    let a : put f i true k ≡ true = ap (put f i true) e ∙ put_here f i true in
+    let b = count_past k f i (omega (arith, e)) in
+    let c : f k ≡ false = ap f e ∙ not_yet in
+    omega (arith, ap one_where a, b, ap one_where c))
+    (λ (ne : k ≢ i).
+    let a : put f i true k ≡ f k = put_else f i true k ne in
+    let b = count_put k f i (omega (arith, lt, ne)) not_yet in
+    omega (arith, ap one_where a, b))
+
+module _ (limit seats counter : ℕ) (Wants : ℕ → Type 0) (b : Bounded limit seats counter Wants) where
+  pub bounded : counter ≤ limit + seats
+  bounded = let a = count_le seats b.late in omega (arith, a, b.bound)
+
+  -- a seat finds it below the limit
+  pub finds_below : (i : ℕ) (Now : ℕ → Type 0) → counter < limit → ((j : ℕ) → j ≢ i → Now j → Wants j) → Bounded limit seats counter Now
+  finds_below i Now lt back = record {
+    late = b.late;
+    bound = b.bound;
+    done = λ j e. absurd (omega (arith, lt, b.reached j e));
+    reached = b.reached;
+  }
+
+  -- a seat raises it
+  pub raises : (i : ℕ) (Now : ℕ → Type 0) → i < seats → Wants i → (Now i → ⊥) → ((j : ℕ) → j ≢ i → Now j → Wants j) → Bounded limit seats (counter + 1) Now
+  raises i Now lt wants ends back = dite (dec_le limit counter)
+      (λ (le : limit ≤ counter).
+      let fresh : b.late i ≡ false = not_true (b.late i) (λ e. b.done i e wants) in
+      let more = count_put seats b.late i lt fresh in
+      record {
+        late = put b.late i true;
+        bound = omega (arith, b.bound, more);
+        done = λ j e. dite (ℕ_discrete j i) (λ (q : j ≡ i). λ n. ends (subst Now q n)) (λ (ne : j ≢ i). λ n. b.done j (sym (put_else b.late i true j ne) ∙ e) (back j ne n));
+        reached = λ j e. omega (arith, le);
+      })
+      (λ far.
+      let below : counter < limit = lt_of_not-le far in
+      record {
+        late = b.late;
+        bound = omega (arith, below);
+        done = λ j e. absurd (omega (arith, below, b.reached j e));
+        reached = λ j e. absurd (omega (arith, below, b.reached j e));
+      })
+
+-- no seat is to raise a counter that has 0 or 1
+pub bounded_begin : (limit seats counter : ℕ) (Wants : ℕ → Type 0) → counter ≤ limit → Bounded limit seats counter Wants
+bounded_begin limit seats counter Wants le = record { late = λ i. false; bound = omega (arith, le); done = λ i e. absurd (cc); reached = λ i e. absurd (cc) }

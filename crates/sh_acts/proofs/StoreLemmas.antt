@@ -1,9 +1,9 @@
 -- The stores of a WRITE, one by one.
 use Rattle.std.proofs.{Common.{◌≡◌, ◌≢◌, ◌⊎◌, ℕ, zero, suc, ◌+◌, ◌-◌, ◌<◌, ◌≤◌, List, [], ◌∷◌, length, get_or, set, refl, sym, ap, ◌∙◌, inl, inr, arith, length-set}, lemmas.Bool.{cases_lt}}
 use Rattle.std.proofs.lemmas.List.{get_or-set_same, get_or-set_other}
-use Rattle.sh_base.{specs.{declared.config.ConfigParts.{ConfigParts}, Setting.{node_size}, Layout.{entry_at, entry_rear_at, rear_at}}, proofs.LayoutLemmas.{node_size_is, entry_within, entry_size_is}}
-use Rattle.sh_read.specs.Moments.{Idle, Whole, One, word, IsVersioned, IsWriting, begin_whole, more_whole, end_whole, begin_one, more_one, end_one}
+use Rattle.sh_base.{specs.{declared.config.ConfigParts.{ConfigParts}, Setting.{node_size}, Layout.{entry_at, entry_rear_at, rear_at}}, proofs.LayoutLemmas.{node_size_is, entry_within}}
 use Rattle.sh_read.proofs.Words.{stored, not_stored, inside, outside}
+use Rattle.sh_read.specs.Moments.{Idle, Whole, One, word, IsVersioned, IsWriting, begin_whole, more_whole, end_whole, begin_one, more_one, end_one}
 use Rattle.sh_acts.specs.{Stores.{GoesOn, Ends}, Images.{patched}}
 
 module _ (p : ConfigParts) (level : ℕ) (node new : List ℕ) where

@@ -15,7 +15,7 @@ use Rattle.sh_bulk.specs.{Shape.{leaf_fill, inner_fill, count_in, div_up, first_
 use Rattle.sh_bulk.{specs.{Words.{bulk_words, drawn_of, front_words, level_words, words_to}, Fault.{AreGood, HoldRows}}, proofs.LevelLemmas.{pair_is, pairs_many}}
 use Rattle.sh_bulk.proofs.{PieceLemmas.{length-pieces, piece_cut, AreLong}, RangeLemmas.{all_in_range, different_range, in_range, outside_range}}
 use Rattle.sh_bulk.proofs.RowLemmas.{are_rising, high_last, high_more, low_first, next_last, next_more}
-use Rattle.sh_bulk.proofs.{ShapeLemmas.{covers, first_some, first_up, height_is, leaf_fill_small, some_node, within_need}, TreeLemmas.{inner_lawful, leaf_lawful, leaf_once, leaf_rows, words_long}}
+use Rattle.sh_bulk.proofs.{ShapeLemmas.{covers, first_some, first_up, height_is, leaf_fill_small, some_node, two_parts, within_need}, TreeLemmas.{inner_lawful, leaf_lawful, leaf_once, leaf_rows, words_long}}
 
 -- a part of the front of a list, and of what stands behind its front
 cut_front : (w k : ℕ) (xs ys : List ℕ) → k + w ≤ length xs → take w (drop k (xs ++ ys)) ≡ take w (drop k xs)
@@ -293,11 +293,8 @@ module _ (p : ConfigParts) (lawful : IsSetting p) (rows : List Row) (good : AreG
       let need = need_of p (length rows) in
       let zeros : List ℕ = replicate ((nodes p - need) * node_size p) 0 in
       let step : (need + count_in p (length rows) (height_of p (length rows))) * node_size p ≡ need * node_size p + node_size p = ap (λ c. (need + c) * node_size p) one ∙ grind arith in
-      let parts : need * node_size p + (nodes p - need) * node_size p ≡ nodes p * node_size p = sums need (nodes p) (node_size p) room in
+      let parts : need * node_size p + (nodes p - need) * node_size p ≡ nodes p * node_size p = two_parts need (nodes p) (node_size p) room in
       omega (arith, all, step, parts, length-front p need, length-replicate {A = ℕ} ((nodes p - need) * node_size p) 0, length-append (words_to p rows (height_of p (length rows))) zeros, length-append (front_words p need) (words_to p rows (height_of p (length rows)) ++ zeros))
-    where
-      sums : (a b w : ℕ) → a ≤ b → a * w + (b - a) * w ≡ b * w
-      sums a b w le = let whole : a + (b - a) ≡ b = omega arith in (let both : a * w + (b - a) * w ≡ (a + (b - a)) * w = grind arith in both ∙ ap (λ c. c * w) whole)
 
   root_is : (top : ℕ) → 1 ≤ count_in p (length rows) top → first_in p (length rows) top ≡ first_of (top_of (levels_down p rows top))
   root_is zero some = named 1 (count_in p (length rows) 0) some

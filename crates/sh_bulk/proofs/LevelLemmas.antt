@@ -1,16 +1,16 @@
 -- What the code's places and products come to.
 use Rattle.std.proofs.Common.{◌≡◌, ℕ, zero, suc, ◌+◌, ◌-◌, ◌*◌, ◌<◌, ◌≤◌, List, [], ◌∷◌, ◌++◌, length, get_or, set, take, drop, map, replicate, refl, sym, ap, ◌∙◌, inl, inr, append_assoc, arith}
-use Rattle.std.{specs.{Prelude.{◌/◌, min}, List.{range_with_len, flat_map, AllWithin, HoldsAt}}, proofs.{Math.Nat.{mul-le-mul_left, mul-le-mul_right}, lemmas.Nat.{div-add-mod', div-mul-add}}}
+use Rattle.std.{specs.{Prelude.{◌/◌, min}, List.{range_with_len, flat_map}}, proofs.{Math.Nat.{mul-le-mul_left, mul-le-mul_right}, lemmas.Nat.{div-add-mod', div-mul-add}}}
 use Rattle.std.proofs.lemmas.Bool.{cases_eq, cases_lt}
-use Rattle.std.proofs.lemmas.List.{ext_get_or, get_or-replicate, length-map, length-replicate, length-take, length-drop, drop_all, drop-drop, drop-set-lt, drop-replicate, take_min, replicate_more, replicate-append-replicate}
+use Rattle.std.proofs.lemmas.List.{length-map, length-replicate, length-take, length-drop, drop_all, drop-drop, drop-set-lt, drop-replicate, take_min, replicate_more, replicate-append-replicate}
 use Rattle.std.proofs.lemmas.List.{Concat.{flat_map-append}, FromFn.{map-range_with_len_more, get_or-map-range_with_len, length-map-range_with_len}}
 use Rattle.sh_logic.proofs.Lists.{all_drop, all_take}
-use Rattle.sh_base.specs.{declared.config.ConfigParts.{ConfigParts}, Setting.{entry_size, node_size, IsSetting}, Layout.{entry_at, rear_at}}
+use Rattle.sh_base.{specs.{declared.config.ConfigParts.{ConfigParts}, Setting.{entry_size, node_size, nodes, IsSetting}, Layout.{entry_at, rear_at}}, proofs.LayoutLemmas.{nodes_small}}
 use Rattle.sh_map.specs.{declared.book.Row.{Row}, Map.{row_pair}}
 use Rattle.sh_image.{specs.{Entries.{entry_words}, Inner.{no_pair}, Leaf.{empty_entry, HaveWords}}, proofs.{LeafLemmas.{length-leaf_words}, WriteLemmas.{word_more}}}
 use Rattle.sh_edit.{specs.Splitting.{entry_with}, proofs.HalvesLemmas.{length-entries_from}}
-use Rattle.sh_bulk.specs.{Shape.{count_in, inner_fill, leaf_fill}, Levels.{IsStretch}, Nodes.{inner_of, leaf_of, pair_to, rows_at, taken_by, words_at, HaveValues}}
-use Rattle.sh_bulk.proofs.ShapeLemmas.{among, child_begins, inner_fill_small, leaf_begins, leaf_fill_small}
+use Rattle.sh_bulk.specs.{Shape.{count_in, inner_fill, leaf_fill, need_of}, Levels.{IsLevel, IsStretch}, Nodes.{inner_of, leaf_of, pair_to, rows_at, taken_by, words_at, HaveValues}}
+use Rattle.sh_bulk.{specs.declared.inner.Level.{Level}, proofs.ShapeLemmas.{among, child_begins, first_above, inner_fill_small, leaf_begins, leaf_fill_small, two_parts, within_need}}
 
 -- ---- leaves
 module _ (p : ConfigParts) where
@@ -89,15 +89,6 @@ module _ (p : ConfigParts) where
       let size : to - from ≡ min (leaf_fill p) (length xs) = (let long = length-drop from rows in omega (arith, is, le, long)) in
       ap (λ k. take k xs) size ∙ (take_min (leaf_fill p) xs ∙ ap (λ k. take (leaf_fill p) (drop k rows)) at)
 
--- words that are all 0
-pub all_zero : (xs : List ℕ) (n : ℕ) → length xs ≡ n → AllWithin (λ y. y ≡ 0) xs 0 (n - 1) → (0 < n → HoldsAt (λ y. y ≡ 0) xs (n - 1)) → xs ≡ replicate n 0
-all_zero xs n long before last = ext_get_or 0 xs (replicate n 0) (long ∙ sym (length-replicate {A = ℕ} n 0)) (λ i lt.
-    let inside : i < n = omega (arith, long, lt) in
-    elim (cases_lt i (n - 1)) [
-      | inl less ↦ before i 0 (omega arith) less ∙ sym (get_or-replicate n i 0 0 inside)
-      | inr end ↦ (let same : i ≡ n - 1 = omega arith in ap (λ k. get_or xs k 0) same ∙ (last (omega arith) 0 ∙ sym (get_or-replicate n i 0 0 inside)))
-    ])
-
 -- nothing stands behind a whole list
 pub none_behind : (n : ℕ) (xs : List ℕ) → n ≤ length xs → drop (length xs - n) (drop n xs) ≡ []
 none_behind n xs le = drop_all (length xs - n) (drop n xs) (omega (arith, length-drop n xs))
@@ -134,7 +125,7 @@ run_of p n share start len pos s = go (start / (share * node_size p) * share) re
           | inl lt ↦ lt
           | inr ge ↦ (let row : count_in p n 0 * node_size p ≤ a * node_size p = mul-le-mul_right (node_size p) ge in absurd (omega (arith, row, at, s.within)))
         ] in
-        let rest : count_in p n 0 * node_size p - start ≡ (count_in p n 0 - a) * node_size p = (let whole : a + (count_in p n 0 - a) ≡ count_in p n 0 = omega (arith, below) in (let sums : a * node_size p + (count_in p n 0 - a) * node_size p ≡ (a + (count_in p n 0 - a)) * node_size p = grind arith in omega (arith, at, sums, ap (λ k. k * node_size p) whole))) in
+        let rest : count_in p n 0 * node_size p - start ≡ (count_in p n 0 - a) * node_size p = omega (arith, at, two_parts a (count_in p n 0) (node_size p) (omega (arith, below))) in
         let many : len ≡ min share (count_in p n 0 - a) * node_size p = elim (cases_lt share (count_in p n 0 - a)) [
           | inl lt ↦ (let row : share * node_size p ≤ (count_in p n 0 - a) * node_size p = mul-le-mul_right (node_size p) (omega arith) in (let least : min share (count_in p n 0 - a) ≡ share = omega arith in omega (arith, s.len_is, rest, row) ∙ ap (λ k. k * node_size p) (sym least)))
           | inr ge ↦ (let row : (count_in p n 0 - a) * node_size p ≤ share * node_size p = mul-le-mul_right (node_size p) ge in (let least : min share (count_in p n 0 - a) ≡ count_in p n 0 - a = omega arith in omega (arith, s.len_is, rest, row) ∙ ap (λ k. k * node_size p) (sym least)))
@@ -146,6 +137,21 @@ run_of p n share start len pos s = go (start / (share * node_size p) * share) re
           len_is = many ∙ ap (λ k. k * node_size p) (sym count);
           within = omega (arith, first, count, below);
         }
+
+-- what the code's numbers come to at node j of the level above, where each takes as many nodes as `fill`
+pub record IsOver (p : ConfigParts) (l : Level) (j fill : ℕ) : Type 0 where
+  pub starts : j * fill < l.count
+  pub ends : l.first + l.count + j ≤ nodes p
+  pub number : l.number + 1 < l.first + l.count
+  pub few : nodes p ≤ 8388608
+
+pub over : (p : ConfigParts) (n : ℕ) (l : Level) (j fill : ℕ) → IsSetting p → need_of p n ≤ nodes p → IsLevel p n l → j < count_in p n (suc l.number) → fill ≡ inner_fill p → IsOver p l j fill
+over p n l j fill lawful room is h wide = record {
+  starts = omega (arith, child_begins p lawful n l.number j h, ap (λ f. j * f) wide, is.count_is);
+  ends = omega (arith, within_need p lawful n (suc l.number) (omega (arith, is.below)), is.first_is, is.count_is, room, h);
+  number = omega (arith, first_above p lawful n (suc l.number), is.first_is, is.count_is);
+  few = (nodes_small p lawful).1;
+}
 
 -- where the next inner node begins, and where the level ends
 module _ (p : ConfigParts) (lawful : IsSetting p) (rows : List Row) (level j to : ℕ) where

@@ -1,3 +1,4 @@
+pub mod Complete
 pub mod FillLemmas
 pub mod HoldLemmas
 pub mod LevelLemmas

@@ -10,6 +10,10 @@ pub covers : (n d : ℕ) → 0 < d → (n ≤ div_up n d * d) × (div_up n d * d
 unfolding div_up
 covers n d h = div_ceil_times n d h
 
+-- n pieces in two parts
+pub two_parts : (a b w : ℕ) → a ≤ b → a * w + (b - a) * w ≡ b * w
+two_parts a b w le = let whole : a + (b - a) ≡ b = omega arith in (let both : a * w + (b - a) * w ≡ (a + (b - a)) * w = grind arith in both ∙ ap (λ c. c * w) whole)
+
 -- a place among the pieces begins within n, and any that begins within n is among them
 pub begins : (n d j : ℕ) → 0 < d → j < div_up n d → j * d < n
 begins n d j pos h =

@@ -2,6 +2,7 @@ pub mod Shape
 pub mod Nodes
 pub mod Words
 pub mod Levels
+pub mod Complete
 pub mod Fault
 pub mod Sheet
 pub mod Order

@@ -11,7 +11,7 @@ use crate::workers::build_beside;
 use crate::{BulkFault, Hold};
 use sh_base::Config;
 use sh_map::Row;
-use std::alloc::Global;
+use std::alloc::{AllocError, Global};
 use std::thread::Threads;
 
 /// The words of a pool.
@@ -79,8 +79,22 @@ fn fill<R: Threads + Sync, H: Hold + Sync>(
     ensures { words.new ≡ bulk_words (parts_of cfg.now) rows.now }
 {
     let at = (2 + cfg.parts().servers + cfg.all_locks()) as usize;
-    put_front(cfg, shape.need, &mut words[..at]);
-    fill_nodes(rt, cfg, rows, shape.top, workers, hold, &mut words[at..]);
+    let (front, nodes) = words.split_at_mut(at);
+    put_front(cfg, shape.need, front);
+    fill_nodes(rt, cfg, rows, shape.top, workers, hold, nodes);
+}
+
+// So many zeros, written in blocks: one by one they would take as long as all else.
+fn zeros(alloc: Global, count: usize) -> Result<Words, AllocError>
+    ensures { IfOk result (λ w. w.items ≡ replicate count 0) }
+{
+    let block = vec![in alloc; 0; 4096]?;
+    let mut words = Vec::with_capacity(alloc, count)?;
+    for _ in 0..count / 4096 {
+        words.extend_from_slice(&block)?;
+    }
+    words.extend_from_slice(&block[..count % 4096])?;
+    Ok(words)
 }
 
 /// The memory of good rows.
@@ -107,7 +121,7 @@ pub(crate) fn build_good<R: Threads + Sync, H: Hold + Sync>(
             nodes: u64::from(cfg.nodes()),
         });
     }
-    let Ok(mut words) = vec![in alloc; 0; cfg.words() as usize] else {
+    let Ok(mut words) = zeros(alloc, cfg.words() as usize) else {
         return Err(BulkFault::NoMemory);
     };
     fill(rt, cfg, rows, shape, workers as usize, hold, &mut words);

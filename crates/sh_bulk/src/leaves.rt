@@ -32,6 +32,18 @@ fn put_header(fences: Fences, out: &mut [u64])
     out[5] = 0;
 }
 
+// Writes the words of a value. One word alone costs less than a copy of a slice.
+fn put_value(words: &[u64], out: &mut [u64])
+    requires { length out.old ≡ length words.now }
+    ensures { out.new ≡ words.now }
+{
+    if words.len() == 1 {
+        out[0] = words[0];
+    } else {
+        out.copy_from_slice(words);
+    }
+}
+
 // Writes the words of a row's entry.
 fn put_entry(row: &Row, out: &mut [u64])
     requires { length out.old ≡ 3 + length row.now.value }
@@ -40,7 +52,7 @@ fn put_entry(row: &Row, out: &mut [u64])
     let rear = out.len() - 1;
     out[0] = 0;
     out[1] = row.key;
-    out[2..rear].copy_from_slice(row.value.words());
+    put_value(row.value.words(), &mut out[2..rear]);
     out[rear] = 0;
 }
 

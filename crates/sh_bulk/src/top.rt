@@ -37,6 +37,7 @@ fn built_line(alloc: Global, need: u64, rows: u64) -> Result<String, AllocError>
 }
 
 // Writes the line of what was built.
+#[tactic(auto, unfolding(crate::specs::Top::built_line))]
 fn write_line<K: Sink>(
     alloc: Global,
     cfg: &Config,

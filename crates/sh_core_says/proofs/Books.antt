@@ -1,21 +1,84 @@
--- The book of the actors' calls is lawful.
-use Rattle.std.proofs.Common.{◌≡◌, ◌≢◌, ◌⊎◌, ℕ, ◌+◌, ◌≤◌, Bool, true, false, cond, List, [], ◌∷◌, ◌++◌, length, get_or, Some, None, refl, sym, ap, ◌∙◌, subst, inl, inr, arith, length-append, eq-eqb, eqb-true}
-use Rattle.std.{specs.{Prelude.{◌==◌, ◌↔◌, map, slice_get, All, AllPairs, Any}, List.{AllByRecursion}}, proofs.lemmas.List.{Elements.{All-cons, All-weaker}, Kept.{AllPairs-cons}}}
-use Rattle.std.proofs.lemmas.Option.{slice_get-get_or}
+-- The entry of a call under way; the book of all calls; and the causes of refusals.
+use Rattle.std.proofs.Common.{◌≡◌, ◌⊎◌, ℕ, List, [], Option, Some, refl, subst, inl, inr, ◌≢◌, ◌+◌, ◌≤◌, Bool, true, false, cond, ◌∷◌, ◌++◌, length, get_or, None, sym, ap, ◌∙◌, arith, length-append}
+use Rattle.std.{proofs.{Common.{eq-eqb, eqb-true, append-nil}, lemmas.{List.{Elements.{All-cons, All-weaker}, Kept.{AllPairs-cons}}, Option.{slice_get-get_or}}}, specs.List.{AllByRecursion}}
+use Rattle.std.specs.Prelude.{◌==◌, ◌↔◌, map, slice_get, All, AllPairs, Any}
+use Rattle.sh_base.specs.{declared.config.ConfigParts.{ConfigParts}, Places.{Counter}}
+use Rattle.sh_map.specs.{Book.{Answers, AnswersAt, IsLastOfSeat, IsLater, IsOwn, made_entry, made}, Laws.{places_of}, Made.{entries_by}, declared.{book.Done.{Done}, call.{Call.{Call}, Reply.{Reply}}}}
+use Rattle.sh_map.specs.declared.log.Entry.{Entry as LogEntry, Entry}
+use Rattle.sh_state.specs.TreeState.{TreeState}
+use Rattle.sh_decide.specs.declared.state.{Posting.{Posting}, Aim.{TheVariants.{Own, Gathers, Posts}, Aim}}
+use Rattle.sh_client.specs.{Machine.{Registers}, Rests.{is_resting}, declared.state.{Filling.TheVariants.{RightHalf, NewRoot}, Need.TheVariants.{ToSplit, ToGrow}, Phase.{Phase}, Then.{Then}}}
+use Rattle.sh_client.specs.declared.state.{Phase.TheVariants.{Root, Read, Draw, Look, Grab, ReadLocked, Seek, Fill, Waiting, Body, Unlock, Leave, Swap}, Then.TheVariants.{Ends, Starts, Takes}}
+use Rattle.sh_client.specs.declared.state.Write.{TheVariants.{Nothing, LeftLeaf, Inner as WholeInner, LeftInner}, Write}
+use Rattle.sh_core.{proofs.{Causes.{causes_on}, Frame.{nothing_left}}, specs.{Actors.{Actor, AreAnswered, AreInOrder, updates}, Causes.{HasCause, HaveCauses}, Core.{Inv}}}
+use Rattle.sh_core.specs.{Fits.{HasEntry, IsDecided, Owes, duty_of, PlansHalf, Plans, Follows, Fits}, Keeps.{pending_aim, pending_then, pending_write, pending, KeepsActor}}
 use Rattle.sh_logic.proofs.Lists.{all_join}
-use Rattle.sh_base.specs.declared.config.ConfigParts.{ConfigParts}
-use Rattle.sh_map.specs.{declared.{call.{Call.{Call}, Reply.{Reply}}, log.Entry.{Entry}, book.Done.{Done}}, Made.{entries_by}}
-use Rattle.sh_map.specs.{Book.{Answers, AnswersAt, IsLastOfSeat, IsLater, IsOwn, made_entry, made}, Laws.{places_of}}
+use Rattle.sh_tree.{specs.Lists.{is_in, AreDifferent}, proofs.ListLemmas.{in_cases, outside_all}}
+use Rattle.sh_core_says.proofs.Points.{points, points_numbered, points_long, points_in, points_differ, places_differ, places_long, place_in, points_stand, all_named, any_own}
+use Rattle.sh_core_says.proofs.Trees.{different_join, in_joined}
+use Rattle.sh_core_says.specs.Books.{calls_by, numbered, IsBookOf, IsOfCall, IsLawfulBook, BooksAreLawful, HasAnswers, CallsAreAnswered, counter_in, RefusalsHaveCauses}
 use Rattle.sh_map.specs.declared.call.Call.TheVariants as call
 use Rattle.sh_map.specs.declared.call.Reply.TheVariants as reply
 use Rattle.sh_map.specs.declared.log.Change.TheVariants as change
-use Rattle.sh_tree.{specs.Lists.{is_in, AreDifferent}, proofs.ListLemmas.{in_cases, outside_all}}
-use Rattle.sh_core_says.{proofs.Levels.{different_join, in_joined}, specs.Books.{calls_by, numbered, IsBookOf, IsOfCall, IsLawfulBook, BooksAreLawful, HasAnswers, CallsAreAnswered}}
-use Rattle.sh_core_says.proofs.Pending.{pending_stands}
-use Rattle.sh_core_says.proofs.Points.{points, points_numbered, points_long, points_in, points_differ, places_differ, places_long, place_in, points_stand, all_named, any_own}
-use Rattle.sh_state.specs.TreeState.{TreeState}
-use Rattle.sh_client.specs.Rests.{is_resting}
-use Rattle.sh_core.{specs.{Actors.{Actor, AreAnswered, AreInOrder, updates}, Fits.{HasEntry}, Keeps.{pending, KeepsActor}, Core.{Inv}}, proofs.Frame.{nothing_left}}
+
+module _ (p : ConfigParts) (s : TreeState) (i f q e : ℕ) (c : Call) (r : Reply) where
+  -- no entry is made yet, or it stands
+  abbrev pub MayStand : List LogEntry → Type 0
+  MayStand es = (es ≡ []) ⊎ ((es ≡ entries_by i c r) × HasEntry s.log i f q e c r)
+
+decided : (p : ConfigParts) (s : TreeState) (i f q e : ℕ) (c : Call) (r : Reply) → IsDecided p s i f q e c r → MayStand p s i f q e c r (entries_by i c r)
+decided p s i f q e (call.Put key value) (reply.Some old) h = inr (refl, h)
+decided p s i f q e (call.Put key value) reply.None h = inr (refl, h)
+decided p s i f q e (call.Del key) (reply.Some old) h = inr (refl, h)
+decided p s i f q e c r h = inl refl
+
+module _ (p : ConfigParts) (s : TreeState) (i f q e : ℕ) (r : Registers) (duty : Option Posting) (o : Owes s i f q e r.call r.reply duty) where
+  abbrev May : List LogEntry → Type 0
+  May es = MayStand p s i f q e r.call r.reply es
+
+  posted : (post : Posting) → duty ≡ Some post → May (entries_by i r.call r.reply)
+  posted post is = let k = subst (Owes s i f q e r.call r.reply) is o in inr (refl, k.entry)
+
+  aimed : (aim : Aim) → duty ≡ duty_of aim → May (pending_aim i r.call r.reply aim)
+  aimed Own is = inl refl
+  aimed (Gathers place) is = inl refl
+  aimed (Posts post) is = posted post is
+
+  followed : (after : Then) → Follows p s i f q e r.call r.reply duty after → May (pending_then i r.call r.reply after)
+  followed Ends h = decided p s i f q e r.call r.reply h.decided
+  followed (Starts aim) h = aimed aim h.duty_is
+  followed (Takes aim n) h = aimed aim h.duty_is
+
+  halves : (n fresh : ℕ) (write : Write) (after : Then) → PlansHalf p s i r fresh n write after duty → May (pending_write i r.call r.reply write after)
+  halves n fresh LeftLeaf after h = inl refl
+  halves n fresh LeftInner after h = posted _ h.plan.duty_is
+  halves n fresh write after h = absurd h
+
+  plans : (n : ℕ) (write : Write) (after : Then) → Plans p s i f q e r n write after duty → May (pending_write i r.call r.reply write after)
+  plans n Nothing after h = followed after h
+  plans n WholeInner after h = posted _ h.plan.duty_is
+  plans n LeftInner after h = posted _ h.half.plan.duty_is
+  plans n write after h = inl refl
+
+  pub pending_stands : (ph : Phase) → Fits p s i f q e r duty ph → May (pending i r ph)
+  pending_stands (Root aim) h = aimed aim h.duty_is
+  pending_stands (Read aim top) h = aimed aim h.duty_is
+  pending_stands (Draw aim n) h = aimed aim h.duty_is
+  pending_stands (Look aim n) h = aimed aim h.duty_is
+  pending_stands (Grab aim n) h = aimed aim h.duty_is
+  pending_stands (ReadLocked aim d) h = aimed aim h.holds.at.duty_is
+  pending_stands (Seek (ToSplit aim d)) h = aimed aim h.needs.holds.at.duty_is
+  pending_stands (Seek (ToGrow post root)) h = posted post h.needs.duty_is
+  pending_stands (Fill fresh done (RightHalf d giving)) h = halves giving.node fresh giving.write giving.after h.fills.half
+  pending_stands (Fill fresh done (NewRoot post root)) h = posted post h.fills.below.duty_is
+  pending_stands (Waiting d giving) h = plans giving.node giving.write giving.after h.plans
+  pending_stands (Body carry done giving) h = plans giving.node giving.write giving.after h.plans
+  pending_stands (Unlock n after) h = followed after h.follows
+  pending_stands (Leave n carry after) h = followed after h.follows
+  pending_stands (Swap post root fresh) h = posted post h.below.duty_is
+  pending_stands ph h = inl refl
+
+-- ---- the book of the actors' calls is lawful
 
 -- ---- ended calls, whatever their numbers
 
@@ -227,3 +290,29 @@ books_are_lawful p words log Has Out dones inv book = subst (λ (es : List Entry
 
 pub calls_are_answered : (p : ConfigParts) → CallsAreAnswered p
 calls_are_answered p words log Has Out seat a inv h = let k = inv.kept seat a h in subst (λ (es : List Entry). HasAnswers es seat a) inv.log_is record { answered = k.answered; ordered = k.ordered; first = k.first; seen = k.seen }
+
+-- ---- each refusal in the book of the actors' calls has its cause
+
+-- what holds of each seat's calls holds of all
+all_calls : (P : Done → Type 0) (ds : List Done) → ((seat : ℕ) → AllByRecursion P (calls_by seat ds)) → AllByRecursion P ds
+all_calls P [] h = tt
+all_calls P (d ∷ ds) h = ((subst (λ (t : Bool). AllByRecursion P (cond t (d ∷ calls_by d.seat ds) (calls_by d.seat ds))) (eq-eqb d.seat d.seat refl) (h d.seat)).0, all_calls P ds (λ seat. tail seat (d.seat == seat) (h seat)))
+  where
+    tail : (seat : ℕ) (t : Bool) → AllByRecursion P (cond t (d ∷ calls_by seat ds) (calls_by seat ds)) → AllByRecursion P (calls_by seat ds)
+    tail seat true k = k.1
+    tail seat false k = k
+
+pub refusals_have_causes : (p : ConfigParts) → RefusalsHaveCauses p
+refusals_have_causes p words log Has Out dones inv book = all_calls (λ (d : Done). HasCause p c log d.first d.point d.rows d.call d.reply) dones of_seat
+  where
+    c : ℕ → ℕ
+    c = counter_in p words
+
+    of_seat : (seat : ℕ) → HaveCauses p c log (calls_by seat dones)
+    of_seat seat = elim (seat_of p words log Has Out dones inv book dones book.seats seat) [
+      | inl none ↦ subst (HaveCauses p c log) (sym none) tt
+      | inr h ↦
+          let k = inv.kept seat h.0 h.1 in
+          let own = causes_on p inv.scene.counter c (λ server lt. omega (arith, inv.ground.shows.each (Counter server) lt)) inv.scene.log [] log (sym inv.log_is ∙ sym (append-nil inv.scene.log)) seat h.0.dones k.answered k.causes in
+          all_numbered (λ (d : Done). HasCause p c log d.first d.point d.rows d.call d.reply) (λ n d k. k) h.0.dones (calls_by seat dones) (sym (book.own seat h.0 h.1)) own
+    ]

@@ -1,10 +1,5 @@
-pub mod Levels
-pub mod Counts
 pub mod Trees
-pub mod Pending
 pub mod Points
 pub mod Books
-pub mod Refusals
-pub mod Owners
 pub mod Moments
 pub mod AtRest

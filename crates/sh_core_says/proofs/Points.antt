@@ -5,7 +5,7 @@ use Rattle.sh_map.specs.{declared.{call.{Call.{Call}, Reply.{Reply}}, log.Entry.
 use Rattle.sh_map.specs.declared.call.Call.TheVariants as call
 use Rattle.sh_map.specs.declared.call.Reply.TheVariants as reply
 use Rattle.sh_tree.{specs.Lists.{is_in, outside, AreDifferent}, proofs.ListLemmas.{in_head, in_more, in_cases}}
-use Rattle.sh_core_says.{proofs.Levels.{not_in}, specs.Books.{calls_by, numbered}}
+use Rattle.sh_core_says.{proofs.Trees.{not_in}, specs.Books.{calls_by, numbered}}
 use Rattle.sh_core.specs.Actors.{AreAnswered, AreInOrder, made_by, updates}
 
 -- where so many entries were made, their point

@@ -12,7 +12,7 @@ use Rattle.sh_readers.{specs.Hand.{AreRowsOf, IsNamed}, proofs.{HandLemmas.{down
 use Rattle.sh_decide.specs.{declared.state.Aim.TheVariants.{Own}, Aims.{aim_of, aimed_key, call_key, takes_lock, target}}
 use Rattle.sh_client.specs.{declared.state.{Origin.{Origin}, Phase.TheVariants.{Read, Draw}}, Machine.{Machine, began_cached, reading, to}, Cached.{origin_in}}
 use Rattle.sh_client.specs.{Feeds.{began_at, begun, calling, from_cached, rows_before}, Rests.{rests}}
-use Rattle.sh_core.specs.{Actors.{actor_begun, rested, updates}, Fits.{AreSpares, Fits, Gathered, duty_of}, Keeps.{Hands, Skips, Waits, holding, pending, pending_aim, skips_counted}}
+use Rattle.sh_core.specs.{Actors.{actor_begun, made_by, rested, updates}, Fits.{AreSpares, Fits, Gathered, duty_of}, Keeps.{Hands, IsAtWork, Skips, Waits, holding, pending, pending_aim, skips_counted}}
 use Rattle.sh_core.{specs.Core.{Inv, BeginKeeps, RestKeeps}, proofs.{Logs.{in_order_later}, Frame.{IsCalm, nothing_left, before, moves_to}}}
 
 -- What a client is that has begun a call: at the root, or at the child of a cached node.
@@ -135,23 +135,6 @@ module _ (p : ConfigParts) (ok : IsSetting p) where
       let k = inv.kept i a h in
       let w = k.work in
       let no = nothing_left p s i a.first a.point a.seen a.client.registers w.duty a.client.phase (ap rests ended) w.fits in
-      subst (λ (es : List LogEntry). Inv p words es Now Out) inv.log_is
-      (moves_to p ok words Has Now Out i s (before p words log Has Out inv) words s (rested a) (nothing_done p (λ o. o ≢ Seat i) s, inv.ground) record {
-        work = record {
-          seated = w.seated;
-          duty = w.duty;
-          fits = no.none;
-          owes = w.owes;
-          hands = subst (Hands s i) no.free w.hands;
-          waits = w.waits;
-          spares = w.spares;
-          cached = w.cached;
-          skips = w.skips;
-        };
-        seen = k.seen;
-        first = k.first;
-        answered = k.answered;
-        causes = k.causes;
-        ordered = k.ordered;
-        mine = k.mine ∙ ap (λ (es : List LogEntry). updates a.dones ++ es) no.made;
-      } (λ server. refl) tt mv)
+      let work : IsAtWork p s i a.first a.point a.seen (rested a).client = record { seated = w.seated; duty = w.duty; fits = no.none; owes = w.owes; hands = subst (Hands s i) no.free w.hands; waits = w.waits; spares = w.spares; cached = w.cached; skips = w.skips } in
+      let mine : made_by i s.log ≡ updates a.dones ++ [] = k.mine ∙ ap (λ (es : List LogEntry). updates a.dones ++ es) no.made in
+      subst (λ (es : List LogEntry). Inv p words es Now Out) inv.log_is (moves_to p ok words Has Now Out i s (before p words log Has Out inv) words s (rested a) (nothing_done p (λ o. o ≢ Seat i) s, inv.ground) (assumption (work, mine, k)) (λ server. refl) tt mv)

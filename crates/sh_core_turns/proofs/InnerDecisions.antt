@@ -13,8 +13,8 @@ use Rattle.sh_client.specs.declared.state.{Need.TheVariants.{ToSplit}, Tally.{Ta
 use Rattle.sh_client.specs.{declared.state.Phase.TheVariants.{ReadLocked, Waiting}, Machine.{Machine, Registers, up}, Bodies.{pair_of}, Feeds.{did}, Splitting.{giving_of}}
 use Rattle.sh_core.{specs.{Actors.{Actor}, Fits.{IsPosting, IsToSplit, Owes, PlansInner}, Keeps.{KeepsActor}}, proofs.Others.{owes_on}}
 use Rattle.sh_core.proofs.Frame.{Before, Claim, actor_in, at, moves_to, next, one_log, quiet_with, same_grows, same_here}
-use Rattle.sh_core_turns.proofs.{Skipping.{keeps_skipped, skips_act, worn_more}, UnderLock.{calm, kept, Feeds, Lands, M, locked_read, rd, real}, LeafDecisions.{own_here}}
-use Rattle.sh_core_turns.proofs.{InnerHalves.{IsFor, adds, decides, post_below}, FreshNodes.{needs_land}}
+use Rattle.sh_core_turns.proofs.{FreshNodes.{IsFor, adds, decides, post_below, needs_land}, LeafDecisions.{own_here}, Posts.{keeps_skipped, skips_act, worn_more}}
+use Rattle.sh_core_turns.proofs.UnderLock.{calm, kept, Feeds, Lands, M, locked_read, rd, real}
 
 module _ (p : ConfigParts) (ok : IsSetting p) (words : List ℕ) (Has Now : ℕ → Actor → Type 0) (Out : ℕ → ℕ → ℕ → Type 0) (i : ℕ) (s : TreeState) (b : Before p words Has Out s) (a : Actor) (r : Registers) (post : Posting) (depth : ℕ)
     (k : KeepsActor p s i (actor_in p i a r (ReadLocked (Posts post) depth))) where

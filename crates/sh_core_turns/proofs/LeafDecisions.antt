@@ -13,7 +13,7 @@ use Rattle.sh_decide.specs.declared.state.Decision.TheVariants as decision
 use Rattle.sh_client.specs.declared.state.{Need.TheVariants.{ToSplit}, Then.TheVariants.{Ends}, Write.{Write, TheVariants.{Nothing, Entry, Leaf as WholeLeaf}}, Phase.TheVariants.{ReadLocked, Waiting}}
 use Rattle.sh_client.specs.{Machine.{Machine, Registers}, Bodies.{entry_left}, Feeds.{did}, Splitting.{giving_of}}
 use Rattle.sh_core.{specs.{Actors.{Actor}, Fits.{IsToSplit, Owes, Plans}, Keeps.{KeepsActor, pending_write}}, proofs.Frame.{Before, actor_in, at, quiet_with}}
-use Rattle.sh_core_turns.proofs.{UnderLock.{Lands, M, rd, real, restarts}, LeafHalves.{Decided, answers, covers, own_below}, FreshNodes.{needs_land}}
+use Rattle.sh_core_turns.proofs.{UnderLock.{Lands, M, rd, real, restarts}, FreshNodes.{Decided, answers, covers, own_below, needs_land}}
 
 module _ (p : ConfigParts) (ok : IsSetting p) (words : List ℕ) (Has Now : ℕ → Actor → Type 0) (Out : ℕ → ℕ → ℕ → Type 0) (i : ℕ) (s : TreeState) (b : Before p words Has Out s) (a : Actor) (r : Registers) (depth : ℕ)
     (k : KeepsActor p s i (actor_in p i a r (ReadLocked Own depth))) where

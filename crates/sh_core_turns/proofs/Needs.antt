@@ -15,8 +15,8 @@ use Rattle.sh_client.specs.{declared.state.Tally.{Tally}, Machine.{Machine, Regi
 use Rattle.sh_client.specs.declared.state.Want.TheVariants as want
 use Rattle.sh_core.specs.{Actors.{Actor, becomes}, Fits.{AreSpares, AreSpent, IsDecided, IsSeeking, Owes}, Keeps.{need_lock, pending, Hands, IsAtWork, KeepsActor}, Core.{WantsAdd}}
 use Rattle.sh_core.proofs.{Others.{Grows, owes_on}, Frame.{next, actor_in, at, goes_on, same_grows, work_anew, work_with, Before, SameNodes}}
-use Rattle.sh_core_turns.proofs.{Spares.{IsTaken, takes_lowest}, Skipping.{spent_more, skips_act, keeps_ended, keeps_skipped}, LeafHalves.{SplitsFor, leaf_to_split, put_misses}}
-use Rattle.sh_core_turns.proofs.FreshNodes.{begins, hands_same, need_lock_is, needs_on}
+use Rattle.sh_core_turns.proofs.FreshNodes.{IsTaken, takes_lowest, SplitsFor, leaf_to_split, put_misses, begins, hands_same, need_lock_is, needs_on}
+use Rattle.sh_core_turns.proofs.Posts.{spent_more, skips_act, keeps_ended, keeps_skipped}
 
 pub event_is : (x y : Event) → want.Event x ≡ want.Event y → x ≡ y
 event_is x y e = cc

@@ -22,9 +22,8 @@ use Rattle.sh_client.specs.{declared.state.{Need.TheVariants.{ToGrow}, Phase.{Ph
 use Rattle.sh_client.specs.{Cached.{image_kept, settled}, Ranges.{is_whole, passing, rows_taken}, Rests.{rows_for}, Feeds.{read_by, arrived, went}, Splitting.{root_grown}}
 use Rattle.sh_core.specs.{Actors.{Actor, becomes, ending}, Fits.{Gathered, HasGathered, IsBelow, IsOnWay, IsThere, HasRead, Reaches, duty_of}, Causes.{HasCause}, Keeps.{pending_aim, KeepsActor}}
 use Rattle.sh_core.{specs.Core.{Inv, Moves}, proofs.{Causes.{ends_by_rows}, Frame.{Before, Claim, IsEnding, SameCall, actor_in, at, ends_now, one_log, quiet, same_here, stays, work_ended}}}
-use Rattle.sh_core_turns.{specs.Senses.{is_range, lacks_answer, of_image, of_read, strays, strays_beyond, strays_by}, proofs.Learning.{learns}}
-use Rattle.sh_core_turns.proofs.{Standing.{aim_key, gathered_as, hop_leads, is_lt, names_node, not_lt, place_key, whole_accepted}, Images.{IsSeenLeaf, more_known, seen_leaf, seen_inner}}
-use Rattle.sh_core_turns.proofs.FreshNodes.{needs_land}
+use Rattle.sh_core_turns.{proofs.FreshNodes.{needs_land}, specs.Senses.{is_range, lacks_answer, of_image, of_read, strays, strays_beyond, strays_by}}
+use Rattle.sh_core_turns.proofs.Standing.{learns, aim_key, gathered_as, hop_leads, is_lt, names_node, not_lt, place_key, whole_accepted, IsSeenLeaf, more_known, seen_leaf, seen_inner}
 
 differ : (a b : ℕ) → (a == b) ≡ false → a ≢ b
 differ a b e = grind (arith, nat_tests)

@@ -3,7 +3,7 @@ use Rattle.std.proofs.Common.{◌≡◌, ◌≢◌, ℕ, ◌<◌, ◌≤◌, Lis
 use Rattle.sh_base.specs.{declared.config.ConfigParts.{ConfigParts}, Setting.{all_seats, IsSetting}}
 use Rattle.sh_map.specs.declared.log.Entry.{Entry as LogEntry}
 use Rattle.sh_state.{specs.TreeState.{Skipped, Seat, TreeState}, proofs.{Puts.{put_case}, Joins.{nothing_done}}}
-use Rattle.sh_acts.{specs.Laid.{none_drawn, laid_scene}, proofs.{LaidLemmas.{laid_ground}, Late.{bounded_begin}}}
+use Rattle.sh_acts.{specs.Laid.{none_drawn, laid_scene}, proofs.Own.{laid_ground, bounded_begin}}
 use Rattle.sh_core.{specs.{Actors.{made_by}, Keeps.{Hands, Waits, KeepsActor}, Core.{SomeAdds, Inv}, Opening.{entered, LaidKeeps, EnterKeeps}}, proofs.Frame.{before, moves_to}}
 
 -- at a seat where nothing was done nothing is left to do

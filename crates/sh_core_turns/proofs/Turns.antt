@@ -6,7 +6,7 @@ use Rattle.sh_state.specs.TreeState.{TreeState}
 use Rattle.sh_client.specs.declared.state.Want.TheVariants as want
 use Rattle.sh_client.specs.{declared.state.Phase.{Phase, TheVariants.{Root, Read, Grab, ReadLocked, Seek, Fill, Body, Unlock, Swap}}, Machine.{Registers}, Giving.{makes}, Wants.{want_in, want_of}}
 use Rattle.sh_core.{specs.{Actors.{Actor, actor_stepped}, Core.{Inv, Moves, TurnKeeps}}, proofs.Frame.{actor_is, at, before, Before, Claim}}
-use Rattle.sh_core_turns.proofs.{Standing.{load_is}, Locks.{grab, unlock, root}, OnWay.{read_claim}, InnerDecisions.{locked_claim}, OwnStores.{fill}, Roots.{swap}, BodyEnds.{body}, Needs.{event_is}}
+use Rattle.sh_core_turns.proofs.{BodyEnds.{body}, FreshNodes.{fill}, InnerDecisions.{locked_claim}, Needs.{event_is}, OnWay.{read_claim}, Posts.{swap}, Standing.{grab, unlock, root, load_is}}
 use Rattle.sh_core_turns.proofs.Walking.{seek}
 
 module _ (p : ConfigParts) (ok : IsSetting p) (words : List ℕ) (Has Now : ℕ → Actor → Type 0) (Out : ℕ → ℕ → ℕ → Type 0) (seat : ℕ) (s : TreeState) (b : Before p words Has Out s) (a : Actor) (r : Registers) where

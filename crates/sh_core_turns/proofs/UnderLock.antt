@@ -13,8 +13,8 @@ use Rattle.sh_decide.specs.declared.state.Decision.TheVariants as decision
 use Rattle.sh_client.specs.{declared.state.{Then.{Then, TheVariants.{Starts, Takes}}, Write.TheVariants.{Nothing}, Phase.{Phase, TheVariants.{ReadLocked, Waiting}}}, Machine.{Machine, Registers, up}}
 use Rattle.sh_client.specs.{Feeds.{did, held_by, hold_by}, Cached.{settled}, Splitting.{giving_of}}
 use Rattle.sh_core.{specs.{Actors.{Actor, becomes}, Fits.{AreLast, Follows}, Keeps.{pending_aim, pending_then, KeepsActor}, Core.{Inv, Moves}}, proofs.Frame.{Before, SameCall, actor_in, at, quiet}}
-use Rattle.sh_core_turns.{specs.Senses.{is_wrong, is_wrong_by, of_image, of_read}, proofs.Learning.{settles}}
-use Rattle.sh_core_turns.proofs.Standing.{StandsWell, aim_key, hop_leads, is_lt, names_node, not_lt, standing_accepted, standing_image, stands_well, can_lock, locked_key}
+use Rattle.sh_core_turns.proofs.Standing.{settles, StandsWell, aim_key, hop_leads, is_lt, names_node, not_lt, standing_accepted, standing_image, stands_well, can_lock, locked_key}
+use Rattle.sh_core_turns.specs.Senses.{is_wrong, is_wrong_by, of_image, of_read}
 
 module _ (p : ConfigParts) (ok : IsSetting p) (words : List ℕ) (Has Now : ℕ → Actor → Type 0) (Out : ℕ → ℕ → ℕ → Type 0) (i : ℕ) (s : TreeState) (b : Before p words Has Out s) (a : Actor) (r : Registers) (aim : Aim) (depth : ℕ)
     (K : KeepsActor p s i (actor_in p i a r (ReadLocked aim depth))) where

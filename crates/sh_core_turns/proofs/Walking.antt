@@ -9,7 +9,7 @@ use Rattle.sh_alloc.specs.declared.state.{Phase.{Phase as Step, TheVariants.{Loa
 use Rattle.sh_alloc.specs.Walks.{walk_at, with_phase, server_at, walk_next, walk_fed_in, walk_wants_in as walk_want_in, walk_wants}
 use Rattle.sh_alloc.specs.declared.state.ChunkWant.TheVariants as chunk
 use Rattle.sh_state.{specs.TreeState.{Seat, TreeState}, proofs.{Puts.{put_here, put_case}, Joins.{nothing_done}}}
-use Rattle.sh_acts.{specs.Counters.{Bounded}, proofs.{Events.{added}, Late.{bounded, finds_below, raises}, Own.{draw_act, spent_act}}}
+use Rattle.sh_acts.{specs.Counters.{Bounded}, proofs.{Events.{added}, Own.{bounded, finds_below, raises, draw_act, spent_act}}}
 use Rattle.sh_client.specs.{declared.state.{Need.{Need}, Phase.{Phase, TheVariants.{Seek}}}, Machine.{Registers}, Wants.{count_of}}
 use Rattle.sh_client.specs.declared.state.Want.TheVariants as want
 use Rattle.sh_core.specs.{Actors.{Actor}, Fits.{AreSpent, ArePassed, IsSeeking}, Keeps.{KeepsActor}, Core.{WantsAdd, SomeAdds, Inv, Moves}}

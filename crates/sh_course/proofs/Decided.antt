@@ -1,19 +1,28 @@
--- What a decision under the lock says of the image that it is taken by.
-use Rattle.std.proofs.Common.{rules, ◌≡◌, ℕ, ◌*◌, ◌<◌, ◌≤◌, Bool, true, false, cond, Option, Some, None, List, [], length, refl, sym, subst, ap, ◌∙◌, arith}
-use Rattle.std.{specs.Prelude.{nat_lt, nat_le, ◌==◌, ◌||◌}, proofs.lemmas.Bool.Decides.{nat_tests}}
-use Rattle.sh_logic.proofs.Tests.{is_lt, not_le, not_lt}
-use Rattle.sh_base.specs.{declared.config.ConfigParts.{ConfigParts}, Setting.{last_version, last_entry_version}}
-use Rattle.sh_map.specs.declared.call.Call.{Call, TheVariants.{Get, Put, Del, Range}}
-use Rattle.sh_image.specs.{Leaf.{Leaf}, Inner.{Inner}, declared.inner.Image.{Image, TheVariants.{Leaf as LeafImage, Inner as InnerImage}}}
-use Rattle.sh_descend.specs.{Descent.{child_of, hop_of}, declared.Hop.{Hop, TheVariants.{Here, Right as HopRight, Down, Restart as HopRestart}}}
-use Rattle.sh_decide.specs.declared.state.{Posting.{Posting}, Aim.{Aim, TheVariants.{Own, Gathers, Posts}}, Decision.{Decision, TheVariants.{Restart, Right, Entry, Rewrite, Worn, Split, Skip, Add}}}
-use Rattle.sh_decide.specs.{Aims.{aimed_key, call_key, is_node, target}, Leaves.{are_keys_once, index_of, version_at}}
-use Rattle.sh_decide.specs.Deciding.{change_at, decided_by, decided_here, decision_of, has_separator, post_in, put_in, put_into, del_in, unless_worn, update_in}
-use Rattle.sh_course.specs.{Skips.{IsWornAt}, Causes.{put_slot, slot_of, IsFull, IsLeafFor, IsWorn, NeedsNode}}
+-- What a decision under the lock says of its image; and the nodes that a client has in hand are nodes of the setting, since each
+-- number was tested when it was found, and a lock is taken for an update or a post alone.
+use Rattle.std.{proofs.Common.{rules, ◌≡◌, ℕ, ◌<◌, ◌≤◌, Bool, true, false, cond, Option, Some, None, List, [], refl, sym, subst, ap, ◌∙◌, arith, ◌+◌}, specs.List.{AllByRecursion}}
+use Rattle.std.{proofs.lemmas.Bool.Decides.{nat_tests}, specs.{Option.{option_map}, Prelude.{nat_lt, nat_le, ◌==◌, ◌||◌, ◌&&◌}}}
+use Rattle.sh_logic.proofs.Tests.{is_lt, less_test, not_less_test, not_lt, at_most_test, true_and}
+use Rattle.sh_base.specs.{Setting.{last_version, last_entry_version, IsNode}, declared.config.ConfigParts.{ConfigParts}}
+use Rattle.sh_map.specs.declared.call.Call.{Call, TheVariants.{Put, Del}}
+use Rattle.sh_image.specs.{Inner.{Inner, Inner as InnerOf, IsInner}, Leaf.{Leaf}, declared.{inner.Image.{Image, TheVariants.{Leaf as LeafImage, Inner as InnerImage}}, read.Seen.{Seen}}}
+use Rattle.sh_descend.{proofs.ChildLemmas.{child_is_node}, specs.{Descent.{child_of, hop_of, level_of}, declared.Hop.{Hop, TheVariants.{Here, Right as HopRight, Down, Restart as HopRestart}}}}
+use Rattle.sh_decide.specs.{Aims.{aimed_key, call_key, is_node, target, aim_of, takes_lock}, declared.state.Decision.TheVariants.{Absent, Restart, Right, Entry, Rewrite, Worn, Split, Skip, Add}}
+use Rattle.sh_decide.specs.{Deciding.{change_at, decided_by, decided_here, decision_of, put_in, put_into, del_in, unless_worn, update_in}, Leaves.{version_at}}
+use Rattle.sh_decide.specs.{Ways.{way_by, way_here, way_of}, declared.state.{Aim.{Aim, TheVariants.{Own, Gathers, Posts}}, Decision.{Decision}, Posting.{Posting}, Way.{Way}}}
+use Rattle.sh_course.specs.{Causes.{put_slot, slot_of, IsFull, IsLeafFor, IsWorn, NeedsNode}, Skips.{IsWornAt}}
+use Rattle.sh_alloc.specs.{Walks.{walk_fed, walk_wants}, declared.state.ChunkWant.{ChunkWant}}
+use Rattle.sh_cache.{proofs.FindLemmas.{covers_fences, found_covers, found_has}, specs.Cached.{found}}
+use Rattle.sh_read.specs.{Reads.{progress_of, read_fed, reads_left, Reads}, declared.state.Progress.{Progress}}
+use Rattle.sh_client.specs.{Cached.{origin_in, settling}, Ranges.{gathered}, declared.state.Phase.{Phase, TheVariants.{Read, Draw, Look, Grab, ReadLocked, Seek, Fill, Waiting, Body, Unlock, Leave}}}
+use Rattle.sh_client.specs.{Feeds.{arrived, began_at, begun, calling, did, fed_in, from_cached, held_by, hold_by, loaded, read_by, turned_in, went}, Machine.{Machine, began_cached, reading, to}}
+use Rattle.sh_client.specs.{Splitting.{halved_by, needing, sought_by, walked, with_fresh}, declared.state.{Filling.{Filling, TheVariants.{RightHalf, NewRoot}}, Then.TheVariants.{Ends, Starts, Takes}}}
+use Rattle.sh_client.specs.declared.state.{Edge.{Edge}, Giving.{Giving}, Need.{Need, TheVariants.{ToSplit, ToGrow}}, Then.{Then}}
+use Rattle.sh_decide.specs.declared.state.Way.TheVariants as way
 
+-- ---- what a decision under the lock says of the image that it is taken by
 pub chosen : {X : Type 0} (P : X → Type 0) (b : Bool) (x y : X) → (b ≡ true → P x) → (b ≡ false → P y) → P (cond b x y)
-chosen P true x y f g = f refl
-chosen P false x y f g = g refl
+chosen P b x y f g = search rules
 
 same_number : (a b : ℕ) → (a == b) ≡ true → a ≡ b
 same_number a b h = grind (arith, nat_tests)
@@ -51,6 +60,25 @@ Gives p call Own (LeafImage a) d = LeafGives p call a d
 Gives p call (Posts post) (InnerImage a) d = InnerGives p post a d
 Gives p call aim image d = OnlyBack p d
 
+-- what an update does with the entry that it can use, or without one
+abbrev pub with_slot : ConfigParts → Leaf → Call → (slot : Option ℕ) → Decision
+with_slot p a call (Some index) = change_at p a index
+with_slot p a (Put key value) None = unless_worn p a.version Split
+with_slot p a (Del key) None = Absent
+with_slot p a call None = Restart
+
+del_slots : (p : ConfigParts) (a : Leaf) (key : ℕ) (o : Option ℕ) → del_in p a o ≡ with_slot p a (Del key) o
+del_slots p a key o = search rules
+
+empty_slots : (p : ConfigParts) (a : Leaf) (key : ℕ) (value : List ℕ) (o : Option ℕ) → put_into p a o ≡ with_slot p a (Put key value) o
+empty_slots p a key value o = search rules
+
+put_slots : (p : ConfigParts) (a : Leaf) (key : ℕ) (value : List ℕ) (o : Option ℕ) → put_in p a o ≡ with_slot p a (Put key value) (put_slot a o)
+put_slots p a key value o = search (rules, empty_slots)
+
+slots : (p : ConfigParts) (a : Leaf) (call : Call) → update_in p a call ≡ with_slot p a call (slot_of a call)
+slots p a call = search (rules, del_slots, put_slots)
+
 module _ (p : ConfigParts) (call : Call) (a : Leaf) (leaf : IsLeafFor a (call_key call)) where
   unless : (d : Decision) → NeedsNode a call (slot_of a call) → (a.version < last_version p → LeafGives p call a d) → LeafGives p call a (unless_worn p a.version d)
   unless d needs otherwise = chosen (LeafGives p call a) (nat_lt a.version (last_version p)) d (Worn a.version) (λ e. otherwise (is_lt a.version (last_version p) e)) (λ e. record { leaf = leaf; version_is = refl; last = not_lt a.version (last_version p) e; needs = needs })
@@ -58,31 +86,11 @@ module _ (p : ConfigParts) (call : Call) (a : Leaf) (leaf : IsLeafFor a (call_ke
   change : (index : ℕ) → slot_of a call ≡ Some index → LeafGives p call a (change_at p a index)
   change index is = chosen (LeafGives p call a) (nat_lt (version_at a.entries index) last_entry_version) (Entry index) (unless_worn p a.version (Rewrite index)) (λ e. tt) (λ e. unless (Rewrite index) (subst (NeedsNode a call) (sym is) (not_lt (version_at a.entries index) last_entry_version e)) (λ v. tt))
 
-puts : (p : ConfigParts) (key : ℕ) (value : List ℕ) (a : Leaf) → IsLeafFor a key → LeafGives p (Put key value) a (put_in p a (index_of a.entries key))
-puts p key value a leaf = over (index_of a.entries key) refl
-  where
-    into : index_of a.entries key ≡ None → (o : Option ℕ) → index_of a.entries 0 ≡ o → LeafGives p (Put key value) a (put_into p a o)
-    into lacks (Some index) is = change p (Put key value) a leaf index (ap (put_slot a) lacks ∙ is)
-    into lacks None is =
-        let none : put_slot a (index_of a.entries key) ≡ None = ap (put_slot a) lacks ∙ is in
-        unless p (Put key value) a leaf Split (subst (NeedsNode a (Put key value)) (sym none) tt) (λ v. record { leaf = leaf; put = tt; none = none; version = v })
-
-    over : (o : Option ℕ) → index_of a.entries key ≡ o → LeafGives p (Put key value) a (put_in p a o)
-    over (Some index) is = change p (Put key value) a leaf index (ap (put_slot a) is)
-    over None is = into is (index_of a.entries 0) refl
-
-dels : (p : ConfigParts) (key : ℕ) (a : Leaf) → IsLeafFor a key → LeafGives p (Del key) a (del_in p a (index_of a.entries key))
-dels p key a leaf = over (index_of a.entries key) refl
-  where
-    over : (o : Option ℕ) → index_of a.entries key ≡ o → LeafGives p (Del key) a (del_in p a o)
-    over (Some index) is = change p (Del key) a leaf index is
-    over None is = tt
+by_slot : (p : ConfigParts) (call : Call) (a : Leaf) → IsLeafFor a (call_key call) → (o : Option ℕ) → slot_of a call ≡ o → LeafGives p call a (with_slot p a call o)
+by_slot p call a h1 o h2 = search (rules, change, unless)
 
 updates : (p : ConfigParts) (call : Call) (a : Leaf) → IsLeafFor a (call_key call) → LeafGives p call a (update_in p a call)
-updates p (Get key) a leaf = tt
-updates p (Put key value) a leaf = puts p key value a leaf
-updates p (Del key) a leaf = dels p key a leaf
-updates p (Range low high) a leaf = tt
+updates p call a leaf = subst (LeafGives p call a) (sym (slots p a call)) (by_slot p call a leaf (slot_of a call) refl)
 
 -- what a hop Here says of an image's level and fences
 pub record IsHere (level low high key aimed : ℕ) : Type 0 where
@@ -91,51 +99,189 @@ pub record IsHere (level low high key aimed : ℕ) : Type 0 where
   pub high_is : key < high
 
 pub hop_here : (level low high next child key aimed : ℕ) → cond (nat_lt level aimed || nat_lt key low) HopRestart (cond (nat_le high key) (HopRight next) (cond (level == aimed) Here (Down child))) ≡ Here → IsHere level low high key aimed
-hop_here level low high next child key aimed is = by (nat_lt level aimed) (nat_lt key low) (nat_le high key) (level == aimed) refl refl refl refl is
-  where
-    by : (l b c d : Bool) → nat_lt level aimed ≡ l → nat_lt key low ≡ b → nat_le high key ≡ c → (level == aimed) ≡ d → cond (l || b) HopRestart (cond c (HopRight next) (cond d Here (Down child))) ≡ Here → IsHere level low high key aimed
-    by true b c d el eb ec ed h = absurd (cc)
-    by false true c d el eb ec ed h = absurd (cc)
-    by false false true d el eb ec ed h = absurd (cc)
-    by false false false false el eb ec ed h = absurd (cc)
-    by false false false true el eb ec ed h = record { level_is = same_number level aimed ed; low_is = not_lt key low eb; high_is = not_le high key ec }
+hop_here level low high next child key aimed is = record { level_is = grind (arith, nat_tests, is); low_is = grind (arith, nat_tests, is); high_is = grind (arith, nat_tests, is) }
 
 leaf_hop : (p : ConfigParts) (call : Call) (a : Leaf) (h : Hop) → (h ≡ Here → IsHere 0 a.low a.high (call_key call) 0) → LeafGives p call a (decided_by p call Own (LeafImage a) h)
-leaf_hop p call a Here covers = let c = covers refl in chosen (LeafGives p call a) (are_keys_once a.entries) (update_in p a call) Restart (λ once. updates p call a (record { low = c.low_is; high = c.high_is; once = once })) (λ twice. tt)
-leaf_hop p call a (HopRight next) covers = chosen (LeafGives p call a) (is_node p next) (Right next) Restart (λ e. e) (λ e. tt)
-leaf_hop p call a (Down child) covers = tt
-leaf_hop p call a HopRestart covers = tt
+leaf_hop p call a h h1 = search (rules, chosen, updates)
 
 post_hop : (p : ConfigParts) (call : Call) (post : Posting) (a : Inner) (h : Hop) → (h ≡ Here → IsHere a.level a.low a.high post.separator post.level) → InnerGives p post a (decided_by p call (Posts post) (InnerImage a) h)
-post_hop p call post a Here covers =
-    let c = covers refl in
-    chosen (InnerGives p post a) (has_separator a.pairs post.separator) Restart (post_in p a) (λ e. tt) (λ e.
-    chosen (InnerGives p post a) (nat_lt a.version (last_version p)) (cond (nat_lt (length a.pairs) (2 * p.leaf)) Add Split) Skip
-    (λ f. chosen (InnerGives p post a) (nat_lt (length a.pairs) (2 * p.leaf)) Add Split (λ g. tt) (λ g. tt))
-    (λ f. record { level = c.level_is; low = c.low_is; high = c.high_is; fresh = e; last = not_lt a.version (last_version p) f }))
-post_hop p call post a (HopRight next) covers = chosen (InnerGives p post a) (is_node p next) (Right next) Restart (λ e. e) (λ e. tt)
-post_hop p call post a (Down child) covers = tt
-post_hop p call post a HopRestart covers = tt
+post_hop p call post a h h1 = search (rules, chosen)
 
 back_hop : (p : ConfigParts) (call : Call) (aim : Aim) (image : Image) (h : Hop) → decided_here p call aim image ≡ Restart → OnlyBack p (decided_by p call aim image h)
-back_hop p call aim image Here is = subst (OnlyBack p) (sym is) tt
-back_hop p call aim image (HopRight next) is = chosen (OnlyBack p) (is_node p next) (Right next) Restart (λ e. e) (λ e. tt)
-back_hop p call aim image (Down child) is = tt
-back_hop p call aim image HopRestart is = tt
+back_hop p call aim image h is = search rules
 
 pub gives : (p : ConfigParts) (call : Call) (aim : Aim) (image : Image) → Gives p call aim image (decision_of p call aim image)
 gives p call Own (LeafImage a) = leaf_hop p call a (hop_of (LeafImage a) (call_key call) 0) (hop_here 0 a.low a.high a.next (child_of [] (call_key call)) (call_key call) 0)
 gives p call Own (InnerImage a) = back_hop p call Own (InnerImage a) (hop_of (InnerImage a) (aimed_key call Own) (target Own)) refl
-gives p call (Gathers place) (LeafImage a) = back_hop p call (Gathers place) (LeafImage a) (hop_of (LeafImage a) (aimed_key call (Gathers place)) (target (Gathers place))) refl
-gives p call (Gathers place) (InnerImage a) = back_hop p call (Gathers place) (InnerImage a) (hop_of (InnerImage a) (aimed_key call (Gathers place)) (target (Gathers place))) refl
+gives p call (Gathers place) image = back_hop p call (Gathers place) image (hop_of image (aimed_key call (Gathers place)) (target (Gathers place))) refl
 gives p call (Posts post) (LeafImage a) = back_hop p call (Posts post) (LeafImage a) (hop_of (LeafImage a) post.separator post.level) refl
 gives p call (Posts post) (InnerImage a) = post_hop p call post a (hop_of (InnerImage a) post.separator post.level) (hop_here a.level a.low a.high a.next (child_of a.pairs post.separator) post.separator post.level)
 
 -- where it goes to the right, it goes to a node of the setting
 pub right_named : (p : ConfigParts) (call : Call) (aim : Aim) (image : Image) (d : Decision) → Gives p call aim image d → IsNamed p d
-right_named p call Own (LeafImage a) (Right node) h = h
-right_named p call Own (InnerImage a) (Right node) h = h
-right_named p call (Gathers place) image (Right node) h = h
-right_named p call (Posts post) (LeafImage a) (Right node) h = h
-right_named p call (Posts post) (InnerImage a) (Right node) h = h
 right_named p call aim image d h = search rules
+
+-- ---- the converse: what must be decided of a leaf
+module _ (p : ConfigParts) (call : Call) (a : Leaf) (leaf : IsLeafFor a (call_key call)) where
+  pub slot_decides : (slot : Option ℕ) → slot_of a call ≡ slot → decision_of p call Own (LeafImage a) ≡ with_slot p a call slot
+  slot_decides slot h1 = search (rules, leaf, slots)
+
+  pub change_is : (index : ℕ) → last_entry_version ≤ version_at a.entries index → change_at p a index ≡ unless_worn p a.version (Rewrite index)
+  change_is index last = rw (not_less_test (version_at a.entries index) last_entry_version last) refl
+
+  pub entry_is : (index : ℕ) → version_at a.entries index < last_entry_version → change_at p a index ≡ Entry index
+  entry_is index below = rw (less_test (version_at a.entries index) last_entry_version below) refl
+
+  worn_is : (d : Decision) → last_version p ≤ a.version → unless_worn p a.version d ≡ Worn a.version
+  worn_is d last = rw (not_less_test a.version (last_version p) last) refl
+
+  pub left_is : (d : Decision) → a.version < last_version p → unless_worn p a.version d ≡ d
+  left_is d below = rw (less_test a.version (last_version p) below) refl
+
+worn_slot : (p : ConfigParts) (a : Leaf) (call : Call) (slot : Option ℕ) → NeedsNode a call slot → last_version p ≤ a.version → IsLeafFor a (call_key call) → with_slot p a call slot ≡ Worn a.version
+worn_slot p a call slot h1 h2 h3 = search (rules, change_is, worn_is)
+
+pub worn_decides : (p : ConfigParts) (call : Call) (a : Leaf) (version : ℕ) → IsWorn p call a version → decision_of p call Own (LeafImage a) ≡ Worn version
+worn_decides p call a version h = slot_decides p call a h.leaf (slot_of a call) refl ∙ worn_slot p a call (slot_of a call) h.needs h.last h.leaf ∙ ap Worn (sym h.version_is)
+
+full_slot : (p : ConfigParts) (a : Leaf) (call : Call) → NeedsNode a call None → IsLeafFor a (call_key call) → a.version < last_version p → with_slot p a call None ≡ Split
+full_slot p a call h1 h2 h3 = search (rules, left_is)
+
+pub full_decides : (p : ConfigParts) (call : Call) (a : Leaf) → IsFull p call a → decision_of p call Own (LeafImage a) ≡ Split
+full_decides p call a h = slot_decides p call a h.leaf None h.none ∙ full_slot p a call h.put h.leaf h.version
+
+abbrev pub Named : ConfigParts → (node : ℕ) → Type 0
+Named p node = is_node p node ≡ true
+
+pub named_node : (p : ConfigParts) (node : ℕ) → Named p node → IsNode p node
+named_node p node h = record { first = grind (arith, nat_tests, h); last = grind (arith, nat_tests, h) }
+
+node_named : (p : ConfigParts) (node : ℕ) → IsNode p node → Named p node
+node_named p node h = true_and _ _ (at_most_test _ _ h.first) (at_most_test _ _ h.last)
+
+-- a lock is taken for it
+abbrev pub Locks : Call → Aim → Type 0
+Locks call aim = takes_lock call aim ≡ true
+
+abbrev pub NamesThen : ConfigParts → Call → Then → Type 0
+NamesThen p call (Starts aim) = Locks call aim
+NamesThen p call (Takes aim node) = Named p node × Locks call aim
+NamesThen p call Ends = Unit {0}
+
+abbrev pub NamesGiving : ConfigParts → Call → Giving → Type 0
+NamesGiving p call g = Named p g.node × NamesThen p call g.after
+
+abbrev pub NamesNeed : ConfigParts → Call → Reads → Need → Type 0
+NamesNeed p call reads (ToSplit aim depth) = Named p reads.node × Locks call aim
+NamesNeed p call reads (ToGrow post root) = Unit {0}
+
+abbrev pub NamesFilling : ConfigParts → Call → Filling → Type 0
+NamesFilling p call (RightHalf depth giving) = NamesGiving p call giving
+NamesFilling p call (NewRoot post root) = Unit {0}
+
+abbrev pub Names : ConfigParts → Call → Reads → Phase → Type 0
+Names p call reads (Read aim top) = Named p reads.node
+Names p call reads (Draw aim node) = Named p node × Locks call aim
+Names p call reads (Look aim node) = Named p node × Locks call aim
+Names p call reads (Grab aim node) = Named p node × Locks call aim
+Names p call reads (ReadLocked aim depth) = Named p reads.node × Locks call aim
+Names p call reads (Seek need) = NamesNeed p call reads need
+Names p call reads (Fill fresh done filling) = NamesFilling p call filling
+Names p call reads (Waiting depth giving) = NamesGiving p call giving
+Names p call reads (Body carry done giving) = NamesGiving p call giving
+Names p call reads (Unlock node after) = Named p node × NamesThen p call after
+Names p call reads (Leave node carry after) = Named p node × NamesThen p call after
+Names p call reads phase = Unit {0}
+
+abbrev pub AllNamed : Machine → Type 0
+AllNamed m = Names m.setting m.registers.call m.registers.reads m.phase
+
+abbrev NamesWay : ConfigParts → Call → Aim → Way → Type 0
+NamesWay p call aim (way.Read node) = Named p node
+NamesWay p call aim (way.Right node) = Named p node
+NamesWay p call aim (way.Lock node) = Named p node × Locks call aim
+NamesWay p call aim (way.LockRight node) = Named p node × Locks call aim
+NamesWay p call aim w = Unit {0}
+
+either_way : (p : ConfigParts) (call : Call) (aim : Aim) (next : ℕ) (t b : Bool) → takes_lock call aim ≡ t → Named p next → NamesWay p call aim (cond (t && b) (way.LockRight next) (way.Right next)) × NamesWay p call aim (cond (t && b) (way.Lock next) (way.Read next))
+either_way p call aim next t b e h = search rules
+
+here_names : (p : ConfigParts) (call : Call) (aim : Aim) (node : ℕ) (image : Image) → Named p node → NamesWay p call aim (way_here call aim node image)
+here_names p call aim node image h = search rules
+
+by_names : (p : ConfigParts) (call : Call) (aim : Aim) (node : ℕ) (image : Image) (hop : Hop) → Named p node → NamesWay p call aim (way_by p call aim node image hop)
+by_names p call aim node image Here h = here_names p call aim node image h
+by_names p call aim node image (HopRight next) h = chosen (NamesWay p call aim) (is_node p next) (cond (takes_lock call aim && (level_of image == target aim)) (way.LockRight next) (way.Right next)) way.Root (λ e. (either_way p call aim next _ _ refl e).0) (λ e. tt)
+by_names p call aim node image (Down child) h = chosen (NamesWay p call aim) (is_node p child) (cond (takes_lock call aim && (level_of image == target aim + 1)) (way.Lock child) (way.Read child)) way.Root (λ e. (either_way p call aim child _ _ refl e).1) (λ e. tt)
+by_names p call aim node image HopRestart h = tt
+
+way_names : (p : ConfigParts) (call : Call) (aim : Aim) (top : Bool) (node : ℕ) (image : Image) → Named p node → NamesWay p call aim (way_of p call aim top node image)
+way_names p call aim top node image h = search (rules, by_names)
+
+-- a READ stays at its node
+left_node : (seen : Seen) (r : Reads) → (reads_left seen r).node ≡ r.node
+left_node seen r = search rules
+
+pub read_node : (p : ConfigParts) (r : Reads) (word : ℕ) → (read_fed p r word).node ≡ r.node
+read_node p r word = search (rules, left_node)
+
+-- ---- behind each part of a turn
+halves : (m : Machine) (aim : Aim) (depth fresh : ℕ) (image : Option Image) → Named m.setting m.registers.reads.node × Locks m.registers.call aim → AllNamed (halved_by m aim depth fresh image)
+halves m aim depth fresh image h = search rules
+
+goes_fresh : (m : Machine) (fresh : ℕ) (need : Need) → NamesNeed m.setting m.registers.call m.registers.reads need → AllNamed (with_fresh m fresh need)
+goes_fresh m fresh need h = search (rules, halves)
+
+takes : (m : Machine) (need : Need) (fresh : Option ℕ) → NamesNeed m.setting m.registers.call m.registers.reads need → AllNamed (needing m need fresh)
+takes m need fresh h = search (rules, goes_fresh)
+
+seeks : (m : Machine) (need : Need) (w : ChunkWant) → NamesNeed m.setting m.registers.call m.registers.reads need → AllNamed (sought_by m need w)
+seeks m need w h = search (rules, goes_fresh)
+
+gathers : (m : Machine) (aim : Aim) (edge : Option Edge) → AllNamed (gathered m aim edge)
+gathers m aim edge = search rules
+
+goes : (m : Machine) (aim : Aim) (image : Image) (w : Way) → NamesWay m.setting m.registers.call aim w → AllNamed (went m aim image w)
+goes m aim image w h = search (rules, takes, gathers)
+
+arrives : (m : Machine) (aim : Aim) (top : Bool) (image : Option Image) → Named m.setting m.registers.reads.node → AllNamed (arrived m aim top image)
+arrives m aim top image h = search (rules, goes, way_names)
+
+reads_on : (m : Machine) (aim : Aim) (top : Bool) (answer : Progress) → Named m.setting m.registers.reads.node → AllNamed (read_by m aim top answer)
+reads_on m aim top answer h = search (rules, arrives)
+
+does : (m : Machine) (aim : Aim) (depth : ℕ) (image : Image) (d : Decision) → Named m.setting m.registers.reads.node × Locks m.registers.call aim → IsNamed m.setting d → AllNamed (did m aim depth image d)
+does m aim depth image d h k = search (rules, takes)
+
+decides : (m : Machine) (aim : Aim) (depth : ℕ) (image : Option Image) → Named m.setting m.registers.reads.node × Locks m.registers.call aim → AllNamed (held_by m aim depth image)
+decides m aim depth (Some image) h = does (settling m aim image) aim depth image (decision_of m.setting m.registers.call aim image) h (right_named m.setting m.registers.call aim image _ (gives m.setting m.registers.call aim image))
+decides m aim depth None h = h
+
+holds_on : (m : Machine) (aim : Aim) (depth : ℕ) (answer : Progress) → Named m.setting m.registers.reads.node × Locks m.registers.call aim → AllNamed (hold_by m aim depth answer)
+holds_on m aim depth answer h = search (rules, decides)
+
+pub fed_names : (m : Machine) (word : ℕ) (phase : Phase) → AllNamed m → Names m.setting m.registers.call m.registers.reads phase → AllNamed (fed_in m word phase)
+fed_names m word (Read aim top) now h = reads_on (loaded m word) aim top (progress_of m.setting m.registers.reads word) (ap (is_node m.setting) (read_node m.setting m.registers.reads word) ∙ h)
+fed_names m word (ReadLocked aim depth) now h = holds_on (loaded m word) aim depth (progress_of m.setting m.registers.reads word) (ap (is_node m.setting) (read_node m.setting m.registers.reads word) ∙ h.0, h.1)
+fed_names m word (Seek need) now h = seeks (walked m word) need (walk_wants m.setting (walk_fed m.setting m.registers.walk word)) h
+fed_names m word phase now h = search rules
+
+pub turned_names : (m : Machine) (depth : Option ℕ) (phase : Phase) → AllNamed m → Names m.setting m.registers.call m.registers.reads phase → AllNamed (turned_in m depth phase)
+turned_names m depth phase now h = search rules
+
+-- ---- a call begins at the root word, or at the child of a cached node
+own_lock : (call : Call) → takes_lock call Own ≡ true → takes_lock call (aim_of call) ≡ true
+own_lock call e = search rules
+
+begins : (m : Machine) (call : Call) (child : ℕ) (b : Bool) → takes_lock call Own ≡ b → Named m.setting child → m.registers.call ≡ call → AllNamed (cond b (to m (Draw (aim_of call) child)) (reading m child (Read (aim_of call) false)))
+begins m call child b h1 h2 h3 = search (rules, own_lock)
+
+pub begun_names : (m : Machine) (call : Call) → AllByRecursion (IsInner m.setting) m.registers.cached → AllNamed (begun m call)
+begun_names m call inners = by (found m.registers.cached (call_key call)) refl
+  where
+    by : (o : Option InnerOf) → found m.registers.cached (call_key call) ≡ o → AllNamed (began_at (calling m call) call (option_map (origin_in (call_key call)) o))
+    by None e = tt
+    by (Some row) e =
+        let x = began_cached (from_cached (calling m call) row.low) in
+        let inner : IsInner m.setting row = found_has (IsInner m.setting) m.registers.cached (call_key call) row e inners in
+        begins x call _ (takes_lock call Own) refl (node_named m.setting _ (child_is_node row (call_key call) inner (covers_fences row (call_key call) (found_covers m.registers.cached (call_key call) row e)).0)) refl

@@ -1,6 +1,6 @@
 -- The turns in which a lock is given back.
 use Rattle.std.proofs.Common.{rules, ◌≡◌, ℕ, suc, ◌+◌, Bool, true, false, cond, Option, Some, None, List, [], ◌∷◌, ◌++◌, length, refl, sym, ap, subst, ◌∙◌, arith}
-use Rattle.std.specs.Prelude.{◌==◌, if◌then◌else◌, slice_index}
+use Rattle.std.specs.Prelude.{◌==◌, if◌then◌else◌}
 use Rattle.sh_logic.proofs.Tests.{is_eq}
 use Rattle.sh_base.specs.{declared.{config.ConfigParts.{ConfigParts}, event.Event.TheVariants.{Store}}, Layout.{lock_of, node_word}}
 use Rattle.sh_lock.specs.Locks.{release_of}
@@ -72,10 +72,7 @@ module _ (m : Machine) (depth : ℕ) (giving : Giving) where
     store = turn_found (want_of (to m (Body (carry_for count) done giving))) (Word word)
 
     wants : wants_in (store ∷ more) ≡ stores_to (place_stored p giving) m.registers.body (suc done)
-    wants =
-        let at : node_word p giving.node + (offset_of p giving.write + done) ≡ place_stored p giving + done = omega arith in
-        ap (λ n. want.Event (Store n (slice_index m.registers.body done)) ∷ wants_in more) at
-        ∙ ap (λ (l : List Want). want.Event (Store (place_stored p giving + done) (slice_index m.registers.body done)) ∷ l) w
+    wants = search rules
 
     stores_on : Backs (store ∷ (more ++ asked_with count)) (fed_by (to m (Body (carry_for count) done giving)) word)
     stores_on = by (done + 1 == length m.registers.body) refl

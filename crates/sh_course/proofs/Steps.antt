@@ -1,54 +1,178 @@
 -- What a turn adds to what is shown.
-use Rattle.std.{proofs.Common.{rules, ◌≡◌, ℕ, ◌+◌, ◌≤◌, ◌<◌, Bool, true, false, Option, Some, None, List, ◌∷◌, length, refl, ap, sym, subst, ◌∙◌, arith}, specs.Prelude.{◌==◌, ◌&&◌, cond}}
-use Rattle.std.proofs.lemmas.Bool.Decides.{nat_tests}
-use Rattle.sh_base.specs.{declared.{config.ConfigParts.{ConfigParts}, event.Event.TheVariants.{Store}}, Setting.{first_node_word, node_size, IsSetting}, Layout.{lock_of, lock_word, node_word}}
-use Rattle.sh_base.proofs.{LayoutLemmas.{node_word_low}, PlanLemmas.{lock_below}}
-use Rattle.sh_alloc.specs.{declared.state.{NodeRange.{NodeRange}, ChunkWant.{ChunkWant}}, Spares.{lowest, with_lowest}, Walks.{walk_fed, walk_wants}}
-use Rattle.sh_alloc.specs.declared.state.ChunkWant.TheVariants as chunk
-use Rattle.sh_image.specs.declared.inner.Image.{Image}
+use Rattle.std.proofs.Common.{rules, ◌≡◌, ◌⊎◌, ℕ, ◌+◌, ◌-◌, ◌<◌, ◌≤◌, Bool, true, false, Some, List, [], ◌∷◌, ◌++◌, length, inl, inr, refl, ap, ◌∙◌, arith, Option, None, sym, subst}
+use Rattle.std.{proofs.lemmas.Bool.Decides.{nat_tests}, specs.Prelude.{◌==◌, cond}}
+use Rattle.sh_base.{proofs.LayoutLemmas.{node_word_low}, specs.{Layout.{first_node, lock_of, lock_word, node_word}, Setting.{last_version, IsNode, first_node_word, node_size, IsSetting}}}
+use Rattle.sh_base.{proofs.PlanLemmas.{lock_below}, specs.declared.{config.ConfigParts.{ConfigParts}, event.Event.TheVariants.{Store}}}
+use Rattle.sh_map.specs.declared.{book.Row.{Row}, call.Call.{Call}}
+use Rattle.sh_alloc.specs.{Spares.{lowest, without_lowest}, Walks.{server_at, walk_wants_in, walk_fed}, declared.state.Phase.{Phase as WalkPhase, TheVariants.{Found as FoundChunk, Spent}}}
+use Rattle.sh_alloc.specs.declared.state.NodeRange.{NodeRange}
+use Rattle.sh_image.specs.{Leaf.{Leaf, Spells}, declared.inner.Image.{Image, TheVariants.{Leaf as LeafImage}}}
+use Rattle.sh_edit.specs.Ranging.{end_in, last_key, upto_of, taken as taken_of}
+use Rattle.sh_descend.specs.{Descent.{hop_of}, declared.Hop.{Hop, TheVariants.{Here}}}
+use Rattle.sh_read.specs.{Reads.{accepted, progress_of}, declared.state.Progress.{Progress}}
+use Rattle.sh_decide.specs.{Aims.{call_key, end_of, is_node}, Deciding.{decision_of}, Ways.{rows_in, way_by, way_of}, declared.state.{Aim.TheVariants.{Gathers, Own, Posts}, Decision.{Decision}}}
+use Rattle.sh_decide.specs.declared.state.{Aim.{Aim}, Posting.{Posting}, Way.{Way}}
+use Rattle.sh_client.specs.{Cached.{settling, learning}, declared.state.Phase.TheVariants.{Seek, Idle, Root, Read, Draw, Look, Grab, ReadLocked, Fill, Waiting, Body, Unlock, Leave, Swap, Ended}}
+use Rattle.sh_client.specs.{Feeds.{did, held_by, hold_by, arrived, fed_in, from_root, loaded, read_by, turned_in, went}, Ranges.{gathered, gathering, is_whole, passing, range_ended, rows_taken}}
+use Rattle.sh_client.specs.{Giving.{carried, counted, queue_left, released, writes_nothing}, declared.state.{Filling.{Filling}, Need.TheVariants.{ToSplit, ToGrow}}}
+use Rattle.sh_client.specs.{Machine.{Machine, sparing, to, reading}, Splitting.{all_spent, chunk_taken, halved_by, needing, sought_by, walking, with_fresh, fill_done, root_grown, walked}}
+use Rattle.sh_client.specs.{Wants.{want_in}, declared.state.{Giving.{Giving}, Need.{Need}, Phase.{Phase}, Then.{Then}, Write.{Write}}}
+use Rattle.sh_course.{proofs.{Decided.{chosen, hop_here, gives, Gives, Named, named_node, read_node, Names}, Rising.{turn_looks}}, specs.Found.{holds, AllSpare, HasReadLocked, GotNone, SparesNodes}}
+use Rattle.sh_course.proofs.Reading.{ran_apart, walk_begins, WalkShows, count_spares, walk_on, has_run, run_begins, spelled, Ran, has_read, Comes, loading_holds, loading_spares, read_on}
+use Rattle.sh_course.proofs.Showing.{StartsApart, AimOf, Gathered, Goes, IsPosting, Counts, HasStored, IsPlain, SeeksLeaf, WalksOn, Shows, StoresThen, ThenOf, WriteShows}
+use Rattle.sh_course.proofs.Showing.{aim_more, answered, no_cause, plain_key, read_more, stored_more, stored_then, then_more}
+use Rattle.sh_course.specs.{Answers.{HasOneKey}, Causes.{IsFull}, Ranges.{place_behind, rows_of_leaves, HasLeaf}, Turns.{Taken, MayFind, Turn, Word, turn_found}}
+use Rattle.sh_logic.proofs.Tests.{same_test}
 use Rattle.sh_lock.specs.Locks.{release_of}
-use Rattle.sh_read.specs.{declared.state.Progress.{Progress, TheVariants.{More, Accepted, Again, Odd}}, Reads.{accepted, progress_of, wanted}}
-use Rattle.sh_decide.specs.{declared.state.{Aim.{Aim, TheVariants.{Own, Gathers, Posts}}, Way.{Way}}, Aims.{is_node}, Ways.{way_of}}
 use Rattle.sh_decide.specs.declared.state.Way.TheVariants as way
-use Rattle.sh_client.specs.declared.state.{Filling.{Filling, TheVariants.{RightHalf, NewRoot}}, Giving.{Giving}, Need.{Need, TheVariants.{ToSplit, ToGrow}}, Then.{Then}}
-use Rattle.sh_client.specs.declared.state.{Then.TheVariants.{Ends, Starts, Takes}, Write.{Write, TheVariants.{Nothing}}, Phase.{Phase}}
-use Rattle.sh_client.specs.{declared.state.Phase.TheVariants.{Idle, Root, Read, Draw, Look, Grab, ReadLocked, Seek, Fill, Waiting, Body, Unlock, Leave, Swap, Ended}, Bodies.{answer_in}}
-use Rattle.sh_client.specs.{Cached.{learning}, Feeds.{arrived, fed_in, from_root, loaded, read_by, turned_in, went}, Giving.{carried, counted, followed, queue_left, released, writes_nothing}}
-use Rattle.sh_client.specs.{Machine.{Machine, handed_over, reading, sparing, to}, Splitting.{fill_done, root_grown, walked}, Wants.{count_of, load_of, want_in}}
+use Rattle.sh_decide.specs.declared.state.Decision.TheVariants as decision
 use Rattle.sh_client.specs.declared.state.Want.TheVariants as want
-use Rattle.sh_course.{specs.{Turns.{MayFind, Taken, Turn, Word, turn_found}, Found.{holds, GotNone, SparesNodes}}, proofs.{Decided.{chosen}, Names.{named_node, read_node, Named, Names}}}
-use Rattle.sh_course.proofs.Showing.{AimOf, Counts, Goes, HasStored, SeeksLeaf, Shows, StoresThen, ThenOf, WriteShows}
-use Rattle.sh_course.proofs.Growing.{aim_more, answered, no_cause, plain_key, read_more, stored_more, stored_then, then_more}
-use Rattle.sh_course.proofs.{Reading.{loading_holds, loading_spares, read_on, run_begins, Comes, Ran}, Rows.{takes_rows, way_covers, WayCovers}, Walking.{count_spares, walk_on}}
-use Rattle.sh_course.proofs.Holding.{holds_on, root_needs, seeks_leaf, seeks_post, seeks_root}
 
-load_turns_none : (o : Option ℕ) (depth : Option ℕ) → MayFind (load_of o) (Turn depth) → ⊥
-load_turns_none (Some at) depth h = h
-load_turns_none None depth h = h
+-- ---- what a range takes of the leaves that it READs, and where it ends
+-- rows are taken of a leaf that covers the place, and a range finds nothing else
+abbrev pub WayCovers : Aim → Image → Way → Type 0
+WayCovers (Gathers place) image way.Found = ⊥
+WayCovers (Gathers place) (LeafImage a) way.Rows = (a.low ≤ place) × (place < a.high)
+WayCovers aim image w = Unit {0}
 
-pub count_turns_none : (w : ChunkWant) (depth : Option ℕ) → MayFind (count_of w) (Turn depth) → ⊥
-count_turns_none (chunk.Event e) depth h = h
-count_turns_none (chunk.Got server c) depth h = h
-count_turns_none chunk.AllSpent depth h = h
+by_covers : (p : ConfigParts) (call : Call) (place node : ℕ) (image : Image) (hop : Hop) → (hop ≡ Here → WayCovers (Gathers place) image (rows_in image)) → WayCovers (Gathers place) image (way_by p call (Gathers place) node image hop)
+by_covers p call place node image hop h = search rules
+
+here_covers : (place : ℕ) (image : Image) → hop_of image place 0 ≡ Here → WayCovers (Gathers place) image (rows_in image)
+here_covers place image h1 = search (rules, hop_here)
+
+pub way_covers : (p : ConfigParts) (call : Call) (aim : Aim) (top : Bool) (node : ℕ) (image : Image) → WayCovers aim image (way_of p call aim top node image)
+way_covers p call aim top node image = search (rules, by_covers, here_covers)
+
+-- ---- where it ends
+module _ (room high : ℕ) (rows : List Row) where
+  early : upto_of room high rows < high → (length rows ≡ room) × (upto_of room high rows ≡ last_key rows + 1)
+  early h = (grind (arith, nat_tests, h), grind (arith, nat_tests, h))
+
+  full : length rows ≡ room → last_key rows + 1 < high → upto_of room high rows ≡ last_key rows + 1
+  full is below = grind (arith, nat_tests, is, below)
+
+  within : upto_of room high rows ≤ high
+  within = grind (arith, nat_tests)
+
+module _ (s : NodeRange) (t : List Taken) (m : Machine) where
+  abbrev low : ℕ
+  low = call_key m.registers.call
+
+  abbrev high : ℕ
+  high = end_of m.registers.call
+
+  module _ (place : ℕ) (h : Gathered m.setting low high t m.registers.rows place) (next : ℕ) where
+    passes : Goes s t (passing m (record { high = place; next = next }))
+    passes = search (rules, run_begins)
+
+    gathers : (aim : Aim) → Goes s t (gathered m aim (Some (record { high = place; next = next })))
+    gathers aim = chosen (Goes s t) (is_whole m.setting.rows high place m.registers.rows) (range_ended m) (passing m (record { high = place; next = next })) (λ e. record { leaves = h.leaves; read = h.read; rows_are = h.rows_are; ends = ends e; early = early m.setting.rows high m.registers.rows; full = full m.setting.rows high m.registers.rows; within = within m.setting.rows high m.registers.rows }) (λ e. passes)
+      where
+        ends : is_whole m.setting.rows high place m.registers.rows ≡ true → (length m.registers.rows ≡ m.setting.rows) ⊎ (high ≤ place_behind low h.leaves)
+        ends e = by (length m.registers.rows == m.setting.rows) refl
+          where
+            by : (b : Bool) → (length m.registers.rows == m.setting.rows) ≡ b → (length m.registers.rows ≡ m.setting.rows) ⊎ (high ≤ place_behind low h.leaves)
+            by true f = inl (grind (arith, nat_tests, f))
+            by false f = inr (let at = h.place_is in grind (arith, nat_tests, e, f, at))
+
+module _ (s : NodeRange) (t : List Taken) (m : Machine) (some : 1 ≤ m.setting.value_words) (named : Named m.setting m.registers.reads.node) (ran : Ran m.setting t m.registers.reads) where
+  takes_leaf : (place : ℕ) (a : Leaf) → accepted m.setting m.registers.reads ≡ Some (LeafImage a) → (a.low ≤ place) × (place < a.high) → Gathered m.setting (call_key m.registers.call) (end_of m.registers.call) t m.registers.rows place → Goes s t (rows_taken m (Gathers place) (LeafImage a))
+  takes_leaf place a is covers h =
+      let at = h.place_is in
+      let leaf : HasLeaf m.setting t a (place_behind (call_key m.registers.call) h.leaves) = record { node = m.registers.reads.node; words = m.registers.reads.loaded; before = ran.before; since = []; run = has_run m.setting t m.registers.reads ran (named_node m.setting m.registers.reads.node named); spells = spelled m.setting t m.registers.reads ran a some is; low = omega (arith, at, covers); high = omega (arith, at, covers) } in
+      gathers s t (gathering m place (LeafImage a)) a.high (record {
+        leaves = a ∷ h.leaves;
+        read = (leaf, h.read);
+        rows_are =
+            ap (λ (rows : List Row). rows ++ taken_of a.entries (end_in a.high (end_of m.registers.call)) (m.setting.rows - length rows) place) h.rows_are
+            ∙ ap (λ n. rows_of_leaves m.setting (call_key m.registers.call) (end_of m.registers.call) h.leaves ++ taken_of a.entries (end_in a.high (end_of m.registers.call)) (m.setting.rows - length (rows_of_leaves m.setting (call_key m.registers.call) (end_of m.registers.call) h.leaves)) n) at;
+        place_is = refl;
+      }) a.next (Gathers place)
+
+  pub takes_rows : (aim : Aim) (image : Image) → accepted m.setting m.registers.reads ≡ Some image → WayCovers aim image way.Rows → AimOf s t m aim → Goes s t (rows_taken m aim image)
+  takes_rows aim image is covers h = search (rules, takes_leaf)
+
+-- ---- what is shown behind the READ under the lock, and behind the walk over the counters
+pub none_left : (r : NodeRange) → lowest r ≡ None → r.count ≡ 0
+none_left r h = grind (arith, nat_tests, h)
+
+-- a post's node or a new root
+halves_post : (s : NodeRange) (t : List Taken) (m : Machine) (post : Posting) (depth fresh : ℕ) (o : Option Image) → IsPlain m.registers.call m.registers.reply × HasStored m.setting t → Goes s t (halved_by m (Posts post) depth fresh o)
+halves_post s t m post depth fresh o h = search rules
+
+post_fresh : (s : NodeRange) (t : List Taken) (m : Machine) (fresh : ℕ) (need : Need) → IsPosting need → IsPlain m.registers.call m.registers.reply × HasStored m.setting t → Goes s t (with_fresh m fresh need)
+post_fresh s t m fresh (ToSplit (Posts post) depth) is h = halves_post s t m post depth fresh (accepted m.setting m.registers.reads) h
+post_fresh s t m fresh need is h = search rules
+
+module _ (s : NodeRange) (t : List Taken) (m : Machine) (h : IsPlain m.registers.call m.registers.reply × HasStored m.setting t) (need : Need) (is : IsPosting need) where
+  counts_on : Counts m.setting m.seat t m.registers.spare m.registers.walk → Goes s t (to m (Seek need))
+  counts_on counts = search rules
+
+  all_found : Goes s t (all_spent m need)
+  all_found = search (rules, no_cause)
+
+module _ (s : NodeRange) (t : List Taken) (m : Machine) (h : IsPlain m.registers.call m.registers.reply × HasStored m.setting t) (need : Need) (is : IsPosting need) where
+  pub post_needs : StartsApart m.setting t → (o : Option ℕ) → lowest m.registers.spare ≡ o → Goes s t (needing m need o)
+  post_needs apart (Some fresh) is_low = post_fresh s t (sparing m (without_lowest m.registers.spare)) fresh need is h
+  post_needs apart None is_low = counts_on s t (walking m) h need is (record { before = t; since = []; whole = refl; none = none_left m.registers.spare is_low; apart = apart; walks = walk_begins m.setting m.seat })
+
+  pub seeks_post : (before since : List Taken) → StartsApart m.setting before → t ≡ since ++ before → m.registers.spare.count ≡ 0 → (phase : WalkPhase) → WalkShows m.setting m.seat since m.registers.walk phase → Goes s t (sought_by m need (walk_wants_in m.setting (server_at m.setting m.registers.walk) phase))
+  seeks_post before since h1 h2 h3 phase h4 = search (rules, post_fresh, all_found, counts_on)
+
+-- a leaf
+module _ (s : NodeRange) (t : List Taken) (m : Machine) (depth : ℕ) (h : AllSpare m.setting t × (m.registers.spare ≡ s) × HasOneKey m.registers.call) where
+  module _ (w : WalkPhase) (node d : ℕ) (words : List ℕ) (before since : List Taken) (a : Leaf) (read : HasReadLocked m.setting t node d words before since) (spells : Spells m.setting words a) (full : IsFull m.setting m.registers.call a) (is : accepted m.setting m.registers.reads ≡ Some (LeafImage a)) (none : s.count ≡ 0) where
+    goes_on : WalksOn m.setting m.seat since m.registers.walk → SeeksLeaf m.setting m.registers.call m.seat s t m.registers.reads m.registers.walk
+    goes_on walks = record { node = node; depth = d; words = words; before = before; since = since; leaf = a; read = read; spells = spells; full = full; image = is; none = none; walks = walks }
+
+    by_phase : (phase : WalkPhase) → WalkShows m.setting m.seat since m.registers.walk phase → Goes s t (sought_by m (ToSplit Own depth) (walk_wants_in m.setting (server_at m.setting m.registers.walk) phase))
+    by_phase (FoundChunk c) walks =
+        let server = server_at m.setting m.registers.walk in
+        subst (λ (o : Option Image). Goes s t (halved_by (chunk_taken m server c) Own depth (first_node m.setting server c) o)) (sym is) (refl, h.2)
+    by_phase Spent walks = (record { node = node; depth = d; words = words; before = before; since = since; leaf = a; read = read; spells = spells; full = full; spent = walks.spent; got_none = walks.got_none; spares = h.0 }, none)
+    by_phase phase walks = (h, goes_on walks)
+
+    -- the walk goes on, or found a chunk, or all chunks are spent
+    pub seeks_leaf : WalkShows m.setting m.seat since m.registers.walk w → Goes s t (sought_by m (ToSplit Own depth) (walk_wants_in m.setting (server_at m.setting m.registers.walk) w))
+    seeks_leaf walks = by_phase w walks
+
+module _ (s : NodeRange) (t : List Taken) (m : Machine) (depth : ℕ) (some : 1 ≤ m.setting.value_words) (node : IsNode m.setting m.registers.reads.node) (locked : holds m.setting (lock_of m.setting m.registers.reads.node) t ≡ Some depth) (ran : Ran m.setting t m.registers.reads) where
+  leaf_needs : (a : Leaf) (o : Option ℕ) → lowest m.registers.spare ≡ o → AimOf s t m Own → accepted m.setting m.registers.reads ≡ Some (LeafImage a) → Gives m.setting m.registers.call Own (LeafImage a) decision.Split → Goes s t (needing m (ToSplit Own depth) o)
+  leaf_needs a (Some fresh) is_low h is given = subst (λ (o : Option Image). Goes s t (halved_by (sparing m (without_lowest m.registers.spare)) Own depth fresh o)) (sym is) (refl, h.2)
+  leaf_needs a None is_low h is given =
+      let count : s.count ≡ 0 = ap (λ (r : NodeRange). r.count) (sym h.1) ∙ none_left m.registers.spare is_low in
+      (h, record { node = m.registers.reads.node; depth = depth; words = m.registers.reads.loaded; before = ran.before; since = []; leaf = a; read = has_read m.setting t m.registers.reads ran depth node locked; spells = spelled m.setting t m.registers.reads ran a some is; full = given; image = is; none = count; walks = walk_begins m.setting m.seat })
+
+  does : (aim : Aim) (image : Image) (d : Decision) → AimOf s t m aim → accepted m.setting m.registers.reads ≡ Some image → Gives m.setting m.registers.call aim image d → Goes s t (did m aim depth image d)
+  does Own (LeafImage a) (decision.Worn version) h is given =
+      let spells = spelled m.setting t m.registers.reads ran a some is in
+      let low : version ≡ a.version = given.version_is in
+      let high : last_version m.setting ≤ a.version = given.last in
+      let most : a.version ≤ last_version m.setting = spells.lawful.version in
+      record { node = m.registers.reads.node; depth = depth; words = m.registers.reads.loaded; before = ran.before; since = []; leaf = a; read = has_read m.setting t m.registers.reads ran depth node locked; spells = spells; worn = given; last = omega (arith, low, high, most); spares = h.0 }
+  does Own (LeafImage a) decision.Split h is given = leaf_needs a (lowest m.registers.spare) refl h is given
+  does (Posts post) image decision.Split h is given = post_needs s t m h (ToSplit (Posts post) depth) tt (ran_apart m.setting t m.registers.reads ran) (lowest m.registers.spare) refl
+  does aim image d h is given = search (rules, no_cause, answered, plain_key)
+
+module _ (s : NodeRange) (t : List Taken) (m : Machine) (depth : ℕ) (some : 1 ≤ m.setting.value_words) (node : IsNode m.setting m.registers.reads.node) (locked : holds m.setting (lock_of m.setting m.registers.reads.node) t ≡ Some depth) where
+  decides : (aim : Aim) (o : Option Image) → AimOf s t m aim → Ran m.setting t m.registers.reads → accepted m.setting m.registers.reads ≡ o → Goes s t (held_by m aim depth o)
+  decides aim (Some image) h ran is = does s t (settling m aim image) depth some node locked (record { before = ran.before; whole = ran.whole; all = ran.all; image = ran.image }) aim image (decision_of m.setting m.registers.call aim image) h is (gives m.setting m.registers.call aim image)
+  decides aim None h ran is = h
+
+  pub holds_on : (aim : Aim) (answer : Progress) → AimOf s t m aim → Comes m.setting t m.registers.reads answer → Goes s t (hold_by m aim depth answer)
+  holds_on aim answer h comes = search (rules, decides)
 
 -- ---- without a lock
 module _ (s : NodeRange) (t : List Taken) (m : Machine) where
-  grows : (aim : Aim) → AimOf s t m aim → Goes s t (root_grown m aim m.registers.reads.node)
-  grows Own h = h
-  grows (Gathers place) h = h
-  grows (Posts post) h = root_needs s t m h post m.registers.reads.node (lowest m.registers.spare) refl
+  grows : (aim : Aim) → StartsApart m.setting t → AimOf s t m aim → Goes s t (root_grown m aim m.registers.reads.node)
+  grows (Posts post) apart h = post_needs s t m h (ToGrow post m.registers.reads.node) tt apart (lowest m.registers.spare) refl
+  grows aim apart h = h
 
   goes : (aim : Aim) (image : Image) (w : Way) → 1 ≤ m.setting.value_words → Named m.setting m.registers.reads.node → Ran m.setting t m.registers.reads → accepted m.setting m.registers.reads ≡ Some image → WayCovers aim image w → AimOf s t m aim → Goes s t (went m aim image w)
-  goes aim image way.Root some named ran is covers h = h
-  goes aim image (way.Read node) some named ran is covers h = (h, run_begins m.setting t node)
-  goes aim image (way.Right node) some named ran is covers h = (h, run_begins m.setting t node)
-  goes aim image (way.Lock node) some named ran is covers h = h
-  goes aim image (way.LockRight node) some named ran is covers h = h
-  goes aim image way.Grow some named ran is covers h = grows aim h
-  goes Own image way.Found some named ran is covers h = no_cause m.setting m.registers.call s t m.registers.rows (answer_in m.registers.call image) (answered m.registers.call image h.2)
-  goes (Gathers place) image way.Found some named ran is covers h = absurd covers
-  goes (Posts post) image way.Found some named ran is covers h = no_cause m.setting m.registers.call s t m.registers.rows (answer_in m.registers.call image) (answered m.registers.call image (plain_key m.registers.call m.registers.reply h.0))
+  goes aim image way.Grow some named ran is covers h = grows aim (ran_apart m.setting t m.registers.reads ran) h
   goes aim image way.Rows some named ran is covers h = takes_rows s t m some named ran aim image is covers h
+  goes aim image w some named ran is covers h = search (rules, run_begins, no_cause, answered, plain_key)
 
 module _ (s : NodeRange) (t : List Taken) (m : Machine) (some : 1 ≤ m.setting.value_words) (named : Named m.setting m.registers.reads.node) where
   arrives : (aim : Aim) (top : Bool) (o : Option Image) → Ran m.setting t m.registers.reads → accepted m.setting m.registers.reads ≡ o → AimOf s t m aim → Goes s t (arrived m aim top o)
@@ -56,32 +180,17 @@ module _ (s : NodeRange) (t : List Taken) (m : Machine) (some : 1 ≤ m.setting.
   arrives aim top None ran is h = h
 
   reads_on : (aim : Aim) (top : Bool) (answer : Progress) → Comes m.setting t m.registers.reads answer → AimOf s t m aim → Goes s t (read_by m aim top answer)
-  reads_on aim top More comes h = (h, comes)
-  reads_on aim top Accepted comes h = arrives aim top (accepted m.setting m.registers.reads) comes refl h
-  reads_on aim top (Again rear front) comes h = (h, comes)
-  reads_on aim top Odd comes h = h
+  reads_on aim top answer comes h = search (rules, arrives)
 
 -- ---- the lock is given back
-module _ (s : NodeRange) (t : List Taken) (m : Machine) where
-  releases : (node : ℕ) (carry : Option ℕ) (after : Then) → ThenOf s t m after → Goes s t (released m node carry after)
-  releases node (Some depth) after h = h
-  releases node None after h = h
-
-  follows : (after : Then) → ThenOf s t m after → Goes s t (followed m after)
-  follows Ends h = h
-  follows (Starts aim) h = h
-  follows (Takes aim node) h = h
-
 counts : (s : NodeRange) (t : List Taken) (m : Machine) (node : ℕ) (carry : Option ℕ) (after : Then) (write : Write) → ThenOf s t m after → Goes s t (released (counted m write) node carry after)
-counts s t m node carry after write h = search (rules, releases)
+counts s t m node carry after write h = search rules
 
 leaves : (s : NodeRange) (t : List Taken) (m : Machine) (carry : Option ℕ) (after : Then) → ThenOf s t m after → Goes s t (queue_left m carry after)
-leaves s t m (Some depth) after h = follows s t (handed_over m) after h
-leaves s t m None after h = follows s t m after h
+leaves s t m carry after h = search rules
 
 -- behind a right half
 fills_write : (s : NodeRange) (t : List Taken) (m : Machine) (after : Then) (write : Write) → writes_nothing write ≡ false → StoresThen m.registers.call m.registers.reply after → WriteShows m.setting m.registers.call s t m.registers.spare m.registers.rows m.registers.reply after write
-fills_write s t m after Nothing e h = absurd (cc)
 fills_write s t m after write e h = search rules
 
 module _ (s : NodeRange) (turns : List Taken) (m : Machine) (lawful : IsSetting m.setting) where
@@ -108,40 +217,24 @@ module _ (s : NodeRange) (turns : List Taken) (m : Machine) (lawful : IsSetting 
   now word phase = turn_found (want_in m phase) (Word word) ∷ turns
 
   writes : (word depth : ℕ) (giving : Giving) (carry : Option ℕ) → (write : Write) → giving.write ≡ write → WriteShows p m.registers.call s turns m.registers.spare m.registers.rows m.registers.reply giving.after write → Goes s (now word (Waiting depth giving)) (cond (writes_nothing write) (released m giving.node carry giving.after) (to m (Body carry 0 giving)))
-  writes word depth giving carry Nothing is h = releases s (now word (Waiting depth giving)) m giving.node carry giving.after (grown_then (turn_found (want_in m (Waiting depth giving)) (Word word)) tt tt giving.after h)
-  writes word depth giving carry write is h = search rules
+  writes word depth giving carry write h1 h2 = search (rules, counts, grown_then)
 
   fills : (fresh done : ℕ) (filling : Filling) (word : ℕ) → Shows s turns m (Fill fresh done filling) → Goes s (now word (Fill fresh done filling)) (fill_done m fresh filling) × Goes s (now word (Fill fresh done filling)) (to m (Fill fresh (done + 1) filling))
-  fills fresh done (RightHalf depth giving) word h = (fills_write s (now word (Fill fresh done (RightHalf depth giving))) m giving.after giving.write h.0 h.1, h)
-  fills fresh done (NewRoot post root) word h =
-      let more = stored_more p m.registers.call s turns m.registers.spare m.registers.rows (turn_found (want_in m (Fill fresh done (NewRoot post root))) (Word word)) h.1 in
-      ((h.0, more), (h.0, more))
+  fills fresh done filling word h1 = search (rules, fills_write, stored_more)
+
+  seeks_on : (need : Need) (word : ℕ) → IsPosting need → (IsPlain m.registers.call m.registers.reply × HasStored p turns) × Counts p m.seat turns m.registers.spare m.registers.walk → Goes s (now word (Seek need)) (fed_in m word (Seek need))
+  seeks_on need word h1 h2 = search (rules, seeks_post, stored_more, walk_on)
 
   seeks : (need : Need) (word : ℕ) → Shows s turns m (Seek need) → Goes s (now word (Seek need)) (fed_in m word (Seek need))
   seeks (ToSplit Own depth) word h =
       let k : SeeksLeaf p m.registers.call m.seat s turns m.registers.reads m.registers.walk = h.1 in
       let t = turn_found (want_in m (Seek (ToSplit Own depth))) (Word word) in
+      let on = k.walks in
       let w = walk_fed p m.registers.walk word in
-      let walks = walk_on p m.seat word k.since m.registers.walk k.walks in
-      seeks_leaf s (t ∷ turns) (walked m word) depth ((count_spares p m.registers.walk lawful.ranged.servers.0 m.registers.walk.phase, h.0.0), h.0.1, h.0.2) w.phase k.node k.depth k.words k.before (t ∷ k.since) k.leaf (read_more p turns t k.node k.depth k.words k.before k.since k.read) k.spells k.full k.image k.none walks
+      seeks_leaf s (t ∷ turns) (walked m word) depth ((count_spares p m.registers.walk lawful.ranged.servers.0 m.registers.walk.phase on.runs, h.0.0), h.0.1, h.0.2) w.phase k.node k.depth k.words k.before (t ∷ k.since) k.leaf (read_more p turns t k.node k.depth k.words k.before k.since k.read) k.spells k.full k.image k.none (walk_on p m.seat word k.since m.registers.walk on lawful.ranged.servers.0)
   seeks (ToSplit (Gathers place) depth) word h = absurd h
-  seeks (ToSplit (Posts post) depth) word h =
-      let k : Counts p m.seat turns m.registers.spare m.registers.walk = h.1 in
-      let t = turn_found (want_in m (Seek (ToSplit (Posts post) depth))) (Word word) in
-      let w = walk_fed p m.registers.walk word in
-      seeks_post s (t ∷ turns) (walked m word) (h.0.0, stored_more p m.registers.call s turns m.registers.spare m.registers.rows t h.0.1) k.before (t ∷ k.since) (ap (λ (l : List Taken). t ∷ l) k.whole) k.none post depth w.phase (walk_on p m.seat word k.since m.registers.walk k.walks)
-  seeks (ToGrow post root) word h =
-      let k : Counts p m.seat turns m.registers.spare m.registers.walk = h.1 in
-      let t = turn_found (want_in m (Seek (ToGrow post root))) (Word word) in
-      let w = walk_fed p m.registers.walk word in
-      seeks_root s (t ∷ turns) (walked m word) (h.0.0, stored_more p m.registers.call s turns m.registers.spare m.registers.rows t h.0.1) k.before (t ∷ k.since) (ap (λ (l : List Taken). t ∷ l) k.whole) k.none post root w.phase (walk_on p m.seat word k.since m.registers.walk k.walks)
-
-  -- the exchange that found 0 took the lock
-  takes : (at word : ℕ) (before : Option ℕ) → (word == 0) ≡ true → cond ((at == at) && (word == 0)) (Some 0) before ≡ Some 0
-  takes at word before e = rw e (rw (same at) refl)
-    where
-      same : (n : ℕ) → (n == n) ≡ true
-      same n = grind (arith, nat_tests)
+  seeks (ToSplit (Posts post) depth) word h = seeks_on (ToSplit (Posts post) depth) word tt h
+  seeks (ToGrow post root) word h = seeks_on (ToGrow post root) word tt h
 
   pub fed_shows : (word : ℕ) (phase : Phase) → m.phase ≡ phase → Names p m.registers.call m.registers.reads phase → MayFind (want_in m phase) (Word word) → Shows s turns m phase → Goes s (now word phase) (fed_in m word phase)
   fed_shows word Idle at named may h = absurd may
@@ -155,7 +248,7 @@ module _ (s : NodeRange) (turns : List Taken) (m : Machine) (lawful : IsSetting 
   fed_shows word (Grab aim node) at named may h =
       let g = grown (turn_found (want_in m (Grab aim node)) (Word word)) (lock_spares node named.0) aim h in
       chosen (Goes s (now word (Grab aim node))) (word == 0) (reading m node (ReadLocked aim 0)) (to m (Grab aim node))
-      (λ e. (g, run_begins p (now word (Grab aim node)) node, takes (lock_word p (lock_of p node)) word (holds p (lock_of p node) turns) e))
+      (λ e. (g, run_begins p (now word (Grab aim node)) node, rw (same_test (lock_word p (lock_of p node)) _ refl, e) refl))
       (λ e. g)
   fed_shows word (ReadLocked aim depth) at named may h =
       let node = read_node p m.registers.reads word in
@@ -172,27 +265,15 @@ module _ (s : NodeRange) (turns : List Taken) (m : Machine) (lawful : IsSetting 
   fed_shows word (Leave node carry after) at named may h = leaves s (now word (Leave node carry after)) m carry after (grown_then (turn_found (want_in m (Leave node carry after)) (Word word)) tt tt after h)
   fed_shows word (Swap post root fresh) at named may h =
       let more = stored_more p m.registers.call s turns m.registers.spare m.registers.rows (turn_found (want_in m (Swap post root fresh)) (Word word)) h.1 in
-      chosen (Goes s (now word (Swap post root fresh))) (word == root) (to m Ended) (to (sparing m (with_lowest fresh m.registers.spare)) (Root (Posts post)))
-      (λ e. no_cause p m.registers.call s (now word (Swap post root fresh)) m.registers.rows m.registers.reply h.0)
-      (λ e. (h.0, more))
+      search (rules, no_cause)
   fed_shows word Ended at named may h = absurd may
 
   abbrev had : (depth : Option ℕ) → Phase → List Taken
   had depth phase = turn_found (want_in m phase) (Turn depth) ∷ turns
 
-  handed : (l depth : ℕ) (before : Option ℕ) → cond (l == l) (Some depth) before ≡ Some depth
-  handed l depth before = rw (same l) refl
-    where
-      same : (n : ℕ) → (n == n) ≡ true
-      same n = grind (arith, nat_tests)
-
   looks : (depth : Option ℕ) (aim : Aim) (node : ℕ) → Shows s turns m (Look aim node) → Goes s (had depth (Look aim node)) (turned_in m depth (Look aim node))
-  looks (Some depth) aim node h = (grown (turn_found (want_in m (Look aim node)) (Turn (Some depth))) tt aim h, run_begins p (had (Some depth) (Look aim node)) node, handed (lock_of p node) depth (holds p (lock_of p node) turns))
+  looks (Some depth) aim node h = (grown (turn_found (want_in m (Look aim node)) (Turn (Some depth))) tt aim h, run_begins p (had (Some depth) (Look aim node)) node, rw (same_test (lock_of p node) _ refl) refl)
   looks None aim node h = grown (turn_found (want_in m (Look aim node)) (Turn None)) tt aim h
 
   pub turned_shows : (depth : Option ℕ) (phase : Phase) → MayFind (want_in m phase) (Turn depth) → Shows s turns m phase → Goes s (had depth phase) (turned_in m depth phase)
-  turned_shows depth (Look aim node) may h = looks depth aim node h
-  turned_shows depth (Read aim top) may h = absurd (load_turns_none (wanted p m.registers.reads) depth may)
-  turned_shows depth (ReadLocked aim d) may h = absurd (load_turns_none (wanted p m.registers.reads) depth may)
-  turned_shows depth (Seek need) may h = absurd (count_turns_none (walk_wants p m.registers.walk) depth may)
-  turned_shows depth phase may h = absurd (search rules)
+  turned_shows depth phase h1 h2 = search (rules, looks, turn_looks)

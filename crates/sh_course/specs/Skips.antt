@@ -1,11 +1,11 @@
 -- The causes of skipped posts, in the words that the course of the call found.
-use Rattle.std.specs.Prelude.{◌≡◌, ◌⊎◌, ℕ, ◌<◌, ◌≤◌, false, List, [], ◌++◌}
+use Rattle.std.specs.Prelude.{◌≡◌, ℕ, ◌<◌, ◌≤◌, false, List, [], ◌++◌, Option, Some}
 use Rattle.sh_base.specs.{declared.config.ConfigParts.{ConfigParts}, Setting.{last_version}}
 use Rattle.sh_alloc.specs.declared.state.NodeRange.{NodeRange}
 use Rattle.sh_image.specs.Inner.{Inner, SpellsInner}
-use Rattle.sh_decide.specs.{declared.state.Posting.{Posting}, Deciding.{has_separator}}
-use Rattle.sh_client.specs.Machine.{Machine, up}
-use Rattle.sh_course.specs.{Turns.{Taken}, Found.{AllGotNone, AllSpent, HasReadLocked}}
+use Rattle.sh_decide.specs.{declared.state.{Aim.{Aim, TheVariants.{Posts}}, Posting.{Posting}}, Deciding.{has_separator}}
+use Rattle.sh_client.specs.{CachedTurns.{read_aim}, Machine.{Machine}}
+use Rattle.sh_course.specs.{Counts.{RisesExactly}, Turns.{Taken}, Found.{AllGotNone, AllSpare, AllSpent, HasReadLocked}, Stores.{AllCount}}
 
 -- the inner node covers the separator, on the post's level, hasn't got it, and has the last version
 pub record IsWornAt (p : ConfigParts) (post : Posting) (a : Inner) : Type 0 where
@@ -15,9 +15,10 @@ pub record IsWornAt (p : ConfigParts) (post : Posting) (a : Inner) : Type 0 wher
   pub fresh : has_separator a.pairs post.separator ≡ false
   pub last : last_version p ≤ a.version
 
--- The last turns were a READ of such a node under its lock.
-pub record SkipsWorn (p : ConfigParts) (turns : List Taken) : Type 0 where
+-- The last turns were a READ of such a node under its lock, for the post that the client is after.
+pub record SkipsWorn (p : ConfigParts) (turns : List Taken) (after : Option Aim) : Type 0 where
   pub post : Posting
+  pub after_is : after ≡ Some (Posts post)
   pub node : ℕ
   pub depth : ℕ
   pub words : List ℕ
@@ -27,19 +28,19 @@ pub record SkipsWorn (p : ConfigParts) (turns : List Taken) : Type 0 where
   pub spells : SpellsInner p words inner
   pub worn : IsWornAt p post inner
 
--- The seat has no spare node, and in the last turns each server's counter was found at the limit, and no chunk was got.
+-- The call has stored a word of a node, so that it is at a post. Its seat has no spare node, and in the last turns, which load
+-- and add counters alone, each server's counter was found at the limit, and no chunk was got.
 pub record SkipsSpent (p : ConfigParts) (turns : List Taken) (spare : NodeRange) : Type 0 where
   pub before : List Taken
   pub since : List Taken
   pub whole : turns ≡ since ++ before
+  pub counted : AllCount p since
   pub spent : AllSpent p since
   pub got_none : AllGotNone p since
   pub none : spare.count ≡ 0
+  pub stored : AllSpare p turns → ⊥
 
--- a turn leaves a counter as it is, or raises it by one where there is the cause
-abbrev pub Rises : (before after : ℕ) → (Cause : Type 0) → Type 0
-Rises before after Cause = (after ≡ before) ⊎ ((after ≡ up before) × Cause)
-
+-- a turn counts both exactly there
 pub record CountsSkips (turns : List Taken) (m n : Machine) : Type 0 where
-  pub spent : Rises m.registers.tally.skipped_spent n.registers.tally.skipped_spent (SkipsSpent m.setting turns m.registers.spare)
-  pub worn : Rises m.registers.tally.skipped_worn n.registers.tally.skipped_worn (SkipsWorn m.setting turns)
+  pub spent : RisesExactly m.registers.tally.skipped_spent n.registers.tally.skipped_spent (SkipsSpent m.setting turns m.registers.spare)
+  pub worn : RisesExactly m.registers.tally.skipped_worn n.registers.tally.skipped_worn (SkipsWorn m.setting turns (read_aim m.phase))

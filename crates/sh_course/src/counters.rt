@@ -5,9 +5,10 @@ ghost use Rattle.sh_client.specs.{Feeds.{begun}, Machine.{Machine}, Wants.{want_
 ghost use Rattle.sh_course.specs.{Causes.{IsReady}, Counts.{ends_write, handed_by, rewritten_by, splits_by, CountsReads}, Skips.{CountsSkips}};
 ghost use Rattle.sh_course.specs.Turns.{machine_behind, turn_found, Found, IsCallCourse, MayFind, Taken};
 
-/// A turn counts a skipped post by its cause alone: as worn, where it ends a READ under the lock of an inner node of the post's
-/// level that is at its last version, covers the separator and hasn't got it; as without a node, where the seat has no spare one
-/// and the last turns found each server's counter at the limit.
+/// A turn counts a skipped post where its cause stands, and only there: as worn, where it ends a READ under the lock of an inner
+/// node, on the level of the post that the client is after, that is at its last version, covers the separator and hasn't got
+/// it; as without a node, where the call has stored a word of a node, the seat has no spare one, and the last turns, on
+/// counters alone, found each server's counter at the limit and got no chunk.
 pub fn skips_have_causes()
     ensures { (m n : Machine) (call : Call) (turns : List Taken) (x : Found) → IsReady m → IsCallCourse (begun m call) turns n → MayFind (want_of n) x → CountsSkips (turn_found (want_of n) x ∷ turns) n (machine_behind n x) }
 {}

@@ -7,3 +7,4 @@ pub mod LogLemmas
 pub mod TreeRows
 pub mod WordLemmas
 pub mod Closed
+pub mod OneLemmas

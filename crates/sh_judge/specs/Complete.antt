@@ -23,3 +23,9 @@ EndsWell (Served status.Ok) = Unit {0}
 EndsWell (Served status.NoMemory) = Unit {0}
 EndsWell NotLawful = Unit {0}
 EndsWell s = ⊥
+
+-- it wasn't a fault of the source or the sink
+abbrev pub IsNoFault : JudgeStatus → Type 0
+IsNoFault (Served status.ReadFault) = ⊥
+IsNoFault (Served status.WriteFault) = ⊥
+IsNoFault s = Unit {0}

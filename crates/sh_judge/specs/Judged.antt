@@ -1,6 +1,6 @@
 -- What a judge of a printed replay leaves, by how it ended.
 use Rattle.std.specs.{Prelude.{ℕ, ◌≡◌, List, [], Option, Some, None}, Io.KnownBytes.{Appends}}
-use Rattle.sh_port.specs.{Port.{HasRisen, AppendsFront}, Intake.{TookAll, TookSome, TookMost}}
+use Rattle.sh_port.specs.{Port.{HasRisen, AppendsFront}, Intake.{TookAll, TookFew, TookSome, TookMost}}
 use Rattle.sh_sheet.specs.declared.status.Status.TheVariants as status
 use Rattle.sh_sheet.specs.Status.{status_code, status_text}
 use Rattle.sh_judge.specs.{declared.{status.JudgeStatus.{JudgeStatus, TheVariants.{Served, NotLawful}}, finding.Finding.{Finding}}, Finding.{IsFinding}, FindingLine.{finding_line}}
@@ -54,7 +54,7 @@ Judged width left rest before now held after fell fallen NotLawful = WroteFindin
 Judged width left rest before now held after fell fallen (Served status.ReadFault) = TookSome left rest before now × Unwritten held after fell fallen
 Judged width left rest before now held after fell fallen (Served status.TooLong) = TookMost left rest before now × Unwritten held after fell fallen
 Judged width left rest before now held after fell fallen (Served status.WriteFault) = WroteFront width left rest before now held after fell fallen
-Judged width left rest before now held after fell fallen (Served status.NoMemory) = (now ≡ before) × Unwritten held after fell fallen
+Judged width left rest before now held after fell fallen (Served status.NoMemory) = TookFew left rest before now × Unwritten held after fell fallen
 Judged width left rest before now held after fell fallen (Served status.Usage) = ⊥
 Judged width left rest before now held after fell fallen (Served (status.BadRow row cause)) = ⊥
 Judged width left rest before now held after fell fallen (Served status.TooMany) = ⊥

@@ -17,7 +17,7 @@ mod words;
 
 pub use finding::Finding;
 pub use judge::judge_text;
-pub use laws::judge_laws;
+pub use laws::{judge_laws, judge_sure};
 pub use status::JudgeStatus;
 pub use top::judge_top;
 

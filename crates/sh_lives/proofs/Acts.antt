@@ -1,8 +1,8 @@
 -- A turn of a world adds its acts to the life of its seat.
-use Rattle.std.{proofs.Common.{rules, ◌≡◌, ℕ, ◌-◌, Bool, true, false, cond, Option, Some, None, List, [], ◌∷◌, ◌++◌, length, refl, sym, ap, subst, ◌∙◌}, specs.Prelude.{◌==◌, slice_get, slice_set}}
+use Rattle.std.{proofs.Common.{rules, ◌≡◌, ℕ, ◌-◌, Bool, true, false, cond, Option, Some, None, List, [], ◌∷◌, ◌++◌, length, refl, sym, ap, ◌∙◌}, specs.Prelude.{◌==◌, slice_get, slice_set}}
 use Rattle.sh_base.specs.Memory.{found_by}
 use Rattle.sh_map.specs.declared.log.Entry.{Entry}
-use Rattle.sh_client.specs.{declared.state.{Phase.TheVariants.{Idle}, Want.{Want}}, Feeds.{fed_by, turned_by}, Giving.{makes}, Machine.{Machine, to}, Rests.{has_ended}, Wants.{want_of}}
+use Rattle.sh_client.specs.{declared.state.{Want.{Want}}, Feeds.{fed_by, turned_by}, Giving.{makes}, Machine.{Machine}, Rests.{has_ended}, Wants.{want_of}}
 use Rattle.sh_client.specs.declared.state.Want.TheVariants as want
 use Rattle.sh_course.specs.{Life.{lived, SeatAct, Begins, Rests, Takes}, Turns.{machine_behind, Found, Turn, Word}}
 use Rattle.sh_world.specs.{declared.state.Line.{Line}, States.{Given, Place, State}}

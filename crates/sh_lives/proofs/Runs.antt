@@ -1,16 +1,17 @@
 -- Each seat of a world has a life whose events are its own of the world's moves.
-use Rattle.std.proofs.Common.{rules, ◌≡◌, ◌≢◌, ℕ, zero, suc, ◌+◌, Bool, true, false, cond, Option, Some, None, List, [], ◌∷◌, ◌++◌, length, refl, sym, ap, subst, ◌∙◌, arith}
+use Rattle.std.proofs.Common.{rules, ◌≡◌, ◌≢◌, ℕ, zero, suc, ◌+◌, Bool, true, false, cond, Option, Some, None, List, [], ◌∷◌, ◌++◌, length, refl, sym, ap, subst, ◌∙◌}
+use Rattle.std.proofs.lemmas.List.{append_assoc, append-nil}
 use Rattle.std.specs.Prelude.{◌-◌, ◌==◌, slice_get, slice_set}
 use Rattle.sh_logic.proofs.Tests.{is_eq, not_eq}
 use Rattle.sh_base.specs.Memory.{found_by}
 use Rattle.sh_map.specs.declared.call.Call.{Call}
-use Rattle.sh_client.specs.{declared.state.Want.{Want}, Machine.{Machine}, Rests.{has_ended, is_resting}, Wants.{want_of}}
-use Rattle.sh_client.specs.declared.state.Want.TheVariants as want
-use Rattle.sh_course.specs.{Causes.{IsReady}, Ends.{AreEnds}, Life.{ends_in, events_of, lived, event_made, turns_in, SeatAct, AreActs, Begins, Made, Rests, Takes}}
-use Rattle.sh_course.{specs.Turns.{machine_behind, turn_found, Found, MayFind, Taken, Word}, proofs.LifeLemmas.{ends_are}}
+use Rattle.sh_client.specs.{Machine.{Machine}, Rests.{has_ended, is_resting}, Wants.{want_of}, declared.state.Want.{Want}}
+use Rattle.sh_course.{proofs.Courses.{ends_are}, specs.{Causes.{IsReady}}}
+use Rattle.sh_course.specs.{Life.{events_of, lived, event_made, turns_in, SeatAct, AreActs, Begins, Made, Rests, Takes}, Turns.{machine_behind, turn_found, Found, MayFind, Taken, Word}}
 use Rattle.sh_world.specs.{States.{Given, Place, State}, Turning.{answer_at, answer_of, asked, behind as behind_in, give_at, line_of, queued, turn_answer_in, turn_at, turn_of}}
-use Rattle.sh_lives.specs.{Acts.{acts_at, begin_acts, begins_call, begins_next, finds, look_finds, turn_acts}, Runs.{after, event_in, events_by, Asks, Gives, HasLife, Move}}
 use Rattle.sh_lives.proofs.Acts.{asked_client, lived_on, turn_lives}
+use Rattle.sh_lives.specs.{Acts.{acts_at, begin_acts, begins_call, begins_next, finds, look_finds, turn_acts}, Runs.{after, event_in, events_by, Asks, Gives, HasLife, Move}}
+use Rattle.sh_client.specs.declared.state.Want.TheVariants as want
 
 set_here : {X : Type 0} (xs : List X) (i : ℕ) (x y : X) → slice_get xs i ≡ Some y → slice_get (slice_set xs i x) i ≡ Some x
 set_here [] i x y h = absurd (cc)
@@ -24,14 +25,10 @@ set_else (z ∷ zs) zero (suc j) x h = refl
 set_else (z ∷ zs) (suc i) zero x h = refl
 set_else (z ∷ zs) (suc i) (suc j) x h = set_else zs i j x (λ e. h (ap (λ n. suc n) e))
 
-assoc : (a b c : List Made) → a ++ (b ++ c) ≡ (a ++ b) ++ c
-assoc [] b c = refl
-assoc (x ∷ a) b c = ap (λ (l : List Made). x ∷ l) (assoc a b c)
-
 -- events of more turns, turns of more acts
 events_on : (a b : List Taken) → events_of (a ++ b) ≡ events_of a ++ events_of b
 events_on [] b = refl
-events_on (t ∷ a) b = ap (λ (l : List Made). event_made t.want t.found ++ l) (events_on a b) ∙ assoc (event_made t.want t.found) (events_of a) (events_of b)
+events_on (t ∷ a) b = ap (λ (l : List Made). event_made t.want t.found ++ l) (events_on a b) ∙ sym (append_assoc (event_made t.want t.found) (events_of a) (events_of b))
 
 turns_on : (m : Machine) (more life : List SeatAct) → turns_in m (more ++ life) ≡ turns_in (lived m life) more ++ turns_in m life
 turns_on m [] life = refl
@@ -82,10 +79,6 @@ turn_are s seat r (want.Look lock) is = let o = one_turn r.client (want.Look loc
 turn_are s seat r (want.Waiting lock) is = one_turn r.client (want.Waiting lock) (Word (behind_in (line_of s seat lock) r.ticket)) is tt
 turn_are s seat r (want.Leave lock carry) is = one_turn r.client (want.Leave lock carry) (Word 0) is tt
 
-append_none : (l : List Made) → l ++ [] ≡ l
-append_none [] = refl
-append_none (x ∷ l) = ap (λ (k : List Made). x ∷ k) (append_none l)
-
 acts_are : (s : State) (seat : ℕ) (q : Place) → OneTurn q.client (acts_at s seat q) (event_in (turn_answer_in s.words (want_of (asked s.calls q (length s.log)).client)))
 acts_are s seat q =
     let r = asked s.calls q (length s.log) in
@@ -97,7 +90,7 @@ acts_are s seat q =
       acts_on q.client turns begins (subst (λ (m : Machine). AreActs m turns) own t.0) b.0,
       ap events_of (turns_on q.client turns begins) ∙ events_on (turns_in (lived q.client begins) turns) (turns_in q.client begins)
           ∙ ap (λ (l : List Taken). events_of (turns_in (lived q.client begins) turns) ++ events_of l) b.1
-          ∙ append_none (events_of (turns_in (lived q.client begins) turns))
+          ∙ append-nil (events_of (turns_in (lived q.client begins) turns))
           ∙ ap (λ (m : Machine). events_of (turns_in m turns)) (sym own) ∙ t.1,
     )
 

@@ -1,5 +1,5 @@
 -- What a turn of a world adds to the life of its seat.
-use Rattle.std.specs.Prelude.{◌≡◌, ℕ, ◌-◌, ◌==◌, if◌then◌else◌, List, [], ◌∷◌, ◌++◌, length, slice_get, Option, Some, None}
+use Rattle.std.specs.Prelude.{ℕ, ◌-◌, ◌==◌, if◌then◌else◌, List, [], ◌∷◌, ◌++◌, length, slice_get, Option, Some, None}
 use Rattle.sh_base.specs.Memory.{found_by}
 use Rattle.sh_client.specs.{declared.state.Want.{Want}, Machine.{Machine}, Rests.{has_ended}, Wants.{want_of}}
 use Rattle.sh_client.specs.declared.state.Want.TheVariants as want

@@ -1,6 +1,6 @@
 -- Each option's value is a number just where each value of the uses is.
-use Rattle.std.{proofs.Common.{◌≡◌, Bool, true, false, not, ◌&&◌, List, [], ◌∷◌, ◌++◌, Option, Some, None, refl, ap, ap₂, sym, ◌∙◌, append_assoc}, specs.Prelude.{option_and_then, if◌then◌else◌}}
-use Rattle.std.{specs.{List.{list_all}, Option.{option_map_or}, Str.{bytes_eq}}, proofs.lemmas.Bool.{not-true}}
+use Rattle.std.{proofs.Common.{◌≡◌, Bool, true, false, not, ◌&&◌, List, [], ◌∷◌, ◌++◌, Option, Some, None, refl, ap, ap₂, sym, ◌∙◌, append_assoc, arith}, specs.Prelude.{option_and_then, if◌then◌else◌}}
+use Rattle.std.{specs.{List.{list_all}, Option.{option_map_or}, Str.{bytes_eq}}, proofs.lemmas.{Bool.{not-true}, Grind.{common_steps}}}
 use Rattle.clap.{specs.{Words.{first_value, found_of}, declared.parser.matches.ArgMatches.{ArgMatches}}, proofs.WalkLemmas.{both}}
 use Rattle.sh_logic.proofs.Tests.{or_false}
 use Rattle.sh_options.{specs.{Holds.{Holds, Told}, Uses.{Names, Text, Use, all_numbers, has_use, is_among, is_lawful, is_once_after, told_by, told_if, option_value}}, proofs.Agree.{not_true}}
@@ -31,11 +31,7 @@ checks_same P Q flags (x ∷ xs) apart same =
 
 numbers_each : (us : List Use) (name : Text) → all_numbers us ≡ true → is_right (option_value name us) ≡ true
 numbers_each [] name all = refl
-numbers_each (u ∷ us) name all = go (bytes_eq u.name name) refl (both (is_right u.value) (all_numbers us) all).0 (numbers_each us name (both (is_right u.value) (all_numbers us) all).1)
-  where
-    go : (b : Bool) → bytes_eq u.name name ≡ b → is_right u.value ≡ true → is_right (option_value name us) ≡ true → is_right (option_value name (u ∷ us)) ≡ true
-    go true e here rest = simp e here
-    go false e here rest = simp e rest
+numbers_each (u ∷ us) name all = let (here, more) = both (is_right u.value) (all_numbers us) all in let rest = numbers_each us name more in grind (arith, common_steps, here, rest)
 
 first_use : (seen us : List Use) (u : Use) → has_use u.name seen ≡ false → option_value u.name (seen ++ u ∷ us) ≡ u.value
 first_use [] us u none = let same = bytes_eq_self u.name in simp same

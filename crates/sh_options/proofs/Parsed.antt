@@ -11,7 +11,7 @@ use Rattle.sh_logic.proofs.Tests.{false_right}
 use Rattle.sh_options.specs.{Command.{app_for, app_with, flag_rule, has_end, is_end, option_rule}, Holds.{Holds}}
 use Rattle.sh_options.specs.Uses.{Names, Said, Text, Use, after_word, all_numbers, asks, gives, is_among, is_lawful, is_once, said_of, spelled, strange, told_by, told_if, uses_from, uses_of, with_use}
 use Rattle.sh_options.proofs.{Agree.{all_plain, is_plain, not_true, read_both, rest_fault, rows_end, taken_both}, Steps.{between, flag_built, option_built, shape_with}}
-use Rattle.sh_options.proofs.{Tables.{all_rules, any_rules, built_is, end_fault, rules_built, same_text}, Values.{flag_is, uses_fit, value_is}}
+use Rattle.sh_options.proofs.{Tables.{built_is, end_fault, of_rules, rules_built, same_text}, Values.{flag_is, uses_fit, value_is}}
 use Rattle.sh_sheet.specs.Number.{is_number}
 
 -- ---- the command is simple
@@ -22,15 +22,15 @@ app_built n = record { top = shape_with (rules_built n); subs = [] }
 pub app_is_simple : (n : Names) → is_simple (app_for n) ≡ true
 unfolding app_with app_built
 app_is_simple n =
-    let raw = all_rules (λ a. a.is_simple) option_rule flag_rule n.options n.flags (λ t. refl) (λ t. refl) in
-    let ready = all_rules (λ a. a.is_simple) option_built flag_built n.options n.flags (λ t. refl) (λ t. refl) in
-    let early = any_rules (is_early_multiple (count_by (λ a. Rattle.std.specs.Prelude.is_some a.index) (rules_built n))) option_built flag_built n.options n.flags (λ t. refl) (λ t. refl) in
+    let raw = of_rules (λ rules. list_all (λ a. a.is_simple) rules ≡ true) option_rule flag_rule n.options n.flags refl (λ t rest e. e) (λ t rest e. e) in
+    let ready = of_rules (λ rules. list_all (λ a. a.is_simple) rules ≡ true) option_built flag_built n.options n.flags refl (λ t rest e. e) (λ t rest e. e) in
+    let early = of_rules (λ rules. list_any (is_early_multiple (count_by (λ a. Rattle.std.specs.Prelude.is_some a.index) (rules_built n))) rules ≡ false) option_built flag_built n.options n.flags refl (λ t rest e. e) (λ t rest e. e) in
     ap (λ b. is_buildable (app_for n) && (is_ready b.top && list_all is_ready_leaf b.subs)) (built_is n) ∙ (simp (raw, ready, early))
 
 pub app_is_free : (n : Names) → is_simple_and_free (app_for n) ≡ true
 app_is_free n =
     let simple = app_is_simple n in
-    let free = all_rules (λ a. a.is_free) option_built flag_built n.options n.flags (λ t. refl) (λ t. refl) in
+    let free = of_rules (λ rules. list_all (λ a. a.is_free) rules ≡ true) option_built flag_built n.options n.flags refl (λ t rest e. e) (λ t rest e. e) in
     ap (λ b. is_simple (app_for n) && is_free_app b) (built_is n) ∙ (simp (simple, free))
 
 -- ---- faults and matches

@@ -1,5 +1,5 @@
 -- The rows of clap that uses make, and how a word is read on both sides.
-use Rattle.std.{proofs.Common.{◌≡◌, Bool, true, false, ◌||◌, ◌==◌, List, [], ◌∷◌, ◌++◌, map, Option, Some, None, codes, refl, ap, sym, ◌∙◌, append-nil}, specs.{Prelude.{unwrap_or}, Str.{bytes_eq}}}
+use Rattle.std.{proofs.Common.{◌≡◌, Bool, true, false, List, [], ◌∷◌, ◌++◌, map, Option, Some, None, codes, refl, ap, sym, ◌∙◌, append-nil, arith}, specs.{Prelude.{unwrap_or}, Str.{bytes_eq}}, proofs.lemmas.Grind.{common_steps}}
 use Rattle.clap.specs.{Lexer.{long_of}, Walk.{Row, at_row, has_row, more_values, reading_by, used, with_values, without}, declared.builder.value_parser.Reading.TheVariants.{AsWritten}}
 use Rattle.clap.{specs.declared.parser.matches.ValueSource.TheVariants.{CommandLine}, proofs.WalkLemmas.{list_any-map}}
 use Rattle.sh_logic.proofs.Tests.{or_false}
@@ -37,23 +37,8 @@ flag_used name rows none =
 
 spelled_is : (word : Text) → is_end word ≡ false → spelled word ≡ long_of word
 spelled_is [] e = refl
-spelled_is (x ∷ []) e = go (x == 45) refl
-  where
-    go : (b : Bool) → (x == 45) ≡ b → spelled (x ∷ []) ≡ long_of (x ∷ [])
-    go true i = simp i
-    go false i = simp i
-spelled_is (x ∷ y ∷ []) e = go (x == 45) (y == 45) refl refl
-  where
-    go : (a b : Bool) → (x == 45) ≡ a → (y == 45) ≡ b → spelled (x ∷ y ∷ []) ≡ long_of (x ∷ y ∷ [])
-    go true true i j = let bad : true ≡ false = simp (i, j) at e in cc
-    go true false i j = simp (i, j)
-    go false b i j = simp i
-spelled_is (x ∷ y ∷ z ∷ zs) e = go (x == 45) (y == 45) refl refl
-  where
-    go : (a b : Bool) → (x == 45) ≡ a → (y == 45) ≡ b → spelled (x ∷ y ∷ z ∷ zs) ≡ long_of (x ∷ y ∷ z ∷ zs)
-    go true true i j = simp (i, j)
-    go true false i j = simp (i, j)
-    go false b i j = simp i
+spelled_is (x ∷ []) e = grind (arith, common_steps)
+spelled_is (x ∷ y ∷ rest) e = grind (arith, common_steps)
 
 -- what a word is to a program with these names
 pub data Word (n : Names) (word : Text) : Type 0 where

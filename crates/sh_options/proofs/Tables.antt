@@ -1,6 +1,6 @@
 -- What clap finds in the rules of a list of options and a list of flags.
 use Rattle.std.{proofs.Common.{◌≡◌, Bool, true, false, not, ◌&&◌, ◌||◌, ℕ, List, [], ◌∷◌, ◌++◌, map, Option, Some, None, refl, ap, ap₂, ◌∙◌}, specs.Prelude.{if◌then◌else◌}}
-use Rattle.std.{specs.{List.{list_all, list_any, find}, Str.{bytes_eq}}, proofs.lemmas.Slice.Eq.{bytes_eq-Decides}}
+use Rattle.std.{specs.{List.{list_any}, Str.{bytes_eq}}, proofs.lemmas.Slice.Eq.{bytes_eq-Decides}}
 use Rattle.clap.specs.{Faults.{check_fault, default_fault, defaults_fault, settle_fault}, Kinds.{Kinds, or_else}, Simple.{built, filled_from}}
 use Rattle.clap.specs.Walk.{Held, Row, Rule, arg_by_id, arg_by_index, arg_by_long, arg_by_short, finished, has_row, settled}
 use Rattle.sh_options.{specs.{Uses.{Names, Text, is_among}, Command.{app_for, app_with, flag_rule, option_rule}}, proofs.Steps.{flag_built, option_built, or_else_nil, shape_with}}
@@ -14,34 +14,12 @@ same_text a b e = (bytes_eq-Decides a b).0 e
 pub bytes_eq_self : (a : Text) → bytes_eq a a ≡ true
 bytes_eq_self a = (bytes_eq-Decides a a).1 refl
 
--- ---- a test of all the rules
+-- ---- what holds of all the rules, one by one
 
-pub all_flags : (P : Rule → Bool) (F : Text → Rule) (flags : List Text) → ((t : Text) → P (F t) ≡ true) → list_all P (map F flags) ≡ true
-all_flags P F [] is = refl
-all_flags P F (f ∷ fs) is = let here = is f in simp here (all_flags P F fs is)
-
-pub all_rules : (P : Rule → Bool) (O F : Text → Rule) (options flags : List Text) → ((t : Text) → P (O t) ≡ true) → ((t : Text) → P (F t) ≡ true)
-    → list_all P (map O options ++ map F flags) ≡ true
-all_rules P O F [] flags is also = all_flags P F flags also
-all_rules P O F (o ∷ os) flags is also = let here = is o in simp here (all_rules P O F os flags is also)
-
-pub any_flags : (P : Rule → Bool) (F : Text → Rule) (flags : List Text) → ((t : Text) → P (F t) ≡ false) → list_any P (map F flags) ≡ false
-any_flags P F [] isnt = refl
-any_flags P F (f ∷ fs) isnt = let here = isnt f in simp here (any_flags P F fs isnt)
-
-pub any_rules : (P : Rule → Bool) (O F : Text → Rule) (options flags : List Text) → ((t : Text) → P (O t) ≡ false) → ((t : Text) → P (F t) ≡ false)
-    → list_any P (map O options ++ map F flags) ≡ false
-any_rules P O F [] flags isnt also = any_flags P F flags also
-any_rules P O F (o ∷ os) flags isnt also = let here = isnt o in simp here (any_rules P O F os flags isnt also)
-
-pub find_flags : (P : Rule → Bool) (F : Text → Rule) (flags : List Text) → ((t : Text) → P (F t) ≡ false) → find P (map F flags) ≡ None
-find_flags P F [] isnt = refl
-find_flags P F (f ∷ fs) isnt = let here = isnt f in simp here (find_flags P F fs isnt)
-
-pub find_rules : (P : Rule → Bool) (O F : Text → Rule) (options flags : List Text) → ((t : Text) → P (O t) ≡ false) → ((t : Text) → P (F t) ≡ false)
-    → find P (map O options ++ map F flags) ≡ None
-find_rules P O F [] flags isnt also = find_flags P F flags also
-find_rules P O F (o ∷ os) flags isnt also = let here = isnt o in simp here (find_rules P O F os flags isnt also)
+pub of_rules : (P : List Rule → Type 0) (O F : Text → Rule) (options flags : List Text) → P [] → ((t : Text) (rest : List Rule) → P rest → P (O t ∷ rest)) → ((t : Text) (rest : List Rule) → P rest → P (F t ∷ rest)) → P (map O options ++ map F flags)
+of_rules P O F [] [] none option flag = none
+of_rules P O F [] (t ∷ flags) none option flag = flag t (map F flags) (of_rules P O F [] flags none option flag)
+of_rules P O F (t ∷ options) flags none option flag = option t (map O options ++ map F flags) (of_rules P O F options flags none option flag)
 
 -- ---- by name
 
@@ -93,10 +71,10 @@ module _ (n : Names) where
   id_option name among = id_is n.options n.flags name among
 
   pub no_short : (x : ℕ) → arg_by_short (rules_built n) x ≡ None
-  no_short x = find_rules _ option_built flag_built n.options n.flags (λ t. refl) (λ t. refl)
+  no_short x = of_rules (λ rules. arg_by_short rules x ≡ None) option_built flag_built n.options n.flags refl (λ t rest e. e) (λ t rest e. e)
 
   pub no_place : arg_by_index (rules_built n) 1 ≡ None
-  no_place = find_rules _ option_built flag_built n.options n.flags (λ t. refl) (λ t. refl)
+  no_place = of_rules (λ rules. arg_by_index rules 1 ≡ None) option_built flag_built n.options n.flags refl (λ t rest e. e) (λ t rest e. e)
 
 -- ---- after the walk
 
@@ -114,15 +92,9 @@ no_default rows t = let given = or_true (has_row t rows) in simp given
 flag_default : (rows : List Row) (t : Text) → default_fault rows (flag_built t) ≡ []
 flag_default rows t = either_way (has_row t rows || false) _ refl
 
-defaults_flags : (flags : List Text) (rows : List Row) → defaults_fault rows (map flag_built flags) ≡ []
-unfolding defaults_fault
-defaults_flags [] rows = refl
-defaults_flags (f ∷ fs) rows = ap₂ or_else (flag_default rows f) (defaults_flags fs _)
-
 defaults_rules : (options flags : List Text) (rows : List Row) → defaults_fault rows (map option_built options ++ map flag_built flags) ≡ []
 unfolding defaults_fault
-defaults_rules [] flags rows = defaults_flags flags rows
-defaults_rules (o ∷ os) flags rows = ap₂ or_else (no_default rows o) (defaults_rules os flags _)
+defaults_rules options flags = of_rules (λ rules. (rows : List Row) → defaults_fault rows rules ≡ []) option_built flag_built options flags (λ rows. refl) (λ t rest e rows. ap₂ or_else (no_default rows t) (e _)) (λ t rest e rows. ap₂ or_else (flag_default rows t) (e _))
 
 unfoldable pub end_fault : List Rule → Held → Kinds
 end_fault c h = or_else (settle_fault c false h) (or_else (defaults_fault (settled c h).rows c) (check_fault (shape_with c) (finished c h) false))
@@ -130,7 +102,7 @@ end_fault c h = or_else (settle_fault c false h) (or_else (defaults_fault (settl
 module _ (n : Names) where
   none_required : (rows : List Row) → check_fault (shape_with (rules_built n)) rows false ≡ []
   none_required rows =
-      let isnt = any_rules (λ a. a.required && not (Rattle.clap.specs.Takes.is_given a.id rows)) option_built flag_built n.options n.flags (λ t. refl) (λ t. refl) in simp isnt
+      let isnt = of_rules (λ rules. list_any (λ a. a.required && not (Rattle.clap.specs.Takes.is_given a.id rows)) rules ≡ false) option_built flag_built n.options n.flags refl (λ t rest e. e) (λ t rest e. e) in simp isnt
 
   -- after the last word only a repeated option is found
   pub end_is : (h : Held) → end_fault (rules_built n) h ≡ settle_fault (rules_built n) false h

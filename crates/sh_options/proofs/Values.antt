@@ -1,5 +1,6 @@
 -- What the getters read after the parse, by the uses.
-use Rattle.std.proofs.Common.{◌≡◌, Bool, true, false, ◌&&◌, List, [], ◌∷◌, ◌++◌, map, Option, Some, None, codes, refl, ap, ap₂, sym, ◌∙◌, option_map}
+use Rattle.std.proofs.Common.{◌≡◌, Bool, true, false, ◌&&◌, List, [], ◌∷◌, ◌++◌, map, Option, Some, None, codes, refl, ap, ap₂, sym, ◌∙◌, option_map, arith}
+use Rattle.std.proofs.lemmas.Grind.{common_steps}
 use Rattle.std.specs.{Prelude.{fold, if◌then◌else◌, slice_get, unwrap_or, option_and_then, find, is_some}, List.{list_all}, Str.{bytes_eq}}
 use Rattle.clap.specs.{Walk.{Row, first_of, has_row, more_values, one_of, row_text, with_default}, declared.builder.value_parser.Reading.TheVariants.{AsWritten}}
 use Rattle.clap.{specs.declared.parser.matches.ValueSource.TheVariants.{DefaultValue}, proofs.WalkLemmas.{both, find-map}}
@@ -21,20 +22,11 @@ first_none (Some x) = refl
 
 row_at_more : (id : Text) (rows : List Row) (r : Row) → row_at id (rows ++ r ∷ []) ≡ first_some (row_at id rows) (row_at id (r ∷ []))
 row_at_more id [] r = refl
-row_at_more id (x ∷ rows) r = go (bytes_eq x.id id) refl (row_at_more id rows r)
-  where
-    go : (b : Bool) → bytes_eq x.id id ≡ b → row_at id (rows ++ r ∷ []) ≡ first_some (row_at id rows) (row_at id (r ∷ []))
-        → row_at id (x ∷ rows ++ r ∷ []) ≡ first_some (row_at id (x ∷ rows)) (row_at id (r ∷ []))
-    go true e rest = simp e
-    go false e rest = simp e rest
+row_at_more id (x ∷ rows) r = let rest = row_at_more id rows r in grind (arith, common_steps, rest)
 
 has_row_at : (id : Text) (rows : List Row) → has_row id rows ≡ is_some (row_at id rows)
 has_row_at id [] = refl
-has_row_at id (x ∷ rows) = go (bytes_eq x.id id) refl (has_row_at id rows)
-  where
-    go : (b : Bool) → bytes_eq x.id id ≡ b → has_row id rows ≡ is_some (row_at id rows) → has_row id (x ∷ rows) ≡ is_some (row_at id (x ∷ rows))
-    go true e rest = simp e
-    go false e rest = simp e rest
+has_row_at id (x ∷ rows) = let rest = has_row_at id rows in grind (arith, common_steps, rest)
 
 abbrev pub default_row : Text → Row
 default_row id = record { id = id; values = codes "false" ∷ []; count = None; source = Some DefaultValue; reading = AsWritten }

@@ -1,35 +1,14 @@
 -- A place among the levels is one of the pool, and a place of the pool is one of the bytes.
-use Rattle.std.{specs.{Prelude.{slice_index, MatchOption}, FinMap.{entries}}, proofs.Common.{◌≡◌, ◌∙◌, ◌<◌, ◌^◌, ℕ, List, Option, Some, None, length, map, drop, sym, ap, subst}}
+use Rattle.std.{specs.{Prelude.{slice_index, MatchOption}, FinMap.{entries}}, proofs.Common.{rules, ◌≡◌, ◌∙◌, ◌<◌, ◌^◌, ℕ, List, Option, Some, None, length, map, drop, sym, ap, subst}}
 use Rattle.sh_base.specs.{Setting.{pool_words, IsSetting}, declared.config.ConfigParts.{ConfigParts}}
 use Rattle.sh_map.specs.{Map.{row_pair}, declared.book.Row.{Row}}
 use Rattle.sh_tree.specs.Tree.{map_in, IsTree}
 use Rattle.sh_picture.specs.{Picture.{numbers_spelled, parts_spelled, picture_of, words_in}, Verdict.{IsGoodPool, IsTreePicture}}
-use Rattle.sh_picture.{proofs.PictureLemmas.{numbers_long, picture_back, words_is, words_small, AreBytes}, specs.Fault.{HasWords, IsFirstPlace, IsIdle, IsNoTree, IsPoolFault}}
-use Rattle.sh_picture.specs.declared.place.FirstPlace.{FirstPlace, TheVariants.{Short, Magic, Setting, Length, Zero, Lock, Root, Chain, Pair, Twice}}
-
-pub of_tree : (p : ConfigParts) (words : List ℕ) (place : FirstPlace) → IsIdle p words → IsNoTree p words place → IsPoolFault p words place
-of_tree p words Short idle h = absurd h
-of_tree p words (Magic at) idle h = absurd h
-of_tree p words (Setting fault) idle h = absurd h
-of_tree p words (Length len) idle h = absurd h
-of_tree p words Zero idle h = absurd h
-of_tree p words (Lock lock) idle h = absurd h
-of_tree p words Root idle h = (idle, h)
-of_tree p words (Chain level node) idle h = (idle, h)
-of_tree p words (Pair node index) idle h = (idle, h)
-of_tree p words (Twice node key) idle h = (idle, h)
+use Rattle.sh_picture.{proofs.PictureLemmas.{numbers_long, picture_back, words_is, words_small, AreBytes}, specs.Fault.{HasWords, IsFirstPlace, IsPoolFault}}
+use Rattle.sh_picture.specs.declared.place.FirstPlace.{FirstPlace}
 
 pub of_pool : (bytes : List ℕ) (place : FirstPlace) → HasWords bytes → IsPoolFault (parts_spelled bytes) (words_in bytes) place → IsFirstPlace bytes place
-of_pool bytes Short w h = absurd h.1
-of_pool bytes (Magic at) w h = absurd h.1
-of_pool bytes (Setting fault) w h = absurd h.1
-of_pool bytes (Length len) w h = absurd h.1
-of_pool bytes Zero w h = (w, h)
-of_pool bytes (Lock lock) w h = (w, h)
-of_pool bytes Root w h = (w, h)
-of_pool bytes (Chain level node) w h = (w, h)
-of_pool bytes (Pair node index) w h = (w, h)
-of_pool bytes (Twice node key) w h = (w, h)
+of_pool bytes place w h = search rules
 
 -- what the code found in the words is so of the bytes
 pub refused_of : (bytes : List ℕ) (p : ConfigParts) (words : List ℕ) (found : Option FirstPlace) (place : FirstPlace) → found ≡ Some place → HasWords bytes × (p ≡ parts_spelled bytes) → words ≡ numbers_spelled 8 (pool_words p) (drop 56 bytes) → MatchOption found (IsGoodPool p words) (λ x. IsPoolFault p words x) → IsFirstPlace bytes place

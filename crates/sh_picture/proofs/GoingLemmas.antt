@@ -1,7 +1,7 @@
 -- The walk down the levels, as far as it has come.
-use Rattle.std.proofs.{Common.{◌≡◌, ◌≢◌, ℕ, suc, ◌+◌, ◌-◌, ◌<◌, ◌≤◌, List, Vec, Global, [], ◌∷◌, ◌++◌, length, refl, sym, ap, subst, ◌∙◌, inl, inr, length-append, arith}, lemmas.Bool.{cases_eq}}
+use Rattle.std.proofs.{Common.{◌≡◌, ◌≢◌, ℕ, suc, ◌+◌, ◌-◌, ◌≤◌, List, Vec, Global, [], ◌∷◌, ◌++◌, length, sym, ap, subst, ◌∙◌, length-append, arith}}
 use Rattle.sh_base.specs.{declared.config.ConfigParts.{ConfigParts}, Setting.{nodes, IsNode}}
-use Rattle.sh_picture.specs.{Walk.{first_child, level_at, root_of, IsAlong, IsDown, IsLevel, IsSoundNode, IsSpelled, IsUnsound, IsWalked}, Walks.{LevelWalked, StopsAt}}
+use Rattle.sh_picture.specs.{Walk.{first_child, root_of, IsAlong, IsDown, IsLevel, IsSoundNode}, Walks.{LevelWalked}}
 use Rattle.sh_picture.{specs.declared.walked.LevelWalk.{LevelWalk, TheVariants.{Whole}}, proofs.{NodeLemmas.{child_inside}, WalkLemmas.{down_more}}}
 
 -- so many levels are walked, and `first` is the first number of the next one, if there is one
@@ -24,16 +24,6 @@ module _ (p : ConfigParts) (words : List ℕ) where
   pub level_first : (level first : ℕ) (ns : List ℕ) → IsLevel p words level first ns → first ≢ 0 → IsSoundNode p words level 0 first
   level_first level first ns h some = level_head level first ns h.high h.along some
 
-  -- the level word of a node that spells an image is small
-  pub level_small : (n : ℕ) → IsSpelled p words n → level_at p words n < nodes p
-  level_small n h = elim (cases_eq (level_at p words n) 0) [
-    | inl z ↦ omega (arith, z, h.node.first, h.node.last)
-    | inr some ↦ (child_inside p words n h some).1
-  ]
-
-  pub going_none : (top root : ℕ) → root ≡ root_of words → IsSpelled p words (root_of words) → IsGoing p words top 0 [] root
-  going_none top root is h = record { number = root_of words; count = refl; within = omega arith; down = refl; here = λ le. (h.node, is) }
-
   pub going_more : (top depth : ℕ) (above : List (List ℕ)) (first next : ℕ) (ns : List ℕ) → depth ≤ top → IsGoing p words top depth above first → IsLevel p words (top - depth) first ns → (first_child p words first ≤ nodes p → next ≡ first_child p words first) → IsGoing p words top (depth + 1) (above ++ ns ∷ []) next
   going_more top depth above first next ns le h level is =
       let at : first ≡ h.number = (h.here le).1 in
@@ -51,29 +41,4 @@ module _ (p : ConfigParts) (words : List ℕ) where
             let s = level_first (top - depth) h.number ns level_is (λ z. omega (arith, z, node.first)) in
             let child = (child_inside p words h.number s.spelled (λ z. omega (arith, z, s.level_is, more))).0 in
             (child, is (subst (λ (f : ℕ). first_child p words f ≤ nodes p) (sym at) child.last) ∙ ap (first_child p words) at);
-      }
-
-  pub going_stops : (top depth : ℕ) (above : List (List ℕ)) (first node : ℕ) → top ≡ level_at p words (root_of words) → depth ≤ top → IsGoing p words top depth above first → StopsAt p words (top - depth) first node → IsUnsound p words (top - depth) node
-  going_stops top depth above first node is le h s =
-      let at : first ≡ h.number = (h.here le).1 in
-      let left : suc top - depth ≡ suc (top - depth) = omega (arith, le) in
-      record {
-        above = above;
-        before = s.before;
-        first = h.number;
-        low = s.low;
-        top = omega (arith, is, h.count, le);
-        down = subst (λ (l : ℕ). IsDown p words l (root_of words) above h.number) left h.down;
-        along = subst (λ (f : ℕ). IsAlong p words (top - depth) f 0 s.before node s.low) at s.along;
-        some = s.some;
-        unsound = s.unsound;
-      }
-
-  pub going_all : (top depth : ℕ) (levels : List (List ℕ)) (first : ℕ) → top ≡ level_at p words (root_of words) → top + 1 ≤ depth → IsGoing p words top depth levels first → IsWalked p words levels
-  going_all top depth levels first is all h =
-      let none : suc top - depth ≡ 0 = omega (arith, all) in
-      record {
-        comes_to = h.number;
-        top = omega (arith, is, h.count, h.within, all);
-        down = subst (λ (l : ℕ). IsDown p words l (root_of words) levels h.number) none h.down;
       }

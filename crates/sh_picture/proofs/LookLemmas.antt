@@ -29,9 +29,6 @@ in_last : (ns : List ℕ) (n : ℕ) → is_in (ns ++ n ∷ []) n ≡ true
 in_last [] n = in_head n []
 in_last (x ∷ ns) n = in_more x n (ns ++ n ∷ []) (in_last ns n)
 
-pub marked_none : (mark : ℕ) (marks : List ℕ) → AreUnder mark marks → AreMarked [] mark marks
-marked_none mark marks h = record { all = λ n among. absurd (cc); none_else = λ n is. absurd (omega (arith, is, h n)) }
-
 pub marked_more : (ns marks : List ℕ) (n mark : ℕ) → n < length marks → AreMarked ns mark marks → AreMarked (ns ++ n ∷ []) mark (set marks n mark)
 marked_more ns marks n mark within h = record {
   all = λ m among. elim (cases_eq m n) [

@@ -1,5 +1,5 @@
 -- Of some bytes there is one first place at most.
-use Rattle.std.{specs.Prelude.{slice_index}, proofs.{Common.{◌≡◌, ℕ, zero, suc, ◌+◌, ◌-◌, ◌<◌, ◌≤◌, List, Some, None, length, refl, sym, ap, subst, ◌∙◌, inl, inr, arith}, lemmas.Bool.{cases_lt}}}
+use Rattle.std.{specs.Prelude.{slice_index}, proofs.{Common.{rules, ◌≡◌, ℕ, zero, suc, ◌+◌, ◌-◌, ◌<◌, ◌≤◌, List, Some, None, length, refl, sym, ap, subst, ◌∙◌, inl, inr, arith}, lemmas.Bool.{cases_lt}}}
 use Rattle.sh_base.specs.declared.config.{ConfigParts.{ConfigParts}, ConfigFault.{ConfigFault, TheVariants.{Servers}}}
 use Rattle.sh_tree.specs.Tree.{leaves_of}
 use Rattle.sh_picture.specs.{Picture.{parts_spelled, words_in}, Walk.{root_of, IsSpelled, IsWalked}}
@@ -82,55 +82,28 @@ module _ (bytes : List ℕ) where
   passes_all zero k h = let e : k + 0 ≡ k = omega arith in subst Passes e h
   passes_all (suc more) k h = let e : k + suc more ≡ suc (k + more) = omega arith in passes_all more k (passes_before (k + more) (subst Passes e h))
 
-  passed_1 : (at : ℕ) → IsFirstPlace bytes (Magic at) → Passes 0
-  unfolding Passes
-  passed_1 at h = h.0
+  Before : ℕ → Type 0
+  Before zero = Unit {0}
+  Before (suc k) = Passes k
 
-  passed_2 : (fault : ConfigFault) → IsFirstPlace bytes (Setting fault) → Passes 1
-  unfolding Passes
-  passed_2 fault h = h.0
+  -- a place has passed those before it, and fails its own test
+  passed : (b : FirstPlace) → IsFirstPlace bytes b → Before (rank b)
+  unfolding Before Passes rank
+  passed Short h = tt
+  passed (Magic at) h = h.0
+  passed (Setting fault) h = h.0
+  passed (Length len) h = h.0
+  passed Zero h = h.0
+  passed (Lock lock) h = (h.0, h.1.0)
+  passed Root h = (h.0, h.1.0)
+  passed (Chain level node) h = ((h.0, h.1.0), h.1.1.0)
+  passed (Pair node index) h = (((h.0, h.1.0), h.1.1.0), (h.1.1.1.0, h.1.1.1.1))
+  passed (Twice node key) h = ((((h.0, h.1.0), h.1.1.0), (h.1.1.1.0, h.1.1.1.1)), (h.1.1.1.0, h.1.1.1.1, h.1.1.1.2))
 
-  passed_3 : (len : ℕ) → IsFirstPlace bytes (Length len) → Passes 2
-  unfolding Passes
-  passed_3 len h = h.0
-
-  passed_4 : IsFirstPlace bytes Zero → Passes 3
-  unfolding Passes
-  passed_4 h = h.0
-
-  passed_5 : (lock : ℕ) → IsFirstPlace bytes (Lock lock) → Passes 4
-  unfolding Passes
-  passed_5 lock h = (h.0, h.1.0)
-
-  passed_6 : IsFirstPlace bytes Root → Passes 5
-  unfolding Passes
-  passed_6 h = (h.0, h.1.0)
-
-  passed_7 : (level : ℕ) (node : ℕ) → IsFirstPlace bytes (Chain level node) → Passes 6
-  unfolding Passes
-  passed_7 level node h = ((h.0, h.1.0), h.1.1.0)
-
-  passed_8 : (node : ℕ) (index : ℕ) → IsFirstPlace bytes (Pair node index) → Passes 7
-  unfolding Passes
-  passed_8 node index h = (((h.0, h.1.0), h.1.1.0), (h.1.1.1.0, h.1.1.1.1))
-
-  passed_9 : (node : ℕ) (key : ℕ) → IsFirstPlace bytes (Twice node key) → Passes 8
-  unfolding Passes
-  passed_9 node key h = ((((h.0, h.1.0), h.1.1.0), (h.1.1.1.0, h.1.1.1.1)), (h.1.1.1.0, h.1.1.1.1, h.1.1.1.2))
-
-  -- the place behind has passed those before it; and a place fails its own test
-  passed : (b : FirstPlace) (k : ℕ) → rank b ≡ suc k → IsFirstPlace bytes b → Passes k
-  unfolding rank
-  passed Short k e h = absurd (omega (arith, e))
-  passed (Magic at) k e h = subst Passes (omega (arith, e)) (passed_1 at h)
-  passed (Setting fault) k e h = subst Passes (omega (arith, e)) (passed_2 fault h)
-  passed (Length len) k e h = subst Passes (omega (arith, e)) (passed_3 len h)
-  passed Zero k e h = subst Passes (omega (arith, e)) (passed_4 h)
-  passed (Lock lock) k e h = subst Passes (omega (arith, e)) (passed_5 lock h)
-  passed Root k e h = subst Passes (omega (arith, e)) (passed_6 h)
-  passed (Chain level node) k e h = subst Passes (omega (arith, e)) (passed_7 level node h)
-  passed (Pair node index) k e h = subst Passes (omega (arith, e)) (passed_8 node index h)
-  passed (Twice node key) k e h = subst Passes (omega (arith, e)) (passed_9 node key h)
+  before_all : (k n : ℕ) → k < n → Before n → Passes k
+  unfolding Before
+  before_all k zero lt h = absurd (omega arith)
+  before_all k (suc n) lt h = let e : k + (n - k) ≡ n = omega arith in passes_all (n - k) k (subst Passes (sym e) h)
 
   fails : (a : FirstPlace) → IsFirstPlace bytes a → Passes (rank a) → ⊥
   unfolding Passes rank
@@ -146,10 +119,7 @@ module _ (bytes : List ℕ) where
   fails (Twice node key) h k = k
 
   not_before : (a b : FirstPlace) → IsFirstPlace bytes a → IsFirstPlace bytes b → rank a < rank b → ⊥
-  not_before a b h k lt =
-      let n = rank b - 1 - rank a in
-      let here : Passes (rank b - 1) = passed b (rank b - 1) (omega (arith, lt)) k in
-      fails a h (passes_all n (rank a) (subst Passes (omega (arith, lt)) here))
+  not_before a b h k lt = fails a h (before_all (rank a) (rank b) lt (passed b k))
 
   same_rank : (a b : FirstPlace) → IsFirstPlace bytes a → IsFirstPlace bytes b → rank a ≡ rank b
   same_rank a b h k = elim (cases_lt (rank a) (rank b)) [
@@ -171,53 +141,27 @@ module _ (bytes : List ℕ) where
   of (suc (suc (suc (suc (suc (suc (suc (suc (suc k))))))))) f x y = Twice x y
 
   fault_in : FirstPlace → ConfigFault
-  fault_in Short = Servers 0
-  fault_in (Magic at) = Servers 0
   fault_in (Setting fault) = fault
-  fault_in (Length len) = Servers 0
-  fault_in Zero = Servers 0
-  fault_in (Lock lock) = Servers 0
-  fault_in Root = Servers 0
-  fault_in (Chain level node) = Servers 0
-  fault_in (Pair node index) = Servers 0
-  fault_in (Twice node key) = Servers 0
+  fault_in a = Servers 0
 
   first_in : FirstPlace → ℕ
-  first_in Short = 0
   first_in (Magic at) = at
-  first_in (Setting fault) = 0
   first_in (Length len) = len
-  first_in Zero = 0
   first_in (Lock lock) = lock
-  first_in Root = 0
   first_in (Chain level node) = level
   first_in (Pair node index) = node
   first_in (Twice node key) = node
+  first_in a = 0
 
   second_in : FirstPlace → ℕ
-  second_in Short = 0
-  second_in (Magic at) = 0
-  second_in (Setting fault) = 0
-  second_in (Length len) = 0
-  second_in Zero = 0
-  second_in (Lock lock) = 0
-  second_in Root = 0
   second_in (Chain level node) = node
   second_in (Pair node index) = index
   second_in (Twice node key) = key
+  second_in a = 0
 
   is_of : (a : FirstPlace) → a ≡ of (rank a) (fault_in a) (first_in a) (second_in a)
   unfolding of rank fault_in first_in second_in
-  is_of Short = refl
-  is_of (Magic at) = refl
-  is_of (Setting fault) = refl
-  is_of (Length len) = refl
-  is_of Zero = refl
-  is_of (Lock lock) = refl
-  is_of Root = refl
-  is_of (Chain level node) = refl
-  is_of (Pair node index) = refl
-  is_of (Twice node key) = refl
+  is_of a = search rules
 
   of_one : (k : ℕ) (f g : ConfigFault) (x y u v : ℕ) → IsFirstPlace bytes (of k f x y) → IsFirstPlace bytes (of k g u v) → of k f x y ≡ of k g u v
   unfolding of

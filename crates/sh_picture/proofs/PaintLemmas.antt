@@ -4,7 +4,7 @@ use Rattle.std.proofs.{Math.Seq.{take-add}, lemmas.List.Concat.{flat_map-append}
 use Rattle.byteorder.specs.Endian.{big_bytes}
 use Rattle.sh_base.specs.declared.config.ConfigParts.{ConfigParts}
 use Rattle.sh_port.{specs.Port.{AppendsFront}, proofs.Bytes.{appends_more}}
-use Rattle.sh_text.proofs.Fronts.{front_more, parts_at}
+use Rattle.sh_text.proofs.Fronts.{front_first, front_more, parts_at}
 use Rattle.sh_picture.specs.Picture.{header_of, picture_of}
 
 -- the picture of the first words, and what comes behind
@@ -25,25 +25,11 @@ piece_more a b c p words at end le h k =
     subst (Appends a c) e (appends_more a b c (picture_of p front) (flat_map (big_bytes 8) piece) h k)
 
 -- where the first piece stops, and where a later one does
-pub front_first : (a b : Option (List ℕ)) (p : ConfigParts) (words : List ℕ) (at : ℕ) → AppendsFront a b (picture_of p (take at words)) → AppendsFront a b (picture_of p words)
-front_first a b p words at f = record {
-  front = f.front;
-  rest = f.rest ++ flat_map (big_bytes 8) (drop at words);
-  whole = parts p words at ∙ ap (λ t. t ++ flat_map (big_bytes 8) (drop at words)) f.whole ∙ append_assoc f.front f.rest (flat_map (big_bytes 8) (drop at words));
-  written = f.written;
-}
+pub piece_first : (a b : Option (List ℕ)) (p : ConfigParts) (words : List ℕ) (at : ℕ) → AppendsFront a b (picture_of p (take at words)) → AppendsFront a b (picture_of p words)
+piece_first a b p words at f = subst (AppendsFront a b) (sym (parts p words at)) (front_first a b (picture_of p (take at words)) (flat_map (big_bytes 8) (drop at words)) f)
 
 pub front_later : (a b c : Option (List ℕ)) (p : ConfigParts) (words : List ℕ) (at end : ℕ) → at ≤ end → Appends a b (picture_of p (take at words)) → AppendsFront b c (flat_map (big_bytes 8) (take (end - at) (drop at words))) → AppendsFront a c (picture_of p words)
 front_later a b c p words at end le h f =
     let behind = flat_map (big_bytes 8) (drop (end - at) (drop at words)) in
     front_more a b c (picture_of p (take at words)) (flat_map (big_bytes 8) (take (end - at) (drop at words))) behind (picture_of p words)
     (parts p words at ∙ ap (λ t. picture_of p (take at words) ++ t) (parts_at (big_bytes 8) (drop at words) (end - at))) h f
-
--- a front of the first part is a front of both
-pub front_of_first : (a b : Option (List ℕ)) (first second : List ℕ) → AppendsFront a b first → AppendsFront a b (first ++ second)
-front_of_first a b first second f = record {
-  front = f.front;
-  rest = f.rest ++ second;
-  whole = ap (λ t. t ++ second) f.whole ∙ append_assoc f.front f.rest second;
-  written = f.written;
-}

@@ -10,9 +10,6 @@ module _ (p : ConfigParts) (words : List ℕ) where
   along_more level number low [] node high h s = (sym h.0, subst (λ (l : ℕ). IsSoundNode p words level l node) h.1 s, (refl, refl))
   along_more level number low (n ∷ ns) node high h s = (h.0, h.1, along_more level (next_at p words n) (high_at p words n) ns node high h.2 s)
 
-  pub along_to : (level number low : ℕ) (ns : List ℕ) (a b high : ℕ) → a ≡ b → IsAlong p words level number low ns a high → IsAlong p words level number low ns b high
-  along_to level number low ns a b high e h = subst (λ (n : ℕ). IsAlong p words level number low ns n high) e h
-
   -- the same where the names of its parts differ
   pub along_here : (level number low : ℕ) (ns ms : List ℕ) (a b high other : ℕ) → ns ≡ ms → a ≡ b → high ≡ other → IsAlong p words level number low ms b other → IsAlong p words level number low ns a high
   along_here level number low ns ms a b high other e f g h =

@@ -2,7 +2,7 @@
 use Rattle.std.specs.{Prelude.{ℕ, ◌≡◌, ◌≢◌, ◌<◌, ◌-◌, ◌^◌, ◌⊎◌, Bool, true, false, List, [], ◌∷◌, length, Option, Some, None, bytes_eq, codes, if◌then◌else◌}, Io.KnownBytes.{Appends}}
 use Rattle.sh_base.specs.declared.config.Config.{Config}
 use Rattle.sh_map.specs.declared.book.Row.{Row}
-use Rattle.sh_port.specs.{Port.{HasRisen, AppendsFront}, Intake.{TookUpTo, TookSomeUpTo, TookMoreThan}}
+use Rattle.sh_port.specs.{Port.{HasRisen, AppendsFront}, Intake.{TookUpTo, TookSomeUpTo, TookMoreThan, TookNoMoreThan}}
 use Rattle.sh_sheet.specs.declared.status.Status.TheVariants as status
 use Rattle.sh_sheet.specs.Status.{status_code, status_text}
 use Rattle.sh_picture.specs.declared.{place.FirstPlace.{FirstPlace}, verdict.Verdict.{Verdict, TheVariants.{Lawful, Refused}}, ending.PictureStatus.{PictureStatus, TheVariants.{Served, NotLawful}}}
@@ -65,7 +65,7 @@ Checked asked left rest before now held after fell fallen (Served status.TooLong
 Checked asked left rest before now held after fell fallen (Served status.WriteFault) =
     HalfWritten asked left rest before now held after × HasRisen fell fallen
 Checked asked left rest before now held after fell fallen (Served status.NoMemory) =
-    (now ≡ before) × (IsUnwritten held after fell fallen ⊎ (HalfWritten asked left rest before now held after × (fallen ≡ fell)))
+    TookNoMoreThan most_bytes left rest before now × (IsUnwritten held after fell fallen ⊎ (HalfWritten asked left rest before now held after × (fallen ≡ fell)))
 Checked asked left rest before now held after fell fallen (Served s) = ⊥
 
 -- Where the words are refused nothing is read or written; where they aren't, the check of the input.
@@ -90,6 +90,12 @@ EndsWell (Served status.Ok) = Unit {0}
 EndsWell (Served status.NoMemory) = Unit {0}
 EndsWell (Served s) = ⊥
 EndsWell NotLawful = Unit {0}
+
+-- it wasn't a fault of the source or the sink
+abbrev pub IsNoFault : PictureStatus → Type 0
+IsNoFault (Served status.ReadFault) = ⊥
+IsNoFault (Served status.WriteFault) = ⊥
+IsNoFault s = Unit {0}
 
 -- the status of a verdict whose lines were all written, and of one whose lines weren't
 abbrev pub told : Verdict → PictureStatus

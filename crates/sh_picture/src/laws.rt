@@ -1,10 +1,14 @@
-// What the definitions of pictures mean.
+// What the definitions of pictures mean, and the check over a source and a sink that never fail.
 ghost use Rattle.std.specs.Prelude.{◌≡◌, ◌<◌, ◌^◌, ℕ, Bool, List, Option, length, slice_index};
 ghost use Rattle.sh_base.specs.{declared.config.ConfigParts.{ConfigParts}, Setting.{pool_words, IsSetting}};
 ghost use Rattle.sh_map.specs.declared.book.Row.{Row};
 ghost use Rattle.sh_tree.specs.Tree.{IsTree};
-ghost use Rattle.sh_picture.specs.{declared.{place.FirstPlace.{FirstPlace}, verdict.Verdict.{Verdict}, ending.PictureStatus.{PictureStatus}}, Top.{EndsWell, Headline, IsFree}};
+ghost use Rattle.sh_picture.specs.{declared.{place.FirstPlace.{FirstPlace}, verdict.Verdict.{Verdict}, ending.PictureStatus.{PictureStatus}}, Top.{EndsWell, Headline, IsFree, IsNoFault}};
 ghost use Rattle.sh_picture.specs.{Picture.{parts_spelled, picture_of, words_in}, Fault.{IsFirstPlace, IsIdle}, Verdict.{HasMapOf, IsTreePicture, VerdictOf}};
+
+use crate::{PictureStatus, check_top};
+use sh_port::{SureSink, SureSource};
+use std::alloc::Global;
 
 /// A picture says its setting and its words. Of a pool at rest that holds a tree the verdict on its picture is lawful,
 /// with the pool's setting and the tree's map; so is `check` of what `paint` wrote.
@@ -29,3 +33,15 @@ pub fn places_are_one()
 pub fn checks_are_complete()
     ensures { (asked : Option Bool) (left rest : Option (List ℕ)) (before now : ℕ) (held after : Option (List ℕ)) (fell fallen : ℕ) (status : PictureStatus) → Headline asked left rest before now held after fell fallen status → IsFree asked left before now fell fallen → EndsWell status }
 {}
+
+/// [`check_top`] over a source and a sink that never fail: neither `ReadFault` nor `WriteFault` comes.
+pub fn check_sure(
+    alloc: Global,
+    words: &[&str],
+    source: &mut SureSource,
+    sink: &mut SureSink,
+) -> PictureStatus
+    ensures { IsNoFault result }
+{
+    check_top(alloc, words, source, sink)
+}

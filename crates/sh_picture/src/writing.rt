@@ -12,6 +12,7 @@ use sh_text::{WriteError, write_map};
 use std::alloc::Global;
 
 // Writes the line of a place.
+#[tactic(auto, using(crate::proofs::TopLemmas::place_unwritten))]
 fn write_place<K: Sink>(alloc: Global, sink: &mut K, place: &FirstPlace) -> Result<(), WriteError>
     ensures ok { OnOk result (Appends (K.held sink.old) (K.held sink.new) (place_line place.now)) }
     ensures err { OnErr result (AppendsFront (K.held sink.old) (K.held sink.new) (place_line place.now)) }
@@ -27,6 +28,7 @@ fn write_place<K: Sink>(alloc: Global, sink: &mut K, place: &FirstPlace) -> Resu
 }
 
 // Writes the line of a lawful picture.
+#[tactic(auto, unfolding(crate::specs::Text::lawful_line))]
 fn write_total<K: Sink>(
     alloc: Global,
     sink: &mut K,

@@ -1,12 +1,12 @@
 -- A call of a pass, from its begin to its end.
-use Rattle.std.proofs.Common.{◌≡◌, ℕ, Bool, true, false, Option, Some, None, List, [], ◌∷◌, ◌++◌, refl, ap, sym, ◌∙◌, subst, append-nil, append_assoc}
+use Rattle.std.proofs.Common.{◌≡◌, ◌≤◌, ℕ, length, Bool, true, false, Option, Some, None, List, [], ◌∷◌, ◌++◌, refl, ap, sym, ◌∙◌, subst, append-nil, append_assoc}
 use Rattle.sh_map.specs.declared.{call.{Call.{Call}, Reply.{Reply}}, log.Entry.{Entry}, book.Done.{Done}}
-use Rattle.sh_client.{specs.{Machine.{Machine}, Rests.{has_ended, is_resting, reply_of, rests}, declared.state.Phase.{Phase, TheVariants.{Ended as AtEnd}}}, proofs.BeginLemmas.{has_begun}}
+use Rattle.sh_client.{specs.{Machine.{Machine}, Rests.{has_ended, is_resting, reply_of, rests, rows_told}, declared.state.Phase.{Phase, TheVariants.{Ended as AtEnd}}}, proofs.BeginLemmas.{has_begun}}
 use Rattle.sh_client.proofs.Wanting.{ended_in, going_in}
 use Rattle.sh_core.specs.Actors.{Actor, done_of}
 use Rattle.sh_core_says.specs.Books.{HasAnswers}
-use Rattle.sh_pool_rule.specs.Views.{view_seat, Begins}
-use Rattle.sh_pool.specs.{Calls.{HasServed, IsServing}, Passes.{IsPass, pass_actor, PoolTable, Standing}, Pools.{IsOfTables}, Turns.{step_of, GoesOrEnds, TookTurn}}
+use Rattle.sh_pool_rule.{specs.Views.{view_seat, Begins}, proofs.BufferLemmas.{lives_few, told_few, HasFewRows}}
+use Rattle.sh_pool.specs.{Calls.{HasServed, IsServing}, Passes.{life_of, IsPass, pass_actor, PoolTable, Standing}, Pools.{IsOfTables}, Turns.{step_of, GoesOrEnds, TookTurn}}
 use Rattle.sh_pool.{specs.declared.state.Step.TheVariants.{Going, Done as Ended}, proofs.Steps.{begun_actor, begun_as, begun_setting}}
 
 pub begun_serves : (p : Standing) (call : Call) → IsPass p → is_resting p.client ≡ true → IsServing call p (begun_as p call)
@@ -43,8 +43,12 @@ goes_serves p q r call s t none =
 ended_rests : (m : Machine) (reply : Reply) → reply_of m ≡ Some reply → (has_ended m.phase ≡ true) × (reply ≡ m.registers.reply)
 ended_rests m reply e = ended_in m reply m.phase e
 
-pub ends_served : (p q r : Standing) (call : Call) (reply : Reply) → IsServing call p q → TookTurn q r → reply_of r.client ≡ Some reply → is_resting r.client ≡ true → HasServed call reply p r
-ends_served p q r call reply s t some rest =
+-- a client never gathers more rows than its buffer holds
+pass_few : (p : Standing) → IsPass p → length (rows_told p.client) ≤ p.client.setting.rows
+pass_few p i = told_few p.client (subst HasFewRows (sym (i.tied ∙ i.lived.client)) (lives_few p.client.setting (view_seat p.view) (life_of p)))
+
+pub ends_served : (p q r : Standing) (call : Call) (reply : Reply) → IsServing call p q → TookTurn q r → reply_of r.client ≡ Some reply → is_resting r.client ≡ true → IsPass r → HasServed call reply p r
+ends_served p q r call reply s t some rest pass =
     let e = ended_rests r.client reply some in
     let d : Done = done_of (view_seat q.view) (pass_actor q) t.log r.client in
     let g : (pass_actor r).dones ≡ (pass_actor q).dones ++ d ∷ [] = subst (λ (b : Bool). GoesOrEnds b (view_seat q.view) (pass_actor q) t.log r.client (pass_actor r)) e.0 t.goes in
@@ -57,6 +61,11 @@ ends_served p q r call reply s t some rest =
       seat_is = s.seat_is;
       first = s.first;
       number = s.number;
+      replied = some;
+      call_now = t.call ∙ s.call_is;
+      few_rows = pass_few r pass;
+      pass = pass;
+      same_seat = t.seat_is ∙ s.seat_is;
       seen = begins_more p.view.seen q.view.seen r.view.seen s.seen t.seen;
       answered = subst (λ (k : ℕ). HasAnswers r.view.seen k (pass_actor r)) (t.seat_is ∙ s.seat_is) t.answered;
       rests = rest;

@@ -1,6 +1,8 @@
 -- A pool that is laid: the passes of its seats, one after another.
 use Rattle.std.proofs.Common.{◌≡◌, ℕ, zero, suc, ◌+◌, ◌-◌, ◌<◌, ◌≤◌, false, Option, None, Some, List, [], ◌∷◌, ◌++◌, length, length-append, replicate, refl, ap, sym, ◌∙◌, arith, subst}
 use Rattle.std.proofs.{Math.Nat.{div-lt_iff_lt-mul}, lemmas.List.{length-replicate}}
+use mathlib.Core.Option.{some}
+use lib.ListN.{get_elem?}
 use Rattle.atomic_table.specs.{Seated.{TableId}, Table.{Splits}}
 use Rattle.sh_base.specs.{declared.config.ConfigParts.{ConfigParts}, Layout.{compute_of}, Setting.{all_seats, IsSetting}}
 use Rattle.sh_client.specs.Machine.{fresh_machine, Machine}
@@ -8,7 +10,7 @@ use Rattle.sh_core.specs.Opening.{entered}
 use Rattle.sh_local.specs.Chairs.{fresh_chair, CellTable, Sitting}
 use Rattle.sh_pool_rule.{specs.{declared.view.PassView.{PassView}, Views.{bare_view, member, members_from, opening_view}, Rights.{first_alone, less_first}}, proofs.Allowed.{Pooled}}
 use Rattle.sh_pool_rule.proofs.{OpenLemmas.{making}, Stayed.{fresh_stays}}
-use Rattle.sh_pool.specs.{Handed.{Handed}, Passes.{IsChairOf, IsPass, PoolTable, Standing}, Pools.{fresh_pass, fresh_passes, AreMade, AreNewPasses, AreReady, IsReady, HasChairs, IsMaker}}
+use Rattle.sh_pool.specs.{Handed.{Handed}, Gathering.{seats_of, AreAllPasses}, Passes.{IsChairOf, IsPass, PoolTable, Standing}, Pools.{fresh_pass, fresh_passes, AreMade, AreNewPasses, AreReady, IsReady, HasChairs, IsMaker}}
 use Rattle.sh_pool.specs.declared.right.Knower.{Knower}
 
 -- ---- the maker's view
@@ -58,6 +60,7 @@ fresh_is z p r k within = record {
   may = tt;
   tied = refl;
   lived = record { client = refl; ends = refl };
+  calls = refl;
   no_right = refl;
   sits = refl;
   before = λ e. absurd (cc);
@@ -139,6 +142,26 @@ ready_by t ps (Some r) e h = subst (AreReady t.setting (Some t)) (sym h) (fresh_
 
 pub new_ready : (t : PoolTable) (ps : List Standing) → AreNewPasses t ps → AreReady t.setting (Some t) ps
 new_ready t ps h = ready_by t ps t.cells refl h
+
+fresh_long : (z : TableId) (p : ConfigParts) (r : CellTable Knower) (k n : ℕ) → length (fresh_passes z p r k n) ≡ n
+fresh_long z p r k zero = refl
+fresh_long z p r k (suc n) = ap suc (fresh_long z p r (suc k) n)
+
+fresh_seats : (z : TableId) (p : ConfigParts) (r : CellTable Knower) (k n i : ℕ) → i < n → get_elem? (seats_of (fresh_passes z p r k n)) i ≡ some (k + i)
+fresh_seats z p r k zero i lt = absurd (omega (arith, lt))
+fresh_seats z p r k (suc n) zero lt = let e : k ≡ k + 0 = omega arith in ap some e
+fresh_seats z p r k (suc n) (suc i) lt = let e : suc k + i ≡ k + suc i = omega arith in fresh_seats z p r (suc k) n i (omega (arith, lt)) ∙ ap some e
+
+all_by : (t : PoolTable) (ps : List Standing) (o : Option (CellTable Knower)) → AreReady t.setting (Some t) ps → HasChairs o (λ (r : CellTable Knower). ps ≡ fresh_passes t.table t.setting r 0 (all_seats t.setting)) → AreAllPasses t ps
+all_by t ps None ready h = absurd h
+all_by t ps (Some r) ready h = record {
+  ready = ready;
+  long = ap length h ∙ fresh_long t.table t.setting r 0 (all_seats t.setting);
+  seats = λ k lt. (k, ap (λ (qs : List Standing). get_elem? (seats_of qs) k) h ∙ fresh_seats t.table t.setting r 0 (all_seats t.setting) k lt ∙ (let e : 0 + k ≡ k = omega arith in ap some e));
+}
+
+pub new_all : (t : PoolTable) (ps : List Standing) → AreNewPasses t ps → AreAllPasses t ps
+new_all t ps h = all_by t ps t.cells (new_ready t ps h) h
 
 -- the last of them
 pub ready_last : (p : ConfigParts) (laid : Option PoolTable) (qs : List Standing) (q : Standing) → AreReady p laid (qs ++ q ∷ []) → AreReady p laid qs × IsReady p laid q

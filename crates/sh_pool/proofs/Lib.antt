@@ -7,3 +7,4 @@ pub mod Staying
 pub mod Acting
 pub mod CallLemmas
 pub mod LayLemmas
+pub mod GatherLemmas

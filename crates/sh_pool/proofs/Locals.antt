@@ -5,7 +5,7 @@ use Rattle.sh_base.specs.{declared.config.ConfigParts.{ConfigParts}, Layout.{com
 use Rattle.sh_decide.specs.declared.state.Aim.{Aim}
 use Rattle.sh_client.specs.declared.state.Want.TheVariants as want
 use Rattle.sh_client.specs.{declared.state.Phase.{Phase, TheVariants.{Draw, Look, Read, ReadLocked, Seek}}, Machine.{Machine}, Feeds.{fed_by, fed_in, turned_by, turned_in}, Giving.{makes}}
-use Rattle.sh_client.{specs.{InLine.{is_some, stand_of, MayHand, Served, Stand, Waits}, Wants.{load_of, count_of, want_in, want_of}}, proofs.CachedLemmas.{fed_keeps, turned_keeps}}
+use Rattle.sh_client.{specs.{InLine.{is_some, stand_of, MayHand, Served, Stand, Waits}, Rests.{is_resting}, Wants.{load_of, count_of, want_in, want_of}}, proofs.CachedLemmas.{fed_keeps, turned_keeps}}
 use Rattle.sh_client.proofs.{InLineLemmas.{count_is, count_stands, draw_stands, leave_stands, load_is, look_stands, not_elsewhere}, Wanting.{leaving, looking}}
 use Rattle.sh_alloc.specs.Walks.{walk_wants}
 use Rattle.sh_read.specs.Reads.{wanted}
@@ -16,7 +16,7 @@ use Rattle.sh_logic.proofs.Options.{some_none}
 use Rattle.sh_pool_rule.specs.{declared.view.PassView.{PassView}, Views.{longer, view_seat}, Untold.{WordAnswered, StaysAnswered}, Rights.{depth_of, parted_view, taken_view}}
 use Rattle.sh_pool_rule.proofs.{LifeLemmas.{becomes_client, turn_lives, word_lives}, Stayed.{stays_handed, stays_taken}}
 use Rattle.sh_pool.specs.{Handed.{Handed}, Fitting.{cell_for}, Passes.{pass_actor, life_of, tale_of, untold_of, EndsLeft, IsBefore, IsPass, SitsWhere, Standing}, declared.right.Knower.{Knower}}
-use Rattle.sh_pool.proofs.Steps.{answer_pass, answered_now, count_not_begun, leave_not_begun, moved_pass, serve_pass, standing, stays_now}
+use Rattle.sh_pool.proofs.Steps.{answer_pass, answered_now, busy_at, count_not_begun, leave_not_begun, moved_pass, serve_pass, standing, stays_now, turn_calls, word_calls}
 
 false_true : false ≡ true → ⊥
 false_true e = cc
@@ -98,6 +98,7 @@ take_pass p c lock r i wants is depth =
     moved_pass p w c m (actor_turned k (pass_actor p) s (depth_of r.view.right)) i refl
     (becomes_client k (pass_actor p) s [] (turned_by (pass_actor p).client (depth_of r.view.right)) ∙ (λ z. turned_by (sym i.tied z) (depth z)))
     (ap untold_of none) (subst EndsLeft (sym none) tt) (omega (arith, ap length calls_are, length-append old (x ∷ []))) i.no_right (turn_lives p.client.setting k (life_of p) (pass_actor p) s (depth_of r.view.right) i.lived)
+    (turn_calls k (life_of p) (pass_actor p) s (depth_of r.view.right) i.calls (subst (λ (x : Machine). is_resting x ≡ false) i.tied (busy_at p.client p.client.phase (λ d. let q = sym wants ∙ d in absurd (cc)))))
     (let a = looking p.client lock wants in subst (λ (o : Option ℕ). StaysAnswered p.client.setting k s (actor_turned k (pass_actor p) s o)) (sym depth) (stays_taken p.client.setting k p.view.seen (drop (length p.view.seen) r.view.seen) (pass_actor p) a.aim a.node r.depth (answered_now p i) (ap (λ (x : Machine). x.phase) (sym i.tied) ∙ a.phase_is)))
     (turned_keeps p.client (Some r.depth)) (subst (SitsWhere p.client.setting C c.view) (sym l.2) (subst (λ (v : View Handed Knower). SitsWhere p.client.setting C v (Served lock false)) (sym is) ((refl, h.1, refl), (λ q. absurd (false_true q)))))
     (omega (arith, pg, g)) (omega (arith, pt, t))
@@ -156,5 +157,6 @@ hand_pass p c lock depth r i wants is =
     (moved_pass p w c m (actor_stepped k (pass_actor p) p.view.seen 0) i refl
     (becomes_client k (pass_actor p) p.view.seen (makes (pass_actor p).client) (fed_by (pass_actor p).client 0) ∙ ap (λ (y : Machine). fed_by y 0) (sym i.tied))
     (ap untold_of rest) (subst EndsLeft (sym rest) refl) (omega (arith, ap length calls_are, length-append old (x ∷ []))) i.no_right (word_lives p.client.setting k (life_of p) (pass_actor p) p.view.seen 0 i.lived)
+    (word_calls k (life_of p) (pass_actor p) p.view.seen 0 i.calls (subst (λ (x : Machine). is_resting x ≡ false) i.tied (busy_at p.client p.client.phase (λ d. let q = sym wants ∙ d in absurd (cc)))))
     (let a = leaving p.client lock (Some depth) wants in stays_handed p.client.setting k p.view.seen (pass_actor p) (stays_now p i) record { node = a.node; depth = depth; behind = a.after; phase = ap (λ (x : Machine). x.phase) (sym i.tied) ∙ a.phase_is })
     (fed_keeps p.client 0) (subst (SitsWhere p.client.setting C c.view) (sym l.1) (ap (λ (v : View Handed Knower). v.ticket) is)) (omega (arith, pg, g)) (omega (arith, pt, t)))

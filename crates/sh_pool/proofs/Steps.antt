@@ -1,23 +1,24 @@
 -- What a pass's turns leave of it.
-use Rattle.std.proofs.Common.{◌≡◌, ℕ, ◌+◌, ◌<◌, ◌≤◌, Bool, true, false, Option, Some, None, List, [], ◌∷◌, ◌++◌, length, drop, refl, ap, sym, ◌∙◌, subst, arith, length-append}
-use Rattle.std.{proofs.Math.Seq.{drop-length}, specs.Prelude.{if◌then◌else◌}}
+use Rattle.std.proofs.Common.{◌≡◌, ℕ, ◌+◌, ◌<◌, ◌≤◌, Bool, true, false, Option, Some, None, List, [], ◌∷◌, ◌++◌, length, drop, refl, ap, sym, ◌∙◌, subst, arith, append-nil, length-append}
+use Rattle.std.{proofs.Math.Seq.{drop-length}, specs.Prelude.{if◌then◌else◌, map}}
 use Rattle.atomic_table.specs.Seated.{TableId}
 use Rattle.sh_base.specs.{declared.{config.ConfigParts.{ConfigParts}, event.Event.{Event}}, Layout.{compute_of}}
-use Rattle.sh_map.specs.{declared.{call.Call.{Call}, log.Entry.{Entry}}, Calls.{IsInRange}}
+use Rattle.sh_map.specs.{declared.{call.Call.{Call}, log.Entry.{Entry}, book.Done.{Done}}, Calls.{IsInRange}}
 use Rattle.sh_decide.specs.{declared.state.Aim.{Aim, TheVariants.{Own}}, Aims.{aim_of, call_key, takes_lock}}
 use Rattle.sh_client.specs.declared.state.Want.TheVariants as want
 use Rattle.sh_client.specs.{declared.state.{Phase.{Phase, TheVariants.{Idle, Root, Read, Draw, Look, Grab, Ended}}, Want.{Want}, Origin.{Origin}}, Machine.{Machine, began_cached, reading, to}}
 use Rattle.sh_client.specs.{Cached.{origin_of}, Feeds.{began_at, calling, fed_by, finished, from_cached, turned_by, begun as machine_begun}, Giving.{makes}, Courses.{KeepsCall}}
-use Rattle.sh_client.{specs.{InLine.{Stand, Away, stand_in, stand_of}, Rests.{is_resting, rests}, Wants.{load_of, want_in, want_of}}, proofs.BeginLemmas.{has_begun}}
+use Rattle.sh_client.{specs.{InLine.{Stand, Away, stand_in, stand_of}, Rests.{has_ended, is_resting, rests}, Wants.{load_of, want_in, want_of}}, proofs.BeginLemmas.{has_begun}}
 use Rattle.sh_client.proofs.{CachedLemmas.{fed_keeps, turned_keeps}, InLineLemmas.{IsEvent, fed_stands}}
 use Rattle.sh_read.specs.Reads.{wanted}
-use Rattle.sh_core.specs.{Actors.{Actor, actor_begun, actor_stepped}, Core.{IsLocal}}
+use Rattle.sh_core.specs.{Actors.{Actor, actor_begun, actor_going, actor_stepped, actor_turned, done_of, ending}, Core.{IsLocal}}
 use Rattle.sh_core_says.specs.Books.{HasAnswers}
 use Rattle.sh_local.{specs.{declared.view.{View.{View}, ChairCall.{ChairCall}}, Calls.{gave, given, taken, took, total}, Chairs.{Sitting}}, proofs.Sums.{total_snoc}}
-use Rattle.sh_pool_rule.specs.{declared.view.{PassView.{PassView}, Member.{Member}, Tiding.{Tiding}}, Views.{first_member, member, own, view_seat, Tale}, Lives.{HasLived}}
+use Rattle.sh_pool_rule.specs.{declared.view.{PassView.{PassView}, Member.{Member}, Tiding.{Tiding, TheVariants.{CallTold, TurnTold, WordTold}}}, Views.{first_member, member, own, view_seat, Tale}, Lives.{calls_told, HasLived}}
 use Rattle.sh_pool_rule.specs.Untold.{UntoldTurn, CallBegun, WordAnswered, TurnServed, caught_up, life_with, untold_after, MayTake, MayTakeAll, IsActorOf, StaysAnswered}
 use Rattle.sh_pool_rule.{specs.Rule.{TookEvent, event_view}, proofs.{LifeLemmas.{becomes_client, untold_lives, word_lives}, Stayed.{stays_behind}}}
-use Rattle.sh_pool.specs.{Handed.{Handed}, Passes.{is_left, life_of, pass_actor, tale_of, untold_by, untold_if, untold_of, untold_turns, untold_with, EndsLeft, IsBefore, IsPass, SitsWhere, Standing}}
+use Rattle.sh_pool.specs.{Handed.{Handed}, Passes.{is_left, life_of, pass_actor, tale_of, untold_by, untold_if, untold_of, untold_turns, untold_with, EndsLeft, IsBefore, IsPass, SitsWhere, Standing, TellsItsCalls}}
+use Rattle.sh_pool.proofs.Busy.{fed_busy, is_idle, rests_not, turned_busy}
 use Rattle.sh_pool.{specs.declared.right.Knower.{Knower}, proofs.UntoldLemmas.{caught-append, drop-snoc, ends-snoc, if-snoc, life-append, may-append, with-begin}}
 
 abbrev pub standing : TableId → Machine → Bool → PassView → Sitting Handed Knower → Standing
@@ -25,6 +26,52 @@ standing z m b v c = record { table = z; client = m; begun = b; view = v; chair 
 
 pub is_actor : (p : Standing) → IsPass p → IsActorOf p.client.setting p.view (pass_actor p)
 is_actor p i = record { here = i.here; turns = untold_turns p; may = i.may; is = refl }
+
+-- ---- the calls that its life tells
+
+abbrev open_if : Bool → Call → List Call
+open_if b call = if b then [] else call ∷ []
+
+ends_with_call : (ds : List Done) (d : Done) → map (λ (x : Done). x.call) (ds ++ d ∷ []) ≡ map (λ (x : Done). x.call) ds ++ d.call ∷ []
+ends_with_call [] d = refl
+ends_with_call (x ∷ ds) d = ap (λ (cs : List Call). x.call ∷ cs) (ends_with_call ds d)
+
+becomes_calls : (k : ℕ) (life : List Tiding) (a : Actor) (log more : List Entry) (m : Machine) (t : Bool) → TellsItsCalls life a → is_resting a.client ≡ false → m.registers.call ≡ a.client.registers.call → is_resting m ≡ t → TellsItsCalls life (if t then ending k a log m else actor_going a log more m)
+becomes_calls k life a log more m true h busy same e = h ∙ (λ z. map (λ (d : Done). d.call) a.dones ++ open_if (busy z) (sym same z)) ∙ sym (ends_with_call a.dones (done_of k a log m)) ∙ sym (append-nil (map (λ (d : Done). d.call) (a.dones ++ done_of k a log m ∷ []))) ∙ (λ z. map (λ (d : Done). d.call) (a.dones ++ done_of k a log m ∷ []) ++ open_if (sym e z) m.registers.call)
+becomes_calls k life a log more m false h busy same e = h ∙ (λ z. map (λ (d : Done). d.call) a.dones ++ open_if ((busy ∙ sym e) z) (sym same z))
+
+-- a client that isn't idle rests where its call has ended
+rests_as : (ph : Phase) → is_idle ph ≡ false → rests ph ≡ has_ended ph
+rests_as Idle e = absurd (cc)
+rests_as ph e = refl
+
+pub busy_at : (m : Machine) (ph : Phase) → (want_in m ph ≡ want.Done → ⊥) → rests ph ≡ false
+busy_at m Idle h = absurd (h refl)
+busy_at m Ended h = absurd (h refl)
+busy_at m ph h = refl
+
+pub word_calls : (k : ℕ) (life : List Tiding) (a : Actor) (log : List Entry) (word : ℕ) → TellsItsCalls life a → is_resting a.client ≡ false → TellsItsCalls (WordTold word ∷ life) (actor_stepped k a log word)
+word_calls k life a log word h busy =
+    let m : Machine = fed_by a.client word in
+    let idle = rests_not a.client.phase busy in
+    becomes_calls k life a log (makes a.client) m (has_ended m.phase) h busy (fed_keeps a.client word).2 (rests_as m.phase (fed_busy a.client word a.client.phase idle idle))
+
+pub turn_calls : (k : ℕ) (life : List Tiding) (a : Actor) (log : List Entry) (depth : Option ℕ) → TellsItsCalls life a → is_resting a.client ≡ false → TellsItsCalls (TurnTold depth ∷ life) (actor_turned k a log depth)
+turn_calls k life a log depth h busy =
+    let m : Machine = turned_by a.client depth in
+    becomes_calls k life a log [] m (has_ended m.phase) h busy (turned_keeps a.client depth).2 (rests_as m.phase (turned_busy a.client depth a.client.phase (rests_not a.client.phase busy)))
+
+begun_calls : (life : List Tiding) (a : Actor) (call : Call) (n : ℕ) → TellsItsCalls life a → is_resting a.client ≡ true → TellsItsCalls (CallTold call ∷ life) (actor_begun a (a.number + 1) call n)
+begun_calls life a call n h rest =
+    let has = has_begun a.client call in
+    let cs : List Call = map (λ (d : Done). d.call) a.dones in
+    ap (λ (xs : List Call). xs ++ call ∷ []) (h ∙ ap (λ (b : Bool). cs ++ open_if b a.client.registers.call) rest ∙ append-nil cs) ∙ (λ z. cs ++ open_if (sym has.busy z) (sym has.call_is z))
+
+-- the calls of a pass that rests have all ended
+pub calls_ended : (p : Standing) → IsPass p → is_resting p.client ≡ true → map (λ (d : Done). d.call) (pass_actor p).dones ≡ calls_told (life_of p)
+calls_ended p i rest =
+    let cs : List Call = map (λ (d : Done). d.call) (pass_actor p).dones in
+    sym (i.calls ∙ ap (λ (b : Bool). cs ++ open_if b (pass_actor p).client.registers.call) (subst (λ (m : Machine). is_resting m ≡ true) i.tied rest) ∙ append-nil cs)
 
 pub seat_is : (v : PassView) (k : ℕ) (a : Actor) → v.members ≡ member k a ∷ [] → view_seat v ≡ k
 seat_is v k a e = ap (λ (ms : List Member). (first_member ms).seat) e
@@ -103,8 +150,8 @@ untold_now p q x i calls call begun view late =
     (λ z. untold_if (begun z) (call z) (drop (view z).heard (calls z))) ∙ ap (untold_if p.begun p.client.registers.call) (drop-snoc p.view.heard p.chair.view.calls x i.heard) ∙ if-snoc p.begun p.client.registers.call (drop p.view.heard p.chair.view.calls) x late
 
 pub told_pass : (p : Standing) (c : Sitting Handed Knower) (x : ChairCall Handed) (u : UntoldTurn) (m : Machine) → IsPass p → c.view.calls ≡ p.chair.view.calls ++ x ∷ [] → untold_by x ≡ u ∷ [] → (p.begun ≡ true → is_left x ≡ false) → MayTake p.client.setting (pass_actor p) u
-    → m ≡ (untold_after (view_seat p.view) p.view.seen (pass_actor p) u).client → KeepsCall p.client m → SitsWhere p.client.setting (compute_of p.client.setting p.client.seat) c.view (stand_of m) → (p.begun ≡ true → IsBefore m.phase) → (c.view.ticket ≡ None → is_left x ≡ true) → gave x ≡ 0 → took x ≡ 0 → IsPass (standing p.table m p.begun p.view c)
-told_pass p c x u m i calls tells late may is keeps sits before ended none_given none_taken =
+    → m ≡ (untold_after (view_seat p.view) p.view.seen (pass_actor p) u).client → KeepsCall p.client m → SitsWhere p.client.setting (compute_of p.client.setting p.client.seat) c.view (stand_of m) → (p.begun ≡ true → IsBefore m.phase) → (c.view.ticket ≡ None → is_left x ≡ true) → gave x ≡ 0 → took x ≡ 0 → TellsItsCalls (life_with (u ∷ []) (life_of p)) (untold_after (view_seat p.view) p.view.seen (pass_actor p) u) → IsPass (standing p.table m p.begun p.view c)
+told_pass p c x u m i calls tells late may is keeps sits before ended none_given none_taken told =
     let k : ℕ = view_seat p.view in
     let s : List Entry = p.view.seen in
     let old : List (ChairCall Handed) = p.chair.view.calls in
@@ -123,6 +170,7 @@ told_pass p c x u m i calls tells late may is keeps sits before ended none_given
           (may-append p.client.setting k s (own p.view) (untold_turns p) (u ∷ []) i.may (may, tt)));
       tied = is ∙ ap (λ (y : Actor). y.client) (sym more.0);
       lived = subst (λ (z : ConfigParts × List Tiding × Actor). HasLived z.0 k z.1 z.2) (λ z. (sym keeps.0 z, sym more.1 z, sym more.0 z)) lives;
+      calls = subst (λ (z : List Tiding × Actor). TellsItsCalls z.0 z.1) (λ z. (sym more.1 z, sym more.0 z)) told;
       no_right = i.no_right;
       sits = sits_to c.view p.client m (stand_of m) keeps refl sits;
       before = before;
@@ -138,6 +186,7 @@ pub answer_pass : (p : Standing) (c : Sitting Handed Knower) (x : ChairCall Hand
 answer_pass p c x word i l calls tells late sits before ended none_given none_taken =
     told_pass p c x (WordAnswered word) (fed_by p.client word) i calls tells late (subst (λ (m : Machine). IsLocal (want_of m)) i.tied l)
     (ap (λ (m : Machine). fed_by m word) i.tied ∙ sym (becomes_client (view_seat p.view) (pass_actor p) p.view.seen (makes (pass_actor p).client) (fed_by (pass_actor p).client word))) (fed_keeps p.client word) sits before ended none_given none_taken
+    (word_calls (view_seat p.view) (life_of p) (pass_actor p) p.view.seen word i.calls (subst (λ (m : Machine). is_resting m ≡ false) i.tied (busy_at p.client p.client.phase (λ e. subst IsLocal e l))))
 
 -- a look had its turn, with nothing left
 pub serve_pass : (p : Standing) (c : Sitting Handed Knower) (x : ChairCall Handed) (aim : Aim) (n : ℕ) → IsPass p → p.client.phase ≡ Look aim n → c.view.calls ≡ p.chair.view.calls ++ x ∷ [] → untold_by x ≡ TurnServed ∷ [] → (p.begun ≡ true → is_left x ≡ false)
@@ -145,12 +194,13 @@ pub serve_pass : (p : Standing) (c : Sitting Handed Knower) (x : ChairCall Hande
 serve_pass p c x aim n i phase calls tells late sits before ended none_given none_taken =
     told_pass p c x TurnServed (turned_by p.client None) i calls tells late (aim, n, ap (λ (m : Machine). m.phase) (sym i.tied) ∙ phase)
     (ap (λ (m : Machine). turned_by m None) i.tied ∙ sym (becomes_client (view_seat p.view) (pass_actor p) p.view.seen [] (turned_by (pass_actor p).client None))) (turned_keeps p.client None) sits before ended none_given none_taken
+    (turn_calls (view_seat p.view) (life_of p) (pass_actor p) p.view.seen None i.calls (subst (λ (m : Machine). is_resting m ≡ false) i.tied (ap rests phase)))
 
 -- ---- a turn of which the view is told at once
 
 pub moved_pass : (p : Standing) (w : PassView) (c : Sitting Handed Knower) (m : Machine) (a : Actor) → IsPass p → w.members ≡ member (view_seat p.view) a ∷ [] → a.client ≡ m → untold_of (drop w.heard c.view.calls) ≡ [] → EndsLeft (drop w.heard c.view.calls) → w.heard ≤ length c.view.calls → w.right ≡ None
-    → HasLived p.client.setting (view_seat p.view) w.life a → StaysAnswered p.client.setting (view_seat p.view) w.seen a → KeepsCall p.client m → SitsWhere p.client.setting (compute_of p.client.setting p.client.seat) c.view (stand_of m) → w.gave ≡ given c.view → w.took ≡ taken c.view → IsPass (standing p.table m false w c)
-moved_pass p w c m a i members is none ended heard right lived stays keeps sits gave took =
+    → HasLived p.client.setting (view_seat p.view) w.life a → TellsItsCalls w.life a → StaysAnswered p.client.setting (view_seat p.view) w.seen a → KeepsCall p.client m → SitsWhere p.client.setting (compute_of p.client.setting p.client.seat) c.view (stand_of m) → w.gave ≡ given c.view → w.took ≡ taken c.view → IsPass (standing p.table m false w c)
+moved_pass p w c m a i members is none ended heard right lived calls stays keeps sits gave took =
     let k : ℕ = view_seat p.view in
     let num : view_seat w ≡ k = seat_is w k a members in
     let mine : own w ≡ a = own_is w k a members in
@@ -165,6 +215,7 @@ moved_pass p w c m a i members is none ended heard right lived stays keeps sits 
       may = subst (MayTakeAll m.setting (view_seat w) w.seen (own w)) (sym none) tt;
       tied = sym is ∙ ap (λ (x : Actor). x.client) (sym actor);
       lived = subst (λ (z : (ConfigParts × ℕ) × List Tiding × Actor). HasLived z.0.0 z.0.1 z.1 z.2) (λ z. ((sym keeps.0 z, sym num z), sym life z, sym actor z)) lived;
+      calls = subst (λ (z : List Tiding × Actor). TellsItsCalls z.0 z.1) (λ z. (sym life z, sym actor z)) calls;
       no_right = right;
       sits = sits_to c.view p.client m (stand_of m) keeps refl sits;
       answered = subst (λ (z : (ConfigParts × ℕ) × Actor). StaysAnswered z.0.0 z.0.1 w.seen z.1) (λ z. ((sym keeps.0 z, sym num z), sym mine z)) stays;
@@ -189,6 +240,7 @@ event_pass p e word w i wants event =
     subst (λ (u : PassView). IsPass (standing p.table (fed_by m word) false u p.chair)) (sym event.is)
     (moved_pass p v p.chair (fed_by m word) (actor_stepped k a event.log word) i refl (becomes_client k a event.log (makes a.client) (fed_by a.client word) ∙ ap (λ (x : Machine). fed_by x word) (sym i.tied))
     (ap untold_of all) (subst EndsLeft (sym all) tt) (omega arith) i.no_right (word_lives p.client.setting k (life_of p) a event.log word i.lived)
+    (word_calls k (life_of p) a event.log word i.calls (subst (λ (x : Machine). is_resting x ≡ false) i.tied (busy_at m m.phase (λ d. let q = sym wants ∙ d in absurd (cc)))))
     (subst (λ (n : ConfigParts). StaysAnswered n k (event.log ++ makes a.client) (actor_stepped k a event.log word)) (ap (λ (x : Machine). x.setting) (sym i.tied)) event.answered) (fed_keeps m word)
     (subst (SitsWhere m.setting (compute_of m.setting m.seat) p.chair.view) (sym (fed_stands m word m.phase (is_event (want_of m) e wants))) i.sits) i.gave i.took)
 
@@ -225,7 +277,7 @@ begun_seated m call = let s = start_by m call (origin_of m.registers.cached (cal
 no_begun : (p : Standing) → IsPass p → is_resting p.client ≡ true → p.begun ≡ false
 no_begun p i rest = by_test p.begun (λ b. rest_not_before p.client.phase rest (i.before b))
 
-no_ticket : (p : Standing) → IsPass p → is_resting p.client ≡ true → p.chair.view.ticket ≡ None
+pub no_ticket : (p : Standing) → IsPass p → is_resting p.client ≡ true → p.chair.view.ticket ≡ None
 no_ticket p i rest = subst (SitsWhere p.client.setting (compute_of p.client.setting p.client.seat) p.chair.view) (rests_away p.client p.client.phase rest) i.sits
 
 abbrev pub begun_as : Standing → Call → Standing
@@ -261,6 +313,7 @@ begin_pass p call i rest lawful =
           (may-append p.client.setting k s (own p.view) (untold_turns p) (u ∷ []) i.may ((subst (λ (x : Machine). is_resting x ≡ true) i.tied rest, lawful), tt)));
       tied = ap (λ (x : Machine). machine_begun x call) i.tied ∙ ap (λ (y : Actor). y.client) (sym more.0);
       lived = subst (λ (z : ConfigParts × List Tiding × Actor). HasLived z.0 k z.1 z.2) (λ z. (sym start.1 z, sym more.1 z, sym more.0 z)) lives;
+      calls = subst (λ (z : List Tiding × Actor). TellsItsCalls z.0 z.1) (λ z. (sym more.1 z, sym more.0 z)) (begun_calls (life_of p) (pass_actor p) call (length s) i.calls (subst (λ (x : Machine). is_resting x ≡ true) i.tied rest));
       no_right = i.no_right;
       sits = subst (SitsWhere m.setting (compute_of m.setting m.seat) p.chair.view) (sym has.away) (no_ticket p i rest);
       answered = subst (λ (n : ConfigParts). StaysAnswered n k s (own p.view)) (sym start.1) i.answered;

@@ -4,3 +4,4 @@ pub mod Passes
 pub mod Turns
 pub mod Pools
 pub mod Calls
+pub mod Gathering

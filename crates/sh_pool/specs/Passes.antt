@@ -1,12 +1,12 @@
 -- Passes as plain data, and what holds of each.
-use Rattle.std.specs.Prelude.{◌≡◌, ℕ, ◌*◌, ◌%◌, ◌^◌, ◌<◌, ◌≤◌, ◌||◌, if◌then◌else◌, Bool, true, false, Option, None, Some, List, [], ◌∷◌, ◌++◌, length, drop}
+use Rattle.std.specs.Prelude.{◌≡◌, ℕ, ◌*◌, ◌%◌, ◌^◌, ◌<◌, ◌≤◌, ◌||◌, if◌then◌else◌, Bool, true, false, Option, None, Some, List, [], ◌∷◌, ◌++◌, length, drop, map}
 use Rattle.atomic_table.specs.Seated.{TableId}
 use Rattle.sh_base.specs.{declared.config.ConfigParts.{ConfigParts}, Parts.{parts_of}, Setting.{all_locks, all_seats}, Layout.{compute_of}}
-use Rattle.sh_map.specs.declared.call.Call.{Call}
-use Rattle.sh_client.specs.{declared.state.Phase.{Phase, TheVariants.{Root, Read, Draw, Look, Grab}}, Machine.{Machine}, InLine.{Stand, Away, Waits, Served, stand_of}}
+use Rattle.sh_map.specs.declared.{call.Call.{Call}, book.Done.{Done}}
+use Rattle.sh_client.specs.{declared.state.Phase.{Phase, TheVariants.{Root, Read, Draw, Look, Grab}}, Machine.{Machine}, InLine.{Stand, Away, Waits, Served, stand_of}, Rests.{is_resting}}
 use Rattle.sh_core.specs.Actors.{Actor}
 use Rattle.sh_local.specs.{declared.view.{View.{View}, ChairCall.{ChairCall, TheVariants.{Drew, Waited, Turned, Counted, Left}}}, Calls.{held, given, taken}, Chairs.{CellTable, Sitting, HasTicketFor}}
-use Rattle.sh_pool_rule.specs.{declared.view.{PassView.{PassView}, Tiding.{Tiding}}, Views.{member, own, view_seat, Tale}, Lives.{HasLived}}
+use Rattle.sh_pool_rule.specs.{declared.view.{PassView.{PassView}, Tiding.{Tiding}}, Views.{member, own, view_seat, Tale}, Lives.{calls_told, HasLived}}
 use Rattle.sh_pool_rule.specs.Untold.{UntoldTurn, CallBegun, WordAnswered, TurnServed, caught_up, life_with, MayTakeAll, StaysAnswered}
 use Rattle.sh_pool.specs.{Handed.{Handed}, Fitting.{cell_for}, declared.right.Knower.{Knower}}
 
@@ -85,6 +85,13 @@ EndsLeft [] = Unit {0}
 EndsLeft (x ∷ []) = is_left x ≡ true
 EndsLeft (x ∷ y ∷ xs) = EndsLeft (y ∷ xs)
 
+-- The calls that a life tells, in order, are those that have ended, and the one under way.
+abbrev pub call_under_way : Machine → List Call
+call_under_way m = if is_resting m then [] else m.registers.call ∷ []
+
+abbrev pub TellsItsCalls : List Tiding → Actor → Type 0
+TellsItsCalls life a = calls_told life ≡ map (λ (d : Done). d.call) a.dones ++ call_under_way a.client
+
 -- What holds of each pass: its view has its seat's actor, and its client is that of the actor to which it has come. That
 -- actor has lived its life, and its ended calls stay answered. Its chair has a ticket where its client stands.
 pub record IsPass (p : Standing) : Type 0 where
@@ -95,6 +102,7 @@ pub record IsPass (p : Standing) : Type 0 where
   pub may : MayTakeAll p.client.setting (view_seat p.view) p.view.seen (own p.view) (untold_turns p)
   pub tied : p.client ≡ (pass_actor p).client
   pub lived : HasLived p.client.setting (view_seat p.view) (life_of p) (pass_actor p)
+  pub calls : TellsItsCalls (life_of p) (pass_actor p)
   pub no_right : p.view.right ≡ None
   pub sits : SitsWhere p.client.setting (compute_of p.client.setting p.client.seat) p.chair.view (stand_of p.client)
   pub before : p.begun ≡ true → IsBefore p.client.phase

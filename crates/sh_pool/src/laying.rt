@@ -3,7 +3,7 @@ ghost use Rattle.std.specs.Prelude.{◌≡◌, ◌≤◌, ◌<◌, ◌-◌, ℕ,
 ghost use Rattle.sh_base.specs.{Parts.{parts_of}, Setting.{all_seats}};
 ghost use Rattle.sh_local.specs.Chairs.{fresh_chair, CellTable};
 ghost use Rattle.sh_pool_rule.specs.Views.{opening_view};
-ghost use Rattle.sh_pool.specs.{Pools.{fresh_pass, AreLaidFor, AreNewPasses, AreReady, HasChairs, IsBlankPool, IsMaker}, declared.right.Knower.{Knower}};
+ghost use Rattle.sh_pool.specs.{Gathering.{AreAllOf}, Pools.{fresh_pass, AreLaidFor, AreNewPasses, AreReady, HasChairs, IsBlankPool, IsMaker}, declared.right.Knower.{Knower}};
 
 use crate::pool::{LaidPool, Pool};
 use crate::right::{Knower, Right};
@@ -110,6 +110,7 @@ impl Pool {
         requires { IsBlankPool self.old }
         ensures ok { IfOk result (λ v. AreLaidFor (parts_of cfg.now) self.new.laid v.items) }
         ensures ready { IfOk result (λ v. AreReady (parts_of cfg.now) self.new.laid v.items) }
+        ensures all { IfOk result (λ v. AreAllOf self.new.laid v.items) }
         ensures err { OnErr result (self.new ≡ self.old) }
     {
         let (laid, maker, chairs) = LaidPool::open(alloc, cfg)?;

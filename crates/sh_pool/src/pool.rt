@@ -24,7 +24,7 @@ impl Model for LaidPool {
 
     ghost view = { λ p. record { table = p.table.shared.table_id; setting = parts_of p.table.shared.key; cells = p.cells } };
 
-    ghost invariant = { λ p. (parts_of p.cfg ≡ parts_of p.table.shared.key) × (p.table.shared.table_id.words ≡ pool_words (parts_of p.table.shared.key)) × AreCellsOf p.table.shared.table_id (parts_of p.table.shared.key) p.cells };
+    ghost invariant = { λ p. (parts_of p.cfg ≡ parts_of p.table.shared.key) × (p.table.shared.table_id.words ≡ pool_words (parts_of p.table.shared.key)) × AreCellsOf p.table.shared.table_id (parts_of p.table.shared.key) p.cells × (p.table.shared.table_id.slots ≡ 0) };
 }
 
 /// A pool: it is blank, or laid, or gathered.

@@ -2,7 +2,8 @@
 ghost use Rattle.std.specs.{Prelude.{◌≡◌, IfSome, true, false}, Option.{option_map}};
 ghost use Rattle.sh_cache.specs.Cached.{found};
 ghost use Rattle.sh_map.specs.{declared.call.Call.TheVariants.{Get, Put, Del, Range}, Calls.{IsInRange}};
-ghost use Rattle.sh_client.specs.Rests.{is_resting};
+ghost use Rattle.sh_client.specs.Rests.{is_resting, rows_told};
+ghost use Rattle.sh_pool_rule.specs.Views.{view_seat};
 ghost use Rattle.sh_pool.specs.{Calls.{HasServed}, Pools.{IsOfPool}, Turns.{EndsWith}};
 
 use crate::pool::Pool;
@@ -20,6 +21,7 @@ impl Pass {
         requires of { IsOfPool pool.now self.old }
         requires busy { is_resting self.old.client ≡ false }
         ensures of { IsOfPool pool.now self.new }
+        ensures seat { view_seat self.new.view ≡ view_seat self.old.view }
         ensures ends { EndsWith result self.new.client }
     {
         for _ in 0..limit {
@@ -92,6 +94,13 @@ impl Pass {
         ensures served { HasServed (Range low high) result self.old self.new }
     {
         self.serve(rt, pool, Call::Range { low, high })
+    }
+
+    /// The rows of the call that has ended: a range's, and none of any other call.
+    pub fn rows_told(&self) -> &[Row]
+        ensures { result.now ≡ rows_told self.now.client }
+    {
+        self.client.rows_told()
     }
 
     /// The rows of its last range, as far as they are gathered.

@@ -1,5 +1,5 @@
 -- A view with no actor and no right comes beside the others.
-use Rattle.std.proofs.Common.{◌≡◌, ◌⊎◌, ℕ, ◌+◌, None, Some, List, [], ◌∷◌, ◌++◌, length, refl, ap, sym, ◌∙◌, subst, ⊎_elim, arith}
+use Rattle.std.proofs.Common.{◌≡◌, ℕ, ◌+◌, None, List, [], ◌∷◌, ◌++◌, length, refl, ap, sym, ◌∙◌, subst, ⊎_elim, arith}
 use mathlib.Core.Option.{some}
 use lib.ListN.{get_elem?}
 use Rattle.atomic_table.{specs.Table.{Enters}, proofs.Lists.{at_longer}}
@@ -7,7 +7,7 @@ use Rattle.sh_base.specs.declared.config.ConfigParts.{ConfigParts}
 use Rattle.sh_core.{specs.{Actors.{Actor}, Core.{AreSame, AreSameRights}}, proofs.Moves.{same_keeps}}
 use Rattle.sh_local.specs.Calls.{weight}
 use Rattle.sh_logic.proofs.Options.{none_some}
-use Rattle.sh_pool_rule.specs.{declared.view.{PassView.{PassView}, LockRight.{LockRight}}, Views.{empty_view, lock_right, member, AllBegin, Begins, Has, In, Out}}
+use Rattle.sh_pool_rule.specs.{declared.view.{PassView.{PassView}}, Views.{empty_view, member, AllBegin, Begins, Has, In, Out}}
 use Rattle.sh_pool_rule.{specs.Rule.{all_given, all_out, all_taken, KeepsPool, KnowsLog}, proofs.{Relations.{counts_snoc, none_in}, Allowed.{Pooled}, Changed.{at_length}}}
 
 module _ (p : ConfigParts) (words : List ℕ) (views : List PassView) (r : KeepsPool p words views) (w : PassView) (none : w.members ≡ []) (no_right : w.right ≡ None) (fresh : (w.gave ≡ 0) × (w.took ≡ 0)) (begins : Begins w.seen r.log) (pasts : AllBegin w.pasts r.log) where

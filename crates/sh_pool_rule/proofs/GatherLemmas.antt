@@ -1,5 +1,5 @@
 -- A pass is taken in, with all that its view isn't told of yet.
-use Rattle.std.proofs.Common.{◌≡◌, ◌≢◌, ℕ, zero, suc, None, List, [], ◌∷◌, set, refl, ap, sym, ◌∙◌, subst}
+use Rattle.std.proofs.Common.{◌≡◌, ℕ, zero, suc, None, List, [], ◌∷◌, set, refl, ap, sym, ◌∙◌, subst}
 use mathlib.Core.Option.{some}
 use lib.ListN.{get_elem?}
 use Rattle.atomic_table.{specs.Table.{Joins}, proofs.Lists.{set_else, set_here}}

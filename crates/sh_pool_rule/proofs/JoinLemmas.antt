@@ -1,29 +1,29 @@
--- A pass that is taken_view in keeps the rule; and what the rule says where all rest.
-use Rattle.std.proofs.Common.{◌≡◌, ◌≢◌, ◌⊎◌, ℕ, zero, suc, ◌+◌, ◌<◌, ◌≤◌, ◌==◌, Bool, true, Some, None, List, [], ◌∷◌, ◌++◌, length, set, refl, ap, sym, ◌∙◌, subst, ⊎_elim, inl, inr, arith, eq-eqb, ne_eqb}
-use Rattle.std.specs.Prelude.{if◌then◌else◌}
+-- A pass that is taken in keeps the rule; and what the rule says where one view has all actors, and they rest.
+use Rattle.std.proofs.Common.{◌≡◌, ◌≢◌, ◌⊎◌, ℕ, zero, suc, ◌+◌, ◌<◌, ◌≤◌, ◌==◌, Bool, true, None, List, [], ◌∷◌, ◌++◌, length, set, refl, ap, sym, ◌∙◌, subst, ⊎_elim, inl, inr, arith, eq-eqb, ne_eqb}
+use Rattle.std.specs.Prelude.{if◌then◌else◌, slice_index}
 use mathlib.Core.{Option.{some}, Logic.{dite}}
 use native.Mathlib.Decide.{ℕ_discrete}
 use lib.ListN.{get_elem?}
 use Rattle.atomic_table.{specs.Table.{Joins}, proofs.Lists.{at_set, set_here, set_else, at_longer}}
-use Rattle.sh_base.specs.{declared.config.ConfigParts.{ConfigParts}, Setting.{all_seats, IsSetting}}
-use Rattle.sh_map.specs.declared.log.Entry.{Entry}
+use Rattle.sh_base.specs.{declared.config.ConfigParts.{ConfigParts}, Setting.{all_seats, pool_words, IsSetting}, Places.{Own}}
+use Rattle.sh_map.specs.declared.{log.Entry.{Entry}, book.Done.{Done}}
 use Rattle.sh_client.specs.Rests.{is_resting}
-use Rattle.sh_core.{specs.{Actors.{Actor}, Core.{AreSame}}, proofs.Moves.{same_keeps}}
-use Rattle.sh_core_says.{specs.Rest.{AreAtRest}, proofs.AtRest.{at_rest}}
+use Rattle.sh_core.{specs.{Actors.{Actor}, Causes.{HaveCauses}, Core.{AreSame}}, proofs.Moves.{same_keeps}}
+use Rattle.sh_core_says.{specs.{Books.{counter_in, IsBookOf}, Rest.{AreAtRest}}, proofs.{AtRest.{at_rest}, Books.{refusals_have_causes}}}
 use Rattle.sh_local.{specs.Calls.{weight}, proofs.Sums.{same_at, at_lt, total_alone, total_part}}
 use Rattle.sh_logic.proofs.{Lists.{all_join}, Options.{none_some}}
-use Rattle.sh_pool_rule.specs.{declared.view.{PassView.{PassView}, Member.{Member}, LockRight.{LockRight}}, Views.{empty_view, member, lock_right, longer, Begins, AllBegin, In, Has, Out}}
+use Rattle.sh_pool_rule.specs.{declared.view.{PassView.{PassView}, Member.{Member}}, Views.{empty_view, member, longer, Begins, AllBegin, In, Has, Out}}
 use Rattle.sh_pool_rule.{specs.{Rights.{joined_view}, Rule.{all_given, all_out, all_taken, KnowsLog, SeesAll, KeepsPool}}, proofs.Relations.{counts_set, counts_spent, none_in, one, only}}
 use Rattle.sh_pool_rule.proofs.{Allowed.{Pooled}, Changed.{longer_long, longer_begins, longer_all}}
 
-in_front : (m : Member) (ms ns : List Member) → In m ms → In m (ms ++ ns)
+pub in_front : (m : Member) (ms ns : List Member) → In m ms → In m (ms ++ ns)
 in_front m ms ns (i, e) = (i, at_longer ms ns i m e)
 
-in_back : (m : Member) (ms ns : List Member) → In m ns → In m (ms ++ ns)
+pub in_back : (m : Member) (ms ns : List Member) → In m ns → In m (ms ++ ns)
 in_back m [] ns h = h
 in_back m (x ∷ ms) ns h = let r = in_back m ms ns h in (suc r.0, r.1)
 
-in_either : (m : Member) (ms ns : List Member) → In m (ms ++ ns) → In m ms ⊎ In m ns
+pub in_either : (m : Member) (ms ns : List Member) → In m (ms ++ ns) → In m ms ⊎ In m ns
 in_either m [] ns h = inr h
 in_either m (x ∷ ms) ns (zero, e) = inl (zero, e)
 in_either m (x ∷ ms) ns (suc i, e) = ⊎_elim (λ (h : In m ms). inl (suc h.0, h.1)) (λ (h : In m ns). inr h) (in_either m ms ns (i, e))
@@ -173,11 +173,7 @@ gathered_top p words views r id v at all =
     let is : t.view ≡ v = same_at views id t.view v (ap (get_elem? views) (sym mine ∙ home) ∙ t.at) at in
     (own_, ap (λ (x : PassView). x.seen) (sym is) ∙ t.whole)
 
--- what the words are at the end
-pub rests_so : (p : ConfigParts) (words : List ℕ) (views : List PassView) (r : KeepsPool p words views) → ((k : ℕ) (a : Actor) → Has views k a → is_resting a.client ≡ true) → ((l c d : ℕ) → Out views l c d → ⊥) → AreAtRest p words r.log (Has views)
-rests_so p words views r rest none = at_rest p r.ok words r.log (Has views) (Out views) r.inv rest none
-
--- where that view has taken_view up as many rights as it has parted_view with, none is out
+-- where that view has taken up as many rights as it has parted with, none is out
 pub none_out : (p : ConfigParts) (words : List ℕ) (views : List PassView) (r : KeepsPool p words views) (id : ℕ) (v : PassView) → get_elem? views id ≡ some v → ((k : ℕ) → k < all_seats p → (a : Actor) × In (member k a) v.members) → v.gave ≡ v.took → (l c d : ℕ) → Out views l c d → ⊥
 none_out p words views r id v at all same l c d (i, u, e, q) =
     let mine = (gathered_top p words views r id v at all).0 in
@@ -192,3 +188,28 @@ none_out p words views r id v at all same l c d (i, u, e, q) =
     let one_right : weight u.right ≡ 1 = ap weight q in
     let even = r.even in
     absurd (omega (arith, g, t, w, one_right, even, same))
+
+-- What the rule says of a view with the actors of all seats, which rest: it has seen the whole log, and the words are those
+-- of clients at rest.
+pub record EndsSo (p : ConfigParts) (words : List ℕ) (v : PassView) (Now : ℕ → Actor → Type 0) : Type 0 where
+  pub ok : IsSetting p
+  pub pasts : AllBegin v.pasts v.seen
+  pub long : length words ≡ pool_words p
+  pub own_word : slice_index words 0 ≡ 0
+  pub rest : AreAtRest p words v.seen Now
+  pub causes : (dones : List Done) → IsBookOf Now dones → HaveCauses p (counter_in p words) v.seen dones
+
+pub ends_so : (p : ConfigParts) (words : List ℕ) (views : List PassView) (r : KeepsPool p words views) (id : ℕ) (v : PassView) (Now : ℕ → Actor → Type 0) → get_elem? views id ≡ some v → ((k : ℕ) → k < all_seats p → (a : Actor) × In (member k a) v.members) → v.gave ≡ v.took
+    → AreSame (λ k a. In (member k a) v.members) Now → ((k : ℕ) (a : Actor) → Now k a → is_resting a.client ≡ true) → EndsSo p words v Now
+ends_so p words views r id v Now at all same s rest =
+    let top = gathered_top p words views r id v at all in
+    let shows = r.inv.ground.shows in
+    let inv = same_keeps p words r.log (Has views) Now (Out views) (Out views) r.inv record { on = λ k a h. s.on k a (top.0 k a h); back = λ k a n. (id, v, at, s.back k a n) } record { on = λ l c d o. o; back = λ l c d o. o } in
+    record {
+      ok = r.ok;
+      pasts = subst (AllBegin v.pasts) (sym top.1) (r.each id v at).pasts;
+      long = shows.size;
+      own_word = shows.each Own tt;
+      rest = subst (λ (log : List Entry). AreAtRest p words log Now) (sym top.1) (at_rest p r.ok words r.log Now (Out views) inv rest (none_out p words views r id v at all same));
+      causes = λ dones book. subst (λ (log : List Entry). HaveCauses p (counter_in p words) log dones) (sym top.1) (refusals_have_causes p words r.log Now (Out views) dones inv book);
+    }

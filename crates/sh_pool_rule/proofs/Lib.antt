@@ -9,6 +9,7 @@ pub mod OpenLemmas
 pub mod JoinLemmas
 pub mod SettleLemmas
 pub mod LifeLemmas
+pub mod BufferLemmas
 pub mod BesideLemmas
 pub mod GatherLemmas
 pub mod Stayed

@@ -4,7 +4,7 @@ use Rattle.sh_base.specs.declared.config.ConfigParts.{ConfigParts}
 use Rattle.sh_map.specs.declared.{log.Entry.{Entry}, book.Done.{Done}}
 use Rattle.sh_client.specs.{Machine.{Machine, fresh_machine}, Feeds.{begun, fed_by, turned_by}, Giving.{makes}, Rests.{has_ended}}
 use Rattle.sh_core.specs.Actors.{Actor, actor_going, becomes, ending, done_of}
-use Rattle.sh_pool_rule.specs.{declared.view.Tiding.{Tiding, TheVariants.{CallTold, TurnTold, WordTold}}, Lives.{call_end, end_if, end_told, ends_in, lived, CallEnd, HasLived}}
+use Rattle.sh_pool_rule.specs.{declared.view.Tiding.{Tiding, TheVariants.{CallTold, TurnTold, WordTold}}, Lives.{call_end, end_if, end_told, lived, CallEnd, HasLived}}
 use Rattle.sh_pool_rule.specs.Untold.{UntoldTurn, CallBegun, WordAnswered, TurnServed, caught_up, life_with, untold_after}
 
 becomes_if : (k : ℕ) (a : Actor) (log more : List Entry) (m : Machine) (t : Bool) → (if t then ending k a log m else actor_going a log more m).client ≡ m

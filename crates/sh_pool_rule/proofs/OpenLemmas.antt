@@ -1,5 +1,5 @@
 -- The first view of a table has the rule, and each seat gets a view of its own.
-use Rattle.std.proofs.Common.{◌≡◌, ◌≢◌, ◌⊎◌, ℕ, zero, suc, ◌+◌, ◌<◌, ◌≤◌, ◌==◌, Bool, Some, None, List, [], ◌∷◌, ◌++◌, length, set, refl, ap, sym, ◌∙◌, subst, ⊎_elim, inl, inr, arith, eq-eqb, ne_eqb, mul-pos}
+use Rattle.std.proofs.Common.{◌≡◌, ◌≢◌, ◌⊎◌, ℕ, zero, suc, ◌+◌, ◌<◌, ◌≤◌, ◌==◌, Bool, List, [], ◌∷◌, ◌++◌, length, set, refl, ap, sym, ◌∙◌, subst, ⊎_elim, inl, inr, arith, eq-eqb, ne_eqb, mul-pos}
 use Rattle.std.specs.Prelude.{if◌then◌else◌}
 use mathlib.Core.{Option.{some, some-injective, some-ne-none}, Logic.{dite}}
 use native.Mathlib.Decide.{ℕ_discrete}
@@ -11,7 +11,7 @@ use Rattle.sh_core.{specs.{Actors.{Actor}, Core.{AreSame}, Opening.{entered}}, p
 use Rattle.sh_core_turns.proofs.Opening.{laid_keeps}
 use Rattle.sh_local.proofs.Sums.{same_at, at_lt}
 use Rattle.sh_logic.proofs.Options.{none_some}
-use Rattle.sh_pool_rule.specs.{declared.view.{PassView.{PassView}, Member.{Member}, LockRight.{LockRight}}, Views.{member, lock_right, members_from, opening_view, In, Has, Out}}
+use Rattle.sh_pool_rule.specs.{declared.view.{PassView.{PassView}, Member.{Member}}, Views.{member, members_from, opening_view, In, Has, Out}}
 use Rattle.sh_pool_rule.specs.{Rights.{first_alone, first_in, less_first, rest_in}, Rule.{all_given, all_out, all_taken, KnowsLog, SeesAll, KeepsPool}}
 use Rattle.sh_pool_rule.proofs.{Relations.{counts_set, counts_snoc, none_in, out_from, out_to}, Allowed.{Pooled}, Changed.{at_length}}
 

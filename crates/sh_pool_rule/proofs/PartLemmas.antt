@@ -1,12 +1,11 @@
 -- A right that is handed over keeps the rule.
-use Rattle.std.proofs.Common.{◌≡◌, ◌≢◌, ◌⊎◌, ℕ, ◌==◌, ◌+◌, ◌≤◌, Bool, Option, Some, List, [], ◌∷◌, ◌++◌, length, set, refl, ap, sym, ◌∙◌, subst, ⊎_elim, inl, inr, eq-eqb, ne_eqb, arith}
+use Rattle.std.proofs.Common.{◌≡◌, ◌≢◌, ◌⊎◌, ℕ, ◌==◌, ◌+◌, ◌≤◌, Bool, Some, List, [], ◌∷◌, ◌++◌, length, set, refl, ap, sym, ◌∙◌, subst, ⊎_elim, inl, inr, eq-eqb, ne_eqb, arith}
 use Rattle.std.specs.Prelude.{if◌then◌else◌}
 use mathlib.Core.{Option.{some}, Logic.{dite}}
 use native.Mathlib.Decide.{ℕ_discrete}
 use lib.ListN.{get_elem?}
 use Rattle.atomic_table.{specs.Table.{Splits}, proofs.Lists.{at_set, set_here, set_else, at_longer, at_last}}
 use Rattle.sh_base.specs.{declared.config.ConfigParts.{ConfigParts}, Layout.{compute_of, lock_of}}
-use Rattle.sh_map.specs.declared.log.Entry.{Entry}
 use Rattle.sh_state.specs.TreeState.{Seat, Grant, LockState, Held}
 use Rattle.sh_client.specs.{declared.state.Phase.TheVariants.{Leave}, Machine.{Machine}, Feeds.{fed_by}, Giving.{makes, made_in}, Rests.{has_ended}}
 use Rattle.sh_core.specs.{Actors.{Actor, actor_stepped}, Fits.{Fits}, Core.{Inv, Moves}}

@@ -1,5 +1,5 @@
 -- Which seat has which actor, and which rights are out, as one view changes.
-use Rattle.std.proofs.Common.{◌≡◌, ◌≢◌, ◌⊎◌, ℕ, zero, suc, ◌+◌, ◌≤◌, List, [], ◌∷◌, ◌++◌, length, set, refl, ap, sym, ◌∙◌, subst, inl, inr, ⊎_elim, arith, append_assoc, length-append}
+use Rattle.std.proofs.Common.{◌≡◌, ◌≢◌, ℕ, zero, suc, ◌+◌, ◌≤◌, List, [], ◌∷◌, ◌++◌, length, set, refl, ap, sym, ◌∙◌, subst, inl, inr, ⊎_elim, arith, append_assoc, length-append}
 use mathlib.Core.{Option.{some, some-injective, some-ne-none}, Logic.{dite}}
 use native.Mathlib.Decide.{ℕ_discrete}
 use lib.ListN.{get_elem?}
@@ -7,7 +7,7 @@ use Rattle.atomic_table.proofs.Lists.{at_set, set_here, set_else}
 use Rattle.sh_base.specs.declared.config.ConfigParts.{ConfigParts}
 use Rattle.sh_logic.proofs.Lists.{all_weaker}
 use Rattle.sh_map.specs.declared.log.Entry.{Entry}
-use Rattle.sh_core.{specs.{Actors.{Actor}, Core.{Inv, Moves, AreSame}}, proofs.Moves.{same_keeps}}
+use Rattle.sh_core.{specs.{Actors.{Actor}, Core.{Inv, Moves}}, proofs.Moves.{same_keeps}}
 use Rattle.sh_local.{specs.Calls.{weight}, proofs.Sums.{at_lt, same_at, total_set, total_snoc}}
 use Rattle.sh_pool_rule.specs.{declared.view.{PassView.{PassView}, Member.{Member}}, Views.{member, empty_view, Begins, AllBegin, In, Has, Out}, Rule.{all_given, all_taken, all_out}}
 

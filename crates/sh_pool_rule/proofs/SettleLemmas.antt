@@ -1,15 +1,14 @@
 -- A view is told of all that its pass has done.
-use Rattle.std.proofs.Common.{◌≡◌, ◌≢◌, ◌⊎◌, ℕ, ◌+◌, ◌≤◌, List, [], ◌∷◌, length, set, refl, ap, sym, ◌∙◌, subst, ⊎_elim, inl, inr, arith}
+use Rattle.std.proofs.Common.{◌≡◌, ◌≢◌, ℕ, ◌≤◌, List, [], ◌∷◌, length, set, refl, ap, sym, ◌∙◌, subst, ⊎_elim, inl, arith}
 use mathlib.Core.{Option.{some}, Logic.{dite}}
 use native.Mathlib.Decide.{ℕ_discrete}
 use lib.ListN.{get_elem?}
 use Rattle.atomic_table.{specs.Table.{Me, Allows, keeps}, proofs.Lists.{at_set, set_here, set_else}}
 use Rattle.sh_base.specs.declared.config.ConfigParts.{ConfigParts}
-use Rattle.sh_map.specs.declared.log.Entry.{Entry}
 use Rattle.sh_core.{specs.{Actors.{Actor}, Core.{Inv, Instead, Moves}}, proofs.Moves.{put_again, same_keeps}}
 use Rattle.sh_local.proofs.Sums.{same_at, at_lt}
 use Rattle.sh_pool_rule.specs.{declared.view.PassView.{PassView}, Views.{member, own, view_seat, Tale, In, Has, Out}, Untold.{UntoldTurn, untold_after, caught_up, MayTakeAll, IsActorOf}}
-use Rattle.sh_pool_rule.specs.{Rights.{told_view}, Rule.{all_given, all_out, all_taken, KnowsLog, SeesAll, KeepsPool}}
+use Rattle.sh_pool_rule.specs.{Rights.{told_view}, Rule.{KnowsLog, SeesAll, KeepsPool}}
 use Rattle.sh_pool_rule.proofs.{Relations.{counts_set, moves_at, one, only, out_from, out_to, rights_same}, Untold.{after_seen, turn_keeps_on}, Allowed.{Pooled, same_words}}
 
 module _ (p : ConfigParts) (words : List ℕ) (views : List PassView) (r : KeepsPool p words views) (id : ℕ) (v : PassView) (at : get_elem? views id ≡ some v) (a : Actor) (asks : IsActorOf p v a) (tale : Tale) where

@@ -1,5 +1,5 @@
 -- Actors whose ended calls stay answered: behind turns, behind a right that is taken up, and new ones.
-use Rattle.std.proofs.Common.{◌≡◌, ℕ, ◌+◌, ◌≤◌, Option, None, Some, true, List, [], ◌∷◌, ◌++◌, length, refl, ap, sym, ◌∙◌, subst, arith, length-append}
+use Rattle.std.proofs.Common.{◌≡◌, ℕ, Option, None, Some, List, [], ◌∷◌, ◌++◌, refl, sym, subst, arith, length-append}
 use Rattle.sh_base.specs.declared.config.ConfigParts.{ConfigParts}
 use Rattle.sh_map.specs.declared.log.Entry.{Entry}
 use Rattle.sh_read.specs.Reads.{wanted}

@@ -1,12 +1,12 @@
 -- An actor's ended calls stay answered while it takes turns on its chair.
-use Rattle.std.proofs.Common.{◌≡◌, ◌⊎◌, ℕ, ◌≤◌, List, [], ◌∷◌, ◌++◌, length, refl, ap, sym, inl, inr, append-nil}
+use Rattle.std.proofs.Common.{◌≡◌, ◌⊎◌, ℕ, ◌≤◌, List, [], ◌∷◌, length, refl, ap, sym, inl, inr, append-nil}
 use Rattle.sh_base.specs.{declared.config.ConfigParts.{ConfigParts}, Layout.{compute_of, lock_of}, Setting.{IsSetting}}
 use Rattle.sh_map.specs.declared.log.Entry.{Entry}
 use Rattle.sh_client.specs.{Feeds.{fed_by}, Giving.{makes, made_in}, Rests.{has_ended}, Machine.{Machine}}
 use Rattle.sh_core.{specs.{Actors.{Actor, actor_stepped}, Core.{Inv, Instead}}, proofs.Moves.{put_moves}}
 use Rattle.sh_core_turns.proofs.LocalLaws.{part_keeps}
-use Rattle.sh_core_says.{specs.Books.{HasAnswers}, proofs.Books.{calls_are_answered}}
-use Rattle.sh_pool_rule.{specs.{Rights.{IsHanding}, Untold.{ChairTurn, OfPass, HandsOver, StaysAnswered, behind_turns, untold_after}}, proofs.Untold.{after_seen, becomes_seen, turn_keeps_on}}
+use Rattle.sh_core_says.{proofs.Books.{calls_are_answered}}
+use Rattle.sh_pool_rule.{specs.{Rights.{IsHanding}, Untold.{OfPass, HandsOver, StaysAnswered, untold_after}}, proofs.Untold.{after_seen, becomes_seen, turn_keeps_on}}
 
 -- a right to the lock, beside those that are out
 abbrev OutToo : (Out : ℕ → ℕ → ℕ → Type 0) → (lock compute depth : ℕ) → ℕ → ℕ → ℕ → Type 0

@@ -1,5 +1,5 @@
 -- The invariant at the actor to which a pass has come, of which its view isn't told yet.
-use Rattle.std.{proofs.Common.{◌≡◌, ℕ, ◌+◌, ◌≤◌, Bool, true, false, None, List, [], ◌∷◌, ◌++◌, length, refl, ap, sym, ◌∙◌, inl, arith}, specs.Prelude.{if◌then◌else◌, map}}
+use Rattle.std.{proofs.Common.{◌≡◌, ℕ, ◌+◌, ◌≤◌, Bool, true, false, None, List, [], ◌∷◌, length, refl, ap, inl, arith}, specs.Prelude.{if◌then◌else◌}}
 use Rattle.sh_base.specs.{declared.config.ConfigParts.{ConfigParts}, Setting.{IsSetting}}
 use Rattle.sh_map.specs.declared.log.Entry.{Entry}
 use Rattle.sh_client.specs.{declared.state.Phase.{Phase, TheVariants.{Body}}, Machine.{Machine}, Feeds.{fed_by, turned_by}, Giving.{makes, made_in}, Rests.{has_ended}, Wants.{want_in}}

@@ -31,6 +31,12 @@ ends_in m [] = []
 ends_in m (CallTold call ∷ life) = ends_in m life
 ends_in m (tiding ∷ life) = ends_in m life ++ end_if (lived m (tiding ∷ life))
 
+-- the calls that were begun in a life, in their order
+abbrev pub calls_told : List Tiding → List Call
+calls_told [] = []
+calls_told (CallTold call ∷ life) = calls_told life ++ call ∷ []
+calls_told (tiding ∷ life) = calls_told life
+
 abbrev pub end_told : Done → CallEnd
 end_told d = record { call = d.call; reply = d.reply; rows = d.rows }
 

@@ -1,6 +1,6 @@
 -- The rule of the table of a pool's words: the core's invariant over the words, the longest log that a view has seen, and
 -- the actors and rights that stand in the views.
-use Rattle.std.specs.Prelude.{◌≡◌, ℕ, ◌+◌, ◌%◌, ◌^◌, ◌==◌, ◌≤◌, false, Some, List, [], ◌∷◌, ◌++◌, length, Option, None}
+use Rattle.std.specs.Prelude.{◌≡◌, ℕ, ◌+◌, ◌%◌, ◌^◌, ◌==◌, ◌≤◌, false, Some, List, [], ◌∷◌, ◌++◌, length}
 use prog.Atomic.{either}
 use mathlib.Core.Option as maybe
 use lib.ListN.{get_elem?}

@@ -1,5 +1,5 @@
 -- What a view has: a beginning of the log, and the actors of its seats.
-use Rattle.std.specs.{Prelude.{◌≡◌, ℕ, zero, suc, Some, None, List, [], ◌∷◌, ◌++◌, drop, length, Option}, List.{AllByRecursion}}
+use Rattle.std.specs.{Prelude.{◌≡◌, ℕ, zero, suc, Some, None, List, [], ◌∷◌, ◌++◌, drop, length}, List.{AllByRecursion}}
 use mathlib.Core.Option as maybe
 use lib.ListN.{get_elem?}
 use Rattle.sh_base.specs.{declared.config.ConfigParts.{ConfigParts}, Setting.{all_seats, default_parts}}

@@ -1,6 +1,7 @@
 -- Known bytes over several reads or writes.
-use Rattle.std.proofs.{Common.{ℕ, ◌≡◌, ◌+◌, ◌-◌, List, [], ◌++◌, Option, Some, None, length, take, drop, sym, ap, ◌∙◌, append_assoc}, lemmas.List.{append-nil, take_rest, take-append-drop, drop-drop}}
-use Rattle.std.{proofs.Math.Seq.{take-add}, specs.Io.KnownBytes.{Appends, Keeps}}
+use Rattle.std.proofs.{Common.{arith, refl, ℕ, ◌≡◌, ◌+◌, ◌-◌, List, [], ◌++◌, Option, Some, None, length, take, drop, sym, ap, ◌∙◌, append_assoc}, lemmas.List.{append-nil, take_rest, take-append-drop, drop-drop}}
+use Rattle.std.{proofs.{Math.Seq.{take-add}, KnownBytes.{Consumes-nil}}, specs.Io.KnownBytes.{Appends, Keeps}}
+use Rattle.sh_port.specs.Intake.{TookNoMoreThan, TookUpTo}
 
 -- the bytes from a place on are n of them, and those after
 pub drop_front : (bytes into : List ℕ) (at n : ℕ) → take n into ≡ take n (take (length bytes - at) (drop at bytes)) → drop at bytes ≡ take n into ++ drop (at + n) bytes
@@ -30,3 +31,10 @@ appends_keeps None b c xs p q = tt
 appends_keeps (Some os) None c xs p q = absurd p
 appends_keeps (Some os) (Some bs) None xs p q = absurd q
 appends_keeps (Some os) (Some bs) (Some cs) xs p q = q ∙ p
+
+-- where nothing was taken, or all that was left, no more was taken than may be
+pub few_none : (most : ℕ) (left : Option (List ℕ)) (now : ℕ) → TookNoMoreThan most left left now now
+few_none most left now = record { bytes = []; taken = Consumes-nil left; short = omega arith; count = refl }
+
+pub few_all : (most : ℕ) (left rest : Option (List ℕ)) (before now : ℕ) (bytes : List ℕ) → TookUpTo most left rest before now bytes → TookNoMoreThan most left rest before now
+few_all most left rest before now bytes h = record { bytes = bytes; taken = h.taken; short = h.short; count = h.count }

@@ -1,11 +1,20 @@
 -- A front of a text that is written part by part.
-use Rattle.std.{proofs.{Common.{ℕ, ◌≡◌, List, [], ◌∷◌, ◌++◌, Option, Result, Ok, Err, length, ◌==◌, Bool, false, sym, ap, ◌∙◌, append_assoc}, lemmas.List.{append-nil}}, specs.Prelude.{OnErr}}
+use Rattle.std.{proofs.{Common.{ℕ, ◌≡◌, ◌≢◌, refl, List, [], ◌∷◌, ◌++◌, Option, Result, Ok, Err, length, ◌==◌, Bool, false, sym, ap, ◌∙◌, append_assoc}, lemmas.List.{append-nil}}, specs.Prelude.{OnErr}}
 use Rattle.std.specs.Io.KnownBytes.{Appends}
-use Rattle.sh_port.{specs.Port.{AppendsFront, line_of}, proofs.Bytes.{appends_more}}
+use Rattle.sh_port.{specs.Port.{AppendsFront, line_of}, proofs.Bytes.{appends_more, appends_none}}
 
--- what is written so far is a front of the whole
-pub front_so_far : (a b : Option (List ℕ)) (before after whole : List ℕ) → whole ≡ before ++ after → Appends a b before → AppendsFront a b whole
-front_so_far a b before after whole e h = record { front = before; rest = after; whole = e; written = h }
+-- a text of which a part has bytes has bytes
+pub some_first : (xs ys : List ℕ) → xs ≢ [] → xs ++ ys ≢ []
+some_first [] ys h e = h refl
+some_first (x ∷ xs) ys h e = absurd (cc)
+
+pub some_last : (xs ys : List ℕ) → ys ≢ [] → xs ++ ys ≢ []
+some_last [] ys h e = h e
+some_last (x ∷ xs) ys h e = absurd (cc)
+
+-- nothing is written yet
+pub front_none : (a : Option (List ℕ)) (text : List ℕ) → text ≢ [] → AppendsFront a a text
+front_none a text some = record { front = []; rest = text; whole = refl; written = appends_none a; missed = some }
 
 -- a front of the next part goes on from what is written
 pub front_more : (a b c : Option (List ℕ)) (before part after whole : List ℕ) → whole ≡ before ++ (part ++ after) → Appends a b before → AppendsFront b c part → AppendsFront a c whole
@@ -14,7 +23,12 @@ front_more a b c before part after whole e h f = record {
   rest = f.rest ++ after;
   whole = e ∙ (ap (λ t. before ++ (t ++ after)) f.whole ∙ (ap (λ t. before ++ t) (append_assoc f.front f.rest after) ∙ sym (append_assoc before f.front (f.rest ++ after))));
   written = appends_more a b c before f.front h f.written;
+  missed = some_first f.rest after f.missed;
 }
+
+-- a front of the first part is one of the whole
+pub front_first : (a b : Option (List ℕ)) (first second : List ℕ) → AppendsFront a b first → AppendsFront a b (first ++ second)
+front_first a b first second f = front_more a a b [] first second (first ++ second) refl (appends_none a) f
 
 -- the first part is written; where the second isn't, a front of it is
 pub front_behind : {E : Type 0} (a b c : Option (List ℕ)) (first second : List ℕ) (r : Result (Unit {0}) E) → Appends a b first → OnErr r (AppendsFront b c second) → OnErr r (AppendsFront a c (first ++ second))
@@ -24,7 +38,7 @@ front_behind a b c first second (Err e) before f = front_more a b c first second
 -- a front of a text that isn't empty is one of its line
 pub front_of_line : (a b : Option (List ℕ)) (text : List ℕ) → (length text == 0) ≡ false → AppendsFront a b text → AppendsFront a b (line_of text)
 front_of_line a b [] e f = absurd (cc)
-front_of_line a b (x ∷ xs) e f = record { front = f.front; rest = f.rest ++ 10 ∷ []; whole = ap (λ t. t ++ 10 ∷ []) f.whole ∙ append_assoc f.front f.rest (10 ∷ []); written = f.written }
+front_of_line a b (x ∷ xs) e f = front_first a b (x ∷ xs) (10 ∷ []) f
 
 -- the text is written; where the line feed behind it isn't, a front of the line is
 pub text_of_line : {E : Type 0} (a b c : Option (List ℕ)) (text : List ℕ) (r : Result (Unit {0}) E) → (length text == 0) ≡ false → Appends a b text → OnErr r (AppendsFront b c (10 ∷ [])) → OnErr r (AppendsFront a c (line_of text))

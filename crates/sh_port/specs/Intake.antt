@@ -46,5 +46,8 @@ TookSome left rest before now = TookSomeUpTo 16777216 left rest before now
 abbrev pub TookMost : Option (List ℕ) → Option (List ℕ) → ℕ → ℕ → Type 0
 TookMost left rest before now = TookMoreThan 16777216 left rest before now
 
+abbrev pub TookFew : Option (List ℕ) → Option (List ℕ) → ℕ → ℕ → Type 0
+TookFew left rest before now = TookNoMoreThan 16777216 left rest before now
+
 abbrev pub StoppedBy : Option (List ℕ) → Option (List ℕ) → ℕ → ℕ → Intake → Type 0
 StoppedBy left rest before now error = StoppedUpTo 16777216 left rest before now error

@@ -1,5 +1,5 @@
 -- What the calls of sources and sinks say of their faults and their bytes.
-use Rattle.std.specs.{Prelude.{ℕ, ◌≡◌, ◌≤◌, ◌<◌, ◌-◌, ◌^◌, ◌⊎◌, List, [], ◌∷◌, Option, Result, OnOk, OnErr, ◌++◌}, Io.KnownBytes.{Appends}}
+use Rattle.std.specs.{Prelude.{ℕ, ◌≡◌, ◌≢◌, ◌≤◌, ◌<◌, ◌-◌, ◌^◌, ◌⊎◌, List, [], ◌∷◌, Option, Result, OnOk, OnErr, ◌++◌}, Io.KnownBytes.{Appends}}
 
 -- the count of faults has risen, or stands at its last value
 abbrev pub HasRisen : ℕ → ℕ → Type 0
@@ -11,12 +11,13 @@ pub record HasFaultCause {T E : Type 0} (before now : ℕ) (result : Result T E)
   pub ok : OnOk result (now ≡ before)
   pub failed : OnErr result (HasRisen before now)
 
--- the bytes that the sink holds, where they are told, have grown by a front of these
+-- the bytes that the sink holds, where they are told, have grown by a front of these, and not by all of them
 pub record AppendsFront (old new : Option (List ℕ)) (bytes : List ℕ) : Type 0 where
   pub front : List ℕ
   pub rest : List ℕ
   pub whole : bytes ≡ front ++ rest
   pub written : Appends old new front
+  pub missed : rest ≢ []
 
 -- the line that tells a text: the text and a line feed, and nothing where there is no text
 abbrev pub line_of : List ℕ → List ℕ

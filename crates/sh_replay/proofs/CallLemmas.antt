@@ -8,9 +8,9 @@ use Rattle.sh_map.specs.{declared.{call.{Call.{Call}, Reply.{Reply}}, book.Row.{
 use Rattle.sh_map.specs.declared.log.Change.TheVariants as change
 use Rattle.sh_client.specs.{declared.state.Want.{Want}, Wants.{want_of}}
 use Rattle.sh_client.specs.declared.state.Want.TheVariants as want
-use Rattle.sh_sheet.specs.declared.item.Item.{Item, TheVariants.{Ask, Mark, After, Turn}}
+use Rattle.sh_sheet.specs.{declared.item.Item.{Item, TheVariants.{Ask, Mark, After, Turn}}, Sheet.{IsLawfulItem}}
 use Rattle.sh_world.specs.{States.{Given, Place, State, answered, fresh_call}, Turning.{asked, give_at, took, turn_at, turn_of}}
-use Rattle.sh_replay.{specs.{Course.{given_by}, Served.{is_call, item_of}, Serving.{IsServable}}, proofs.{EndLemmas.{there_is}, ItemLemmas.{given_keeps}}}
+use Rattle.sh_replay.{specs.{Course.{given_by}, Served.{is_call, item_of}}, proofs.{EndLemmas.{there_is}, ItemLemmas.{given_keeps}}}
 
 abbrev pub items_of : State → List Item
 items_of s = map item_of s.calls
@@ -44,19 +44,19 @@ give_more s seat call (Some p) q e =
     let g : Given = fresh_call seat call in
     map-append item_of s.calls (g ∷ [])
 
-given_more : (p : ConfigParts) (s : State) (item : Item) → IsServable p item → length s.seats ≡ all_seats p → items_of (given_by s item) ≡ items_of s ++ filter is_call (item ∷ [])
+given_more : (p : ConfigParts) (s : State) (item : Item) → IsLawfulItem p item → length s.seats ≡ all_seats p → items_of (given_by s item) ≡ items_of s ++ filter is_call (item ∷ [])
 given_more p s (Ask seat call) can long =
     let there = there_is s.seats seat (omega (arith, can.0, long)) in
     give_more s seat call (slice_get s.seats seat) there.0 there.1
-given_more p s (Mark seat n) can long = absurd can
-given_more p s (After seat n) can long = absurd can
+given_more p s (Mark seat n) can long = sym (append-nil (items_of s))
+given_more p s (After seat n) can long = sym (append-nil (items_of s))
 given_more p s (Turn seat count) can long = sym (append-nil (items_of s))
 
-pub all_given : (p : ConfigParts) (items : List Item) (s : State) → All (IsServable p) items → length s.seats ≡ all_seats p → items_of (fold given_by s items) ≡ items_of s ++ filter is_call items
+pub all_given : (p : ConfigParts) (items : List Item) (s : State) → All (IsLawfulItem p) items → length s.seats ≡ all_seats p → items_of (fold given_by s items) ≡ items_of s ++ filter is_call items
 all_given p [] s can long = sym (append-nil (items_of s))
 all_given p (i ∷ is) s can long =
-    all_given p is (given_by s i) (All-tail (IsServable p) i is can) ((given_keeps s i).1 ∙ long)
-    ∙ ap (λ l. l ++ filter is_call is) (given_more p s i (All-head (IsServable p) i is can) long)
+    all_given p is (given_by s i) (All-tail (IsLawfulItem p) i is can) ((given_keeps s i).1 ∙ long)
+    ∙ ap (λ l. l ++ filter is_call is) (given_more p s i (All-head (IsLawfulItem p) i is can) long)
     ∙ append_assoc (items_of s) (filter is_call (i ∷ [])) (filter is_call is)
     ∙ ap (λ l. items_of s ++ l) (sym (filter-append is_call (i ∷ []) is))
 

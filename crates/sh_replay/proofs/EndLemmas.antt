@@ -1,5 +1,5 @@
 -- All seats are idle exactly where every call has ended.
-use Rattle.std.proofs.Common.{◌≡◌, ◌≢◌, ◌≤◌, ◌<◌, ◌*◌, ℕ, zero, suc, ◌+◌, Bool, true, false, List, [], ◌∷◌, ◌++◌, length, Option, Some, None, refl, sym, ap, ◌∙◌, arith}
+use Rattle.std.proofs.Common.{◌≡◌, ◌≤◌, ◌<◌, ◌*◌, ℕ, zero, suc, ◌+◌, Bool, true, false, List, [], ◌∷◌, ◌++◌, length, Option, Some, None, refl, sym, ap, ◌∙◌, arith}
 use Rattle.std.{proofs.lemmas.{Bool.{and_parts, eqb-true, Decides.{nat_tests}}, Option.{slice_get_within}}, specs.Prelude.{◌==◌, ◌&&◌, is_some, slice_get}}
 use Rattle.sh_base.specs.{declared.config.ConfigParts.{ConfigParts}, Setting.{all_seats, IsSetting}}
 use Rattle.sh_map.specs.declared.{call.Reply.{Reply}, book.Done.{Done}}
@@ -8,32 +8,32 @@ use Rattle.sh_core.specs.Actors.{Actor}
 use Rattle.sh_world.specs.{States.{Given, HasActor, Place, State, done_in, dones_by, dones_from}, Turning.{is_done, is_idle, is_idle_at}, Running.{IsPlace, IsRunning, numbers_from}}
 use Rattle.sh_replay.specs.{Course.{have_ended}, Thinning.{AllIdle}}
 
-abbrev one : Bool → ℕ
+abbrev pub one : Bool → ℕ
 one true = 1
 one false = 0
 
 -- how many of a seat's calls have ended, and how many there are
-abbrev ended_count : (seat n : ℕ) → List Given → ℕ
+abbrev pub ended_count : (seat n : ℕ) → List Given → ℕ
 ended_count seat n calls = length (dones_by seat (dones_from n calls))
 
-abbrev all_count : (seat n : ℕ) → List Given → ℕ
+abbrev pub all_count : (seat n : ℕ) → List Given → ℕ
 all_count seat n calls = length (numbers_from seat n calls)
 
-ended_head : (g : Given) (seat n : ℕ) (ds : List Done) (o : Option Reply) (b : Bool) → (g.seat == seat) ≡ b → length (dones_by seat (done_in n g o ++ ds)) ≡ one (is_some o && b) + length (dones_by seat ds)
+pub ended_head : (g : Given) (seat n : ℕ) (ds : List Done) (o : Option Reply) (b : Bool) → (g.seat == seat) ≡ b → length (dones_by seat (done_in n g o ++ ds)) ≡ one (is_some o && b) + length (dones_by seat ds)
 ended_head g seat n ds None b e = omega arith
 ended_head g seat n ds (Some r) true e = rw e (omega arith)
 ended_head g seat n ds (Some r) false e = rw e (omega arith)
 
-all_head : (g : Given) (seat n : ℕ) (calls : List Given) (b : Bool) → (g.seat == seat) ≡ b → all_count seat n (g ∷ calls) ≡ one b + all_count seat (n + 1) calls
+pub all_head : (g : Given) (seat n : ℕ) (calls : List Given) (b : Bool) → (g.seat == seat) ≡ b → all_count seat n (g ∷ calls) ≡ one b + all_count seat (n + 1) calls
 all_head g seat n calls true e = rw e (omega arith)
 all_head g seat n calls false e = rw e (omega arith)
 
-no_more : (some b : Bool) → one (some && b) ≤ one b
+pub no_more : (some b : Bool) → one (some && b) ≤ one b
 no_more true b = omega arith
 no_more false true = omega arith
 no_more false false = omega arith
 
-fewer : (seat n : ℕ) (calls : List Given) → ended_count seat n calls ≤ all_count seat n calls
+pub fewer : (seat n : ℕ) (calls : List Given) → ended_count seat n calls ≤ all_count seat n calls
 fewer seat n [] = omega arith
 fewer seat n (g ∷ calls) =
     let b = g.seat == seat in
@@ -45,7 +45,7 @@ ended_one true b e h = refl
 ended_one false true e h = absurd (omega (arith, h))
 ended_one false false e h = absurd (cc)
 
-each_ended : (seat n : ℕ) (calls : List Given) → ended_count seat n calls ≡ all_count seat n calls → (place : ℕ) (g : Given) → slice_get calls place ≡ Some g → g.seat ≡ seat → is_some g.reply ≡ true
+pub each_ended : (seat n : ℕ) (calls : List Given) → ended_count seat n calls ≡ all_count seat n calls → (place : ℕ) (g : Given) → slice_get calls place ≡ Some g → g.seat ≡ seat → is_some g.reply ≡ true
 each_ended seat n [] e place g here by = absurd (cc)
 each_ended seat n (f ∷ calls) e zero g here by =
     let is : f ≡ g = cc in
@@ -66,7 +66,7 @@ as_many seat n (g ∷ calls) e =
     let some = (and_parts (is_some g.reply) (have_ended calls) e).0 in
     omega (arith, ended_head g seat n (dones_from (n + 1) calls) g.reply b refl, all_head g seat n calls b refl, ap (λ t. one (t && b)) some, as_many seat (n + 1) calls ((and_parts (is_some g.reply) (have_ended calls) e).1))
 
-by_places : (calls : List Given) → ((place : ℕ) (g : Given) → slice_get calls place ≡ Some g → is_some g.reply ≡ true) → have_ended calls ≡ true
+pub by_places : (calls : List Given) → ((place : ℕ) (g : Given) → slice_get calls place ≡ Some g → is_some g.reply ≡ true) → have_ended calls ≡ true
 by_places [] each = refl
 by_places (g ∷ calls) each = both (is_some g.reply) (have_ended calls) (each 0 g refl) (by_places calls (λ place f here. each (suc place) f here)) where
   both : (a b : Bool) → a ≡ true → b ≡ true → (a && b) ≡ true
@@ -79,16 +79,6 @@ there_is (x ∷ xs) zero below = (x, refl)
 there_is (x ∷ xs) (suc i) below = there_is xs i (omega (arith, below))
 
 module _ (s : State) (h : IsRunning s) where
-  pub ended_idle : AllIdle s → have_ended s.calls ≡ true
-  ended_idle idle = by_places s.calls (λ place g here. by_seat place g here (there_is s.seats g.seat (omega (arith, h.seats, (h.given place g here).seat_is)))) where
-    by_seat : (place : ℕ) (g : Given) → slice_get s.calls place ≡ Some g → (q : Place) × (slice_get s.seats g.seat ≡ Some q) → is_some g.reply ≡ true
-    by_seat place g here there =
-        let q = there.0 in
-        let p = h.places g.seat q there.1 in
-        let rests : is_idle q ≡ true = sym (ap is_idle_at there.1) ∙ idle g.seat in
-        let all = eqb-true q.ended (length q.numbers) ((and_parts (is_done (want_of q.client)) _ rests).1) in
-        each_ended g.seat 1 s.calls (p.count ∙ all ∙ ap length p.numbers) place g here refl
-
   idle_place : (seat : ℕ) (q : Place) → IsPlace s.calls seat q → have_ended s.calls ≡ true → (b : Bool) → is_resting q.client ≡ b → is_idle q ≡ true
   idle_place seat q p ended true rests =
       let done : is_done (want_of q.client) ≡ true = ap (λ f. is_done (want_in q.client f)) (p.rests rests) in
@@ -119,14 +109,6 @@ rests_at s h idle seat q here false rests =
 
 pub all_rest : (s : State) → IsRunning s → AllIdle s → (seat : ℕ) (a : Actor) → HasActor s.seats s.calls seat a → is_resting a.client ≡ true
 all_rest s h idle seat a has = ap (λ (b : Actor). is_resting b.client) has.actor_is ∙ rests_at s h idle seat has.place has.here (is_resting has.place.client) refl
-
--- a call that hasn't ended is left only where no turn is
-pub none_left : (s : State) (left : ℕ) → IsRunning s → (left ≢ 0 → AllIdle s) → have_ended s.calls ≡ false → left ≡ 0
-none_left s zero h rest open_calls = refl
-none_left s (suc left) h rest open_calls = absurd (differ (have_ended s.calls) (ended_idle s h (rest (λ e. absurd (omega (arith, e))))) open_calls) where
-  differ : (b : Bool) → b ≡ true → b ≡ false → ⊥
-  differ true x y = cc
-  differ false x y = cc
 
 pub few_seats : (p : ConfigParts) → IsSetting p → all_seats p ≤ 64
 few_seats p h = product p.computes p.seats h.ranged.computes.1 h.ranged.seats.1 where

@@ -3,9 +3,9 @@ use Rattle.std.{proofs.Common.{◌≡◌, ◌≤◌, ◌<◌, ℕ, zero, suc, �
 use Rattle.std.{specs.List.{flat_map, fold, sum_by}, proofs.lemmas.List.{append-nil, length-append, take_more, Concat.{flat_map-append}, Sums.{fold-append, fold_more, sum_by-cons}}}
 use Rattle.sh_base.specs.declared.config.ConfigParts.{ConfigParts}
 use Rattle.sh_map.specs.declared.call.Call.{Call}
-use Rattle.sh_sheet.specs.{declared.item.Item.{Item, TheVariants.{Ask, Mark, After, Turn}}, Sheet.{item_calls}}
+use Rattle.sh_sheet.specs.{declared.item.Item.{Item, TheVariants.{Ask, Mark, After, Turn}}, Sheet.{item_calls, IsLawfulItem}}
 use Rattle.sh_world.specs.{States.{Place, State, fresh_call}, Turning.{give_at}}
-use Rattle.sh_replay.specs.{declared.turns.TurnRow.{TurnRow}, Course.{ask, given_by, item_asks, row_asks, turn_asks, Asking, Stage}, TurnRows.{kept_asks, turn_rows}, Serving.{IsServable}}
+use Rattle.sh_replay.specs.{declared.turns.TurnRow.{TurnRow}, Course.{ask, given_by, row_asks, turn_asks, Asking, Stage}, TurnRows.{kept_asks, turn_rows}}
 use Rattle.sh_replay.proofs.TurnLemmas.{give_seats, give_setting}
 
 -- one item more
@@ -63,10 +63,10 @@ sum_take (x ∷ xs) (suc i) = omega (arith, sum_take xs i, sum_by-cons item_call
 pub few_given : (first world : State) (items : List Item) (i : ℕ) → world ≡ fold given_by first (take i items) → first.calls ≡ [] → sum_by item_calls items ≤ 1000000 → length world.calls < 2 ^ 32 - 1
 few_given first world items i so none few = omega (arith, ap (λ (t : State). length t.calls) so, given_counts (take i items) first, ap length none, sum_take items i, few)
 
--- ---- items that are served
+-- ---- items that are lawful
 
-pub served_at : (p : ConfigParts) (items : List Item) (i : ℕ) (item other : Item) → All (IsServable p) items → i < length items → item ≡ get_or items i item → item ≡ other → IsServable p other
-served_at p items i item other all below is e = subst (IsServable p) (sym is ∙ e) (all i item below)
+pub lawful_at : (p : ConfigParts) (items : List Item) (i : ℕ) (item other : Item) → All (IsLawfulItem p) items → i < length items → item ≡ get_or items i item → item ≡ other → IsLawfulItem p other
+lawful_at p items i item other all below is e = subst (IsLawfulItem p) (sym is ∙ e) (all i item below)
 
 -- ---- turn rows
 
@@ -97,15 +97,8 @@ kept_are (After seat n ∷ items) = kept_are items
 kept_are (Turn seat count ∷ items) = ap (λ xs. turn_asks seat count ++ xs) (kept_are items)
 
 -- one row more is asked
-pub asked_more : {A : Type 0} (f : A → List Asking) (first now after : Stage) (xs : List A) (i : ℕ) (d : A) → i < length xs → now ≡ fold ask first (flat_map f (take i xs)) → after ≡ fold ask now (f (get_or xs i d)) → after ≡ fold ask first (flat_map f (take (i + 1) xs))
-asked_more {A} f first now after xs i d below so e =
+pub asked_more : {A : Type 0} (items : List Item) (f : A → List Asking) (first now after : Stage) (xs : List A) (i : ℕ) (d : A) → i < length xs → now ≡ fold (ask items) first (flat_map f (take i xs)) → after ≡ fold (ask items) now (f (get_or xs i d)) → after ≡ fold (ask items) first (flat_map f (take (i + 1) xs))
+asked_more {A} items f first now after xs i d below so e =
     let x = get_or xs i d in
     let next : flat_map f (take (i + 1) xs) ≡ flat_map f (take i xs) ++ f x = ap (flat_map f) (take_more xs i d below) ∙ flat_map-append f (take i xs) (x ∷ []) ∙ ap (λ ys. flat_map f (take i xs) ++ ys) (append-nil (f x)) in
-    e ∙ ap (λ (s : Stage). fold ask s (f x)) so ∙ sym (ap (fold ask first) next ∙ fold-append ask first (flat_map f (take i xs)) (f x))
-
--- an item that isn't one of turns asks no seat
-pub no_turns : (item : Item) → ((seat count : ℕ) → item ≡ Turn seat count → ⊥) → item_asks item ≡ []
-no_turns (Ask seat call) not = refl
-no_turns (Mark seat n) not = refl
-no_turns (After seat n) not = refl
-no_turns (Turn seat count) not = absurd (not seat count refl)
+    e ∙ ap (λ (s : Stage). fold (ask items) s (f x)) so ∙ sym (ap (fold (ask items) first) next ∙ fold-append (ask items) first (flat_map f (take i xs)) (f x))

@@ -6,5 +6,7 @@ pub mod EndLemmas
 pub mod OutputLemmas
 pub mod CallLemmas
 pub mod ServeLemmas
-pub mod ServingLemmas
 pub mod ReplayLemmas
+pub mod ClockLemmas
+pub mod StopLemmas
+pub mod HeldLemmas

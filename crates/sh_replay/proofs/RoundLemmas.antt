@@ -1,11 +1,11 @@
 -- The rounds of a replay: idle seats may be left out, and behind as many rounds as turns may be made nothing changes.
 use Rattle.std.proofs.Common.{◌≡◌, ◌≢◌, ◌⊎◌, ◌<◌, ◌≤◌, ℕ, zero, suc, ◌+◌, ◌-◌, Bool, true, false, List, [], ◌∷◌, ◌++◌, length, take, drop, set, get_or, refl, sym, ap, subst, ◌∙◌, inl, inr, append-nil, append_assoc, arith}
-use Rattle.std.{specs.{Prelude.{◌==◌, if◌then◌else◌, slice_get, All}, List.{fold, range_with_len}}, proofs.{lemmas.{Bool.{cases_eq, Decides.{nat_tests}}, List.Folds.{fold-map}}, Math.Seq.{take-add}}}
+use Rattle.std.{specs.{Prelude.{◌==◌, if◌then◌else◌, slice_get, All}, List.{fold, range_with_len}}, proofs.{lemmas.{Bool.{cases_lt, Decides.{nat_tests}}, List.{Folds.{fold-map}, FromFn.{get_or-range_with_len, length-range_with_len}}}, Math.Seq.{take-add}}}
 use Rattle.std.proofs.lemmas.List.{get_or-set_other, get_or-take, length-take-le, take_more, take_more_set, Sums.{fold-append, fold_push}, Elements.{All-cons, All-head, All-nil, All-tail}}
 use Rattle.std.proofs.lemmas.Option.{slice_get_past}
-use Rattle.sh_logic.proofs.Tests.{not_true}
-use Rattle.sh_world.{specs.{States.{State}, Turning.{is_idle_at, turn_of}}, proofs.LawLemmas.{turn_idle}}
-use Rattle.sh_replay.{specs.{Course.{ask, is_busy, round_asks, rounds_asks, InRound, Stage}, Thinning.{ask_in, AllIdle, Thins}}, proofs.TurnLemmas.{asks, idle_stays, turn_seats}}
+use Rattle.sh_sheet.specs.declared.item.Item.{Item}
+use Rattle.sh_world.{specs.{States.{State}, Turning.{is_idle_at, turn_of}}}
+use Rattle.sh_replay.{specs.{Course.{ask, can_turn, round_asks, rounds_asks, takes, InRound, Stage}, Thinning.{ask_in, AllRest, Thins}}, proofs.TurnLemmas.{asks, idle_rests, idle_stays, none_taken, one_taken, turn_seats}}
 
 -- ---- one seat is asked
 
@@ -15,58 +15,92 @@ IsIdle s x = is_idle_at (slice_get s.seats x) ≡ true
 abbrev pub took_turn : Stage → ℕ → Stage
 took_turn r x = record { world = turn_of r.world x; left = r.left - 1 }
 
-pub ask_spent : (r : Stage) (x : ℕ) → r.left ≡ 0 → ask_in r x ≡ r
-ask_spent r x none =
+spent_takes : (items : List Item) (r : Stage) (x : ℕ) → r.left ≡ 0 → takes items r (InRound x) ≡ false
+spent_takes items r x none =
     let test : (r.left == 0) ≡ true = grind (arith, nat_tests) in
     rw test refl
 
-idle_kept : (b : Bool) (r t : Stage) → (if (if b then false else false) then t else r) ≡ r
-idle_kept true r t = refl
-idle_kept false r t = refl
+cannot_take : (items : List Item) (r : Stage) (x : ℕ) → can_turn items r.world x ≡ false → takes items r (InRound x) ≡ false
+cannot_take items r x none = either (r.left == 0) (can_turn items r.world x) none where
+  either : (b c : Bool) → c ≡ false → (if b then false else c) ≡ false
+  either true c e = refl
+  either false c e = e
 
-pub ask_idle : (r : Stage) (x : ℕ) → IsIdle r.world x → ask_in r x ≡ r
-ask_idle r x idle = rw idle (idle_kept (r.left == 0) r (took_turn r x))
-
-pub ask_busy : (r : Stage) (x : ℕ) → r.left ≢ 0 → is_idle_at (slice_get r.world.seats x) ≡ false → ask_in r x ≡ took_turn r x
-ask_busy r x some busy =
+can_take : (items : List Item) (r : Stage) (x : ℕ) → r.left ≢ 0 → can_turn items r.world x ≡ true → takes items r (InRound x) ≡ true
+can_take items r x some can =
     let test : (r.left == 0) ≡ false = grind (arith, nat_tests) in
-    rw test (rw busy refl)
+    rw test can
 
 some_left : (n : ℕ) (b c : Bool) → (n == 0) ≡ b → (if b then false else c) ≡ true → n ≢ 0
 some_left n true c test e none = absurd (cc)
 some_left n false c test e none = grind (arith, nat_tests)
 
-pub asks_in : (r : Stage) (x : ℕ) → (ask_in r x ≡ r) ⊎ ((ask_in r x ≡ took_turn r x) × (r.left ≢ 0))
-asks_in r x = elim (asks r (InRound x)) [
-  | inl same ↦ inl same
-  | inr turn ↦ inr (turn.0, some_left r.left (r.left == 0) (is_busy r.world x) refl turn.1)
-]
+module _ (items : List Item) where
+  pub ask_spent : (r : Stage) (x : ℕ) → r.left ≡ 0 → ask_in items r x ≡ r
+  ask_spent r x none = none_taken items r (InRound x) (spent_takes items r x none)
 
-pub idle_asked : (r : Stage) (y x : ℕ) → IsIdle r.world x → IsIdle (ask_in r y).world x
-idle_asked r y x idle = elim (asks_in r y) [
-  | inl same ↦ subst (λ (t : Stage). IsIdle t.world x) (sym same) idle
-  | inr turn ↦ subst (λ (t : Stage). IsIdle t.world x) (sym turn.0) (idle_stays r.world y x idle)
-]
+  pub ask_rests : (r : Stage) (x : ℕ) → can_turn items r.world x ≡ false → ask_in items r x ≡ r
+  ask_rests r x none = none_taken items r (InRound x) (cannot_take items r x none)
 
-seats_asked : (r : Stage) (y : ℕ) → length (ask_in r y).world.seats ≡ length r.world.seats
-seats_asked r y = elim (asks_in r y) [
-  | inl same ↦ ap (λ (t : Stage). length t.world.seats) same
-  | inr turn ↦ ap (λ (t : Stage). length t.world.seats) turn.0 ∙ turn_seats r.world y
-]
+  pub ask_busy : (r : Stage) (x : ℕ) → r.left ≢ 0 → can_turn items r.world x ≡ true → ask_in items r x ≡ took_turn r x
+  ask_busy r x some can = one_taken items r (InRound x) (can_take items r x some can)
 
--- ---- some seats are asked
+  pub asks_in : (r : Stage) (x : ℕ) → (ask_in items r x ≡ r) ⊎ ((ask_in items r x ≡ took_turn r x) × (r.left ≢ 0))
+  asks_in r x = elim (asks items r (InRound x)) [
+    | inl same ↦ inl same
+    | inr turn ↦ inr (turn.0, some_left r.left (r.left == 0) (can_turn items r.world x) refl turn.1)
+  ]
 
-pub idle_after : (xs : List ℕ) (r : Stage) (x : ℕ) → IsIdle r.world x → IsIdle (fold ask_in r xs).world x
-idle_after [] r x idle = idle
-idle_after (y ∷ ys) r x idle = idle_after ys (ask_in r y) x (idle_asked r y x idle)
+  pub idle_asked : (r : Stage) (y x : ℕ) → IsIdle r.world x → IsIdle (ask_in items r y).world x
+  idle_asked r y x idle = elim (asks_in r y) [
+    | inl same ↦ subst (λ (t : Stage). IsIdle t.world x) (sym same) idle
+    | inr turn ↦ subst (λ (t : Stage). IsIdle t.world x) (sym turn.0) (idle_stays r.world y x idle)
+  ]
 
-pub seats_after : (xs : List ℕ) (r : Stage) → length (fold ask_in r xs).world.seats ≡ length r.world.seats
-seats_after [] r = refl
-seats_after (y ∷ ys) r = seats_after ys (ask_in r y) ∙ seats_asked r y
+  seats_asked : (r : Stage) (y : ℕ) → length (ask_in items r y).world.seats ≡ length r.world.seats
+  seats_asked r y = elim (asks_in r y) [
+    | inl same ↦ ap (λ (t : Stage). length t.world.seats) same
+    | inr turn ↦ ap (λ (t : Stage). length t.world.seats) turn.0 ∙ turn_seats r.world y
+  ]
 
-pub spent_after : (xs : List ℕ) (r : Stage) → r.left ≡ 0 → fold ask_in r xs ≡ r
-spent_after [] r none = refl
-spent_after (y ∷ ys) r none = ap (λ (t : Stage). fold ask_in t ys) (ask_spent r y none) ∙ spent_after ys r none
+  -- ---- some seats are asked
+
+  pub idle_after : (xs : List ℕ) (r : Stage) (x : ℕ) → IsIdle r.world x → IsIdle (fold (ask_in items) r xs).world x
+  idle_after [] r x idle = idle
+  idle_after (y ∷ ys) r x idle = idle_after ys (ask_in items r y) x (idle_asked r y x idle)
+
+  pub seats_after : (xs : List ℕ) (r : Stage) → length (fold (ask_in items) r xs).world.seats ≡ length r.world.seats
+  seats_after [] r = refl
+  seats_after (y ∷ ys) r = seats_after ys (ask_in items r y) ∙ seats_asked r y
+
+  pub spent_after : (xs : List ℕ) (r : Stage) → r.left ≡ 0 → fold (ask_in items) r xs ≡ r
+  spent_after [] r none = refl
+  spent_after (y ∷ ys) r none = ap (λ (t : Stage). fold (ask_in items) t ys) (ask_spent r y none) ∙ spent_after ys r none
+
+  left_falls : (xs : List ℕ) (r : Stage) → (fold (ask_in items) r xs).left ≤ r.left
+  left_falls [] r = omega arith
+  left_falls (y ∷ ys) r = elim (asks_in r y) [
+    | inl same ↦ omega (arith, left_falls ys (ask_in items r y), ap (λ (t : Stage). t.left) same)
+    | inr turn ↦ omega (arith, left_falls ys (ask_in items r y), ap (λ (t : Stage). t.left) turn.0)
+  ]
+
+  -- where no turn was made nothing has changed, and none of them takes one
+  still : (y : ℕ) (ys : List ℕ) (r : Stage) → (fold (ask_in items) r (y ∷ ys)).left ≡ r.left → takes items r (InRound y) ≡ false
+  still y ys r same = by_takes (takes items r (InRound y)) refl where
+    by_takes : (b : Bool) → takes items r (InRound y) ≡ b → takes items r (InRound y) ≡ false
+    by_takes false e = e
+    by_takes true e =
+        let less = ap (λ (t : Stage). t.left) (one_taken items r (InRound y) e) in
+        let some = some_left r.left (r.left == 0) (can_turn items r.world y) refl e in
+        absurd (omega (arith, less, some, same, left_falls ys (ask_in items r y)))
+
+  pub none_made : (xs : List ℕ) (r : Stage) → (fold (ask_in items) r xs).left ≡ r.left → (fold (ask_in items) r xs ≡ r) × All (λ x. takes items r (InRound x) ≡ false) xs
+  none_made [] r same = (refl, All-nil (λ x. takes items r (InRound x) ≡ false))
+  none_made (y ∷ ys) r same =
+      let none = still y ys r same in
+      let here : ask_in items r y ≡ r = none_taken items r (InRound y) none in
+      let rest = none_made ys r (ap (λ (t : Stage). (fold (ask_in items) t ys).left) (sym here) ∙ same) in
+      (ap (λ (t : Stage). fold (ask_in items) t ys) here ∙ rest.0, All-cons (λ x. takes items r (InRound x) ≡ false) y ys none rest.1)
 
 -- ---- idle seats are left out
 
@@ -74,11 +108,6 @@ pub thins_on : (s t : State) (xs ys : List ℕ) → ((x : ℕ) → IsIdle s x �
 thins_on s t [] ys on h = h
 thins_on s t (x ∷ xs) ys on (inl out) = inl (on x out.0, thins_on s t xs ys on out.1)
 thins_on s t (x ∷ xs) ys on (inr kept) = inr (kept.0, kept.1, thins_on s t xs kept.0 on kept.2)
-
-pub thins_fold : (xs ys : List ℕ) (r : Stage) → Thins r.world xs ys → fold ask_in r xs ≡ fold ask_in r ys
-thins_fold [] ys r h = ap (fold ask_in r) (sym h)
-thins_fold (x ∷ xs) ys r (inl out) = ap (λ (t : Stage). fold ask_in t xs) (ask_idle r x out.0) ∙ thins_fold xs ys r out.1
-thins_fold (x ∷ xs) ys r (inr kept) = thins_fold xs kept.0 (ask_in r x) (thins_on r.world (ask_in r x).world xs kept.0 (λ z. idle_asked r x z) kept.2) ∙ ap (fold ask_in r) (sym kept.1)
 
 pub thins_all : (s : State) (xs : List ℕ) → Thins s xs xs
 thins_all s [] = refl
@@ -117,23 +146,6 @@ pub range_below : (a count n : ℕ) → a + count ≤ n → All (λ x. x < n) (r
 range_below a zero n h = All-nil (λ x. x < n)
 range_below a (suc count) n h = All-cons (λ x. x < n) a (range_with_len (a + 1) count) (omega arith) (range_below (a + 1) count n (omega arith))
 
--- where none is left, all of them are idle
-none_left : (s : State) (a count : ℕ) → Thins s (range_with_len a count) [] → (x : ℕ) → a ≤ x → x < a + count → IsIdle s x
-none_left s a zero h x low high = absurd (omega (arith, low, high))
-none_left s a (suc count) (inl out) x low high = elim (cases_eq x a) [
-  | inl same ↦ subst (λ (n : ℕ). IsIdle s n) (sym same) out.0
-  | inr ne ↦ none_left s (a + 1) count out.1 x (omega (arith, low, ne)) (omega (arith, high))
-]
-none_left s a (suc count) (inr kept) x low high = absurd (cc (kept.1))
-
-pub all_idle : (s : State) → Thins s (range_with_len 0 (length s.seats)) [] → AllIdle s
-all_idle s h x = elim (within x (length s.seats)) [
-  | inl below ↦ none_left s 0 (length s.seats) h x (omega arith) (omega (arith, below))
-  | inr past ↦ ap is_idle_at (slice_get_past s.seats x past)
-] where
-  within : (x n : ℕ) → (x < n) ⊎ (n ≤ x)
-  within x n = grind arith
-
 -- ---- rounds
 
 rounds_append : (i j n : ℕ) → rounds_asks (i + j) n ≡ rounds_asks i n ++ rounds_asks j n
@@ -143,22 +155,22 @@ rounds_append (suc i) j n =
     ap (λ k. rounds_asks k n) next ∙ ap (λ xs. round_asks n ++ xs) (rounds_append i j n) ∙ sym (append_assoc (round_asks n) (rounds_asks i n) (rounds_asks j n))
 
 -- a round of all seats
-one_round : (r : Stage) (n : ℕ) → length r.world.seats ≡ n → fold ask r (round_asks n) ≡ fold ask_in r (range_with_len 0 (length r.world.seats))
-one_round r n e = fold-map ask InRound r (range_with_len 0 n) ∙ ap (λ k. fold ask_in r (range_with_len 0 k)) (sym e)
+one_round : (items : List Item) (r : Stage) (n : ℕ) → length r.world.seats ≡ n → fold (ask items) r (round_asks n) ≡ fold (ask_in items) r (range_with_len 0 (length r.world.seats))
+one_round items r n e = fold-map (ask items) InRound r (range_with_len 0 n) ∙ ap (λ k. fold (ask_in items) r (range_with_len 0 k)) (sym e)
 
 -- one round more
-next_round : (first : Stage) (j n : ℕ) → fold ask first (rounds_asks (j + 1) n) ≡ fold ask (fold ask first (rounds_asks j n)) (round_asks n)
-next_round first j n = ap (fold ask first) (rounds_append j 1 n) ∙ fold-append ask first (rounds_asks j n) (rounds_asks 1 n) ∙ ap (fold ask (fold ask first (rounds_asks j n))) (append-nil (round_asks n))
+next_round : (items : List Item) (first : Stage) (j n : ℕ) → fold (ask items) first (rounds_asks (j + 1) n) ≡ fold (ask items) (fold (ask items) first (rounds_asks j n)) (round_asks n)
+next_round items first j n = ap (fold (ask items) first) (rounds_append j 1 n) ∙ fold-append (ask items) first (rounds_asks j n) (rounds_asks 1 n) ∙ ap (fold (ask items) (fold (ask items) first (rounds_asks j n))) (append-nil (round_asks n))
 
-same_rounds : (r : Stage) (k n : ℕ) → fold ask r (round_asks n) ≡ r → fold ask r (rounds_asks k n) ≡ r
-same_rounds r zero n same = refl
-same_rounds r (suc k) n same = fold-append ask r (round_asks n) (rounds_asks k n) ∙ ap (λ (t : Stage). fold ask t (rounds_asks k n)) same ∙ same_rounds r k n same
+same_rounds : (items : List Item) (r : Stage) (k n : ℕ) → fold (ask items) r (round_asks n) ≡ r → fold (ask items) r (rounds_asks k n) ≡ r
+same_rounds items r zero n same = refl
+same_rounds items r (suc k) n same = fold-append (ask items) r (round_asks n) (rounds_asks k n) ∙ ap (λ (t : Stage). fold (ask items) t (rounds_asks k n)) same ∙ same_rounds items r k n same
 
 -- where a round changes nothing, the rounds that are left change nothing
-last_here : (first r : Stage) (j n : ℕ) → r ≡ fold ask first (rounds_asks j n) → j ≤ first.left → fold ask r (round_asks n) ≡ r → r ≡ fold ask first (rounds_asks first.left n)
-last_here first r j n is within same =
+last_here : (items : List Item) (first r : Stage) (j n : ℕ) → r ≡ fold (ask items) first (rounds_asks j n) → j ≤ first.left → fold (ask items) r (round_asks n) ≡ r → r ≡ fold (ask items) first (rounds_asks first.left n)
+last_here items first r j n is within same =
     let split : j + (first.left - j) ≡ first.left = omega (arith, within) in
-    sym (ap (λ k. fold ask first (rounds_asks k n)) (sym split) ∙ ap (fold ask first) (rounds_append j (first.left - j) n) ∙ fold-append ask first (rounds_asks j n) (rounds_asks (first.left - j) n) ∙ ap (λ (t : Stage). fold ask t (rounds_asks (first.left - j) n)) (sym is) ∙ same_rounds r (first.left - j) n same)
+    sym (ap (λ k. fold (ask items) first (rounds_asks k n)) (sym split) ∙ ap (fold (ask items) first) (rounds_append j (first.left - j) n) ∙ fold-append (ask items) first (rounds_asks j n) (rounds_asks (first.left - j) n) ∙ ap (λ (t : Stage). fold (ask items) t (rounds_asks (first.left - j) n)) (sym is) ∙ same_rounds items r (first.left - j) n same)
 
 -- ---- the code's rounds
 
@@ -171,122 +183,135 @@ rising_more seats n below h =
     let next : n + 1 ≡ suc n = omega arith in
     take_more_set seats n n below ∙ ap (λ l. l ++ n ∷ []) h ∙ sym (ap (range_with_len 0) next ∙ range_step 0 n ∙ ap (λ x. range_with_len 0 n ++ x ∷ []) (omega arith))
 
--- The rounds so far, of which the first began with this world and budget. Each but the last made a turn.
-pub record RoundsSoFar (first : Stage) (world : State) (seats : List ℕ) (count turns : ℕ) : Type 0 where
+-- The rounds so far, of which the first began with this world and budget. Each made a turn.
+pub record RoundsSoFar (items : List Item) (first : Stage) (world : State) (seats : List ℕ) (count turns : ℕ) : Type 0 where
   pub made : ℕ
-  pub same : record { world = world; left = turns } ≡ fold ask first (rounds_asks made (length first.world.seats))
-  pub few : made ≤ first.left
-  pub room : count ≢ 0 → made + turns ≤ first.left
+  pub same : record { world = world; left = turns } ≡ fold (ask items) first (rounds_asks made (length first.world.seats))
+  pub room : made + turns ≤ first.left
+  pub size : length world.seats ≡ length first.world.seats
+
+-- The seats that are asked are all but idle ones.
+pub record AreAsked (world : State) (seats : List ℕ) (count turns : ℕ) : Type 0 where
   pub long : length seats ≡ 64
   pub within : count ≤ 64
-  pub left : turns ≤ first.left
-  pub size : length world.seats ≡ length first.world.seats
   pub thins : turns ≢ 0 → Thins world (range_with_len 0 (length world.seats)) (take count seats)
 
-module _ (first : Stage) (world : State) (seats : List ℕ) (count turns : ℕ) (h : RoundsSoFar first world seats count turns) where
+thins_fold : (items : List Item) (xs ys : List ℕ) (r : Stage) → Thins r.world xs ys → fold (ask_in items) r xs ≡ fold (ask_in items) r ys
+thins_fold items [] ys r h = ap (fold (ask_in items) r) (sym h)
+thins_fold items (x ∷ xs) ys r (inl out) = ap (λ (t : Stage). fold (ask_in items) t xs) (ask_rests items r x (idle_rests items r.world x out.0)) ∙ thins_fold items xs ys r out.1
+thins_fold items (x ∷ xs) ys r (inr kept) = thins_fold items xs kept.0 (ask_in items r x) (thins_on r.world (ask_in items r x).world xs kept.0 (λ z. idle_asked items r x z) kept.2) ∙ ap (fold (ask_in items) r) (sym kept.1)
+
+-- where those that are left take no turn, all of them take none
+thins_rest : (items : List Item) (xs ys : List ℕ) (r : Stage) → Thins r.world xs ys → All (λ x. takes items r (InRound x) ≡ false) ys → All (λ x. takes items r (InRound x) ≡ false) xs
+thins_rest items [] ys r h rest = All-nil (λ x. takes items r (InRound x) ≡ false)
+thins_rest items (x ∷ xs) ys r (inl out) rest = All-cons (λ y. takes items r (InRound y) ≡ false) x xs (cannot_take items r x (idle_rests items r.world x out.0)) (thins_rest items xs ys r out.1 rest)
+thins_rest items (x ∷ xs) ys r (inr kept) rest =
+    let all = subst (λ (l : List ℕ). All (λ y. takes items r (InRound y) ≡ false) l) kept.1 rest in
+    All-cons (λ y. takes items r (InRound y) ≡ false) x xs (All-head (λ y. takes items r (InRound y) ≡ false) x kept.0 all) (thins_rest items xs kept.0 r kept.2 (All-tail (λ y. takes items r (InRound y) ≡ false) x kept.0 all))
+
+pub all_rest : (items : List Item) (r : Stage) → All (λ x. takes items r (InRound x) ≡ false) (range_with_len 0 (length r.world.seats)) → AllRest items r
+all_rest items r all seat = elim (cases_lt seat (length r.world.seats)) [
+  | inl below ↦ let at : 0 + seat ≡ seat = omega arith in ap (λ x. takes items r (InRound x)) (sym (get_or-range_with_len 0 (length r.world.seats) seat 0 below ∙ at)) ∙ all seat 0 (omega (arith, below, length-range_with_len 0 (length r.world.seats)))
+  | inr past ↦ cannot_take items r seat (idle_rests items r.world seat (ap is_idle_at (slice_get_past r.world.seats seat past)))
+]
+
+module _ (world : State) (seats : List ℕ) (count turns : ℕ) (h : AreAsked world seats count turns) where
   pub seats_below : 0 < turns → All (λ x. x < length world.seats) (take count seats)
   seats_below some = thins_below world (range_with_len 0 (length world.seats)) (take count seats) (length world.seats) (range_below 0 (length world.seats) (length world.seats) (omega arith)) (h.thins (λ e. omega (arith, e, some)))
 
-  pub rounds_step : (world' : State) (seats' : List ℕ) (count' turns' : ℕ) → 0 < turns → count ≢ 0 → record { world = world'; left = turns' } ≡ fold ask_in (record { world = world; left = turns }) (take count seats)
-      → count' + turns' ≡ turns → count' ≤ count → length seats' ≡ length seats → (turns' ≢ 0 → Thins world' (take count seats) (take count' seats')) → RoundsSoFar first world' seats' count' turns'
-  rounds_step world' seats' count' turns' some busy same made fewer long thins =
-      let r : Stage = record { world = world; left = turns } in
-      let n = length first.world.seats in
+  pub asked_step : (world' : State) (seats' : List ℕ) (count' turns' : ℕ) → 0 < turns → length world'.seats ≡ length world.seats → ((x : ℕ) → IsIdle world x → IsIdle world' x)
+      → count' ≤ count → length seats' ≡ length seats → (turns' ≢ 0 → Thins world' (take count seats) (take count' seats')) → AreAsked world' seats' count' turns'
+  asked_step world' seats' count' turns' some size on fewer long thins =
       let all = range_with_len 0 (length world.seats) in
-      let before = h.thins (λ e. omega (arith, e, some)) in
-      let room = h.room busy in
-      let size : length world'.seats ≡ length world.seats = ap (λ (t : Stage). length t.world.seats) same ∙ seats_after (take count seats) r in
-      let on : (x : ℕ) → IsIdle world x → IsIdle world' x = λ x idle. subst (λ (t : Stage). IsIdle t.world x) (sym same) (idle_after (take count seats) r x idle) in
       record {
-        made = h.made + 1;
-        same = same ∙ sym (next_round first h.made n ∙ ap (λ (t : Stage). fold ask t (round_asks n)) (sym h.same) ∙ one_round r n h.size ∙ thins_fold all (take count seats) r before);
-        few = omega (arith, room, some);
-        room = λ more. omega (arith, room, made, more);
         long = long ∙ h.long;
         within = omega (arith, fewer, h.within);
-        left = omega (arith, made, h.left);
-        size = size ∙ h.size;
-        thins = λ more. subst (λ (n : ℕ). Thins world' (range_with_len 0 n) (take count' seats')) (sym size) (thins_trans world' all (take count seats) (take count' seats') (thins_on world world' all (take count seats) on before) (thins more));
+        thins = λ more. subst (λ (n : ℕ). Thins world' (range_with_len 0 n) (take count' seats')) (sym size) (thins_trans world' all (take count seats) (take count' seats') (thins_on world world' all (take count seats) on (h.thins (λ e. omega (arith, e, some)))) (thins more));
       }
 
-  none : count ≡ 0 → 0 < turns → Thins world (range_with_len 0 (length world.seats)) []
-  none e some = subst (λ (n : ℕ). Thins world (range_with_len 0 (length world.seats)) (take n seats)) e (h.thins (λ z. omega (arith, z, some)))
+  module _ (items : List Item) (first : Stage) (g : RoundsSoFar items first world seats count turns) where
+    pub rounds_step : (world' : State) (seats' : List ℕ) (count' turns' : ℕ) → 0 < turns → record { world = world'; left = turns' } ≡ fold (ask_in items) (record { world = world; left = turns }) (take count seats) → turns' ≤ turns → turns' ≢ turns → RoundsSoFar items first world' seats' count' turns'
+    rounds_step world' seats' count' turns' some same fewer less =
+        let r : Stage = record { world = world; left = turns } in
+        let n = length first.world.seats in
+        record {
+          made = g.made + 1;
+          same = same ∙ sym (next_round items first g.made n ∙ ap (λ (t : Stage). fold (ask items) t (round_asks n)) (sym g.same) ∙ one_round items r n g.size ∙ thins_fold items (range_with_len 0 (length world.seats)) (take count seats) r (h.thins (λ e. omega (arith, e, some))));
+          room = omega (arith, g.room, fewer, less);
+          size = ap (λ (t : Stage). length t.world.seats) same ∙ seats_after items (take count seats) r ∙ g.size;
+        }
 
-  pub rounds_idle : count ≡ 0 → 0 < turns → AllIdle world
-  rounds_idle e some = all_idle world (none e some)
+    last : fold (ask_in items) (record { world = world; left = turns }) (range_with_len 0 (length world.seats)) ≡ record { world = world; left = turns } → record { world = world; left = turns } ≡ fold (ask items) first (rounds_asks first.left (length first.world.seats))
+    last same =
+        let r : Stage = record { world = world; left = turns } in
+        last_here items first r g.made (length first.world.seats) g.same (omega (arith, g.room)) (one_round items r (length first.world.seats) g.size ∙ same)
 
-  last : fold ask_in (record { world = world; left = turns }) (range_with_len 0 (length world.seats)) ≡ record { world = world; left = turns } → record { world = world; left = turns } ≡ fold ask first (rounds_asks first.left (length first.world.seats))
-  last same =
-      let r : Stage = record { world = world; left = turns } in
-      last_here first r h.made (length first.world.seats) h.same h.few (one_round r (length first.world.seats) h.size ∙ same)
+    pub rounds_spent : turns ≡ 0 → record { world = world; left = turns } ≡ fold (ask items) first (rounds_asks first.left (length first.world.seats))
+    rounds_spent e = last (spent_after items (range_with_len 0 (length world.seats)) (record { world = world; left = turns }) e)
 
-  pub rounds_over : count ≡ 0 → 0 < turns → record { world = world; left = turns } ≡ fold ask first (rounds_asks first.left (length first.world.seats))
-  rounds_over e some = last (thins_fold (range_with_len 0 (length world.seats)) [] (record { world = world; left = turns }) (none e some))
+    -- a round in which no turn was made
+    pub rounds_over : (world' : State) (turns' : ℕ) → 0 < turns → turns' ≡ turns → record { world = world'; left = turns' } ≡ fold (ask_in items) (record { world = world; left = turns }) (take count seats) → (record { world = world'; left = turns } ≡ fold (ask items) first (rounds_asks first.left (length first.world.seats))) × AllRest items (record { world = world'; left = turns })
+    rounds_over world' turns' some over made =
+        let same = ap (λ n. record { world = world'; left = n }) (sym over) ∙ made in
+        let r : Stage = record { world = world; left = turns } in
+        let thin = h.thins (λ e. omega (arith, e, some)) in
+        let none = none_made items (take count seats) r (ap (λ (t : Stage). t.left) (sym same)) in
+        let here : record { world = world'; left = turns } ≡ r = same ∙ none.0 in (
+          here ∙ last (thins_fold items (range_with_len 0 (length world.seats)) (take count seats) r thin ∙ none.0),
+          subst (AllRest items) (sym here) (all_rest items r (thins_rest items (range_with_len 0 (length world.seats)) (take count seats) r thin none.1)),
+        )
 
-  pub rounds_spent : turns ≡ 0 → record { world = world; left = turns } ≡ fold ask first (rounds_asks first.left (length first.world.seats))
-  rounds_spent e = last (spent_after (range_with_len 0 (length world.seats)) (record { world = world; left = turns }) e)
+pub spent_rests : (items : List Item) (r : Stage) → r.left ≡ 0 → AllRest items r
+spent_rests items r none seat = spent_takes items r seat none
 
 -- ---- a round of the code
 
--- A round so far: the first i of the old seats were asked, and those that took a turn stand in front.
-pub record SoFar (r : Stage) (old : List ℕ) (world : State) (turns : ℕ) (seats : List ℕ) (kept i : ℕ) : Type 0 where
-  pub same : record { world = world; left = turns } ≡ fold ask_in r (take i old)
+-- A round so far: the first i of the old seats were asked, and those that aren't idle stand in front.
+pub record SoFar (old : List ℕ) (world : State) (seats : List ℕ) (kept i : ℕ) : Type 0 where
   pub rest : (k : ℕ) → i ≤ k → get_or seats k 0 ≡ get_or old k 0
-  pub made : kept + turns ≡ r.left
   pub within : kept ≤ i
   pub thins : Thins world (take i old) (take kept seats)
 
-pub so_far_at : (r : Stage) (old : List ℕ) (world : State) (turns : ℕ) (seats : List ℕ) (kept i turns' : ℕ) (seats' : List ℕ) (kept' : ℕ) → SoFar r old world turns seats kept i → turns' ≡ turns → seats' ≡ seats → kept' ≡ kept → SoFar r old world turns' seats' kept' i
-so_far_at r old world turns seats kept i turns' seats' kept' h a b c =
-    subst (λ (t : ℕ). SoFar r old world t seats' kept' i) (sym a) (subst (λ (l : List ℕ). SoFar r old world turns l kept' i) (sym b) (subst (λ (k : ℕ). SoFar r old world turns seats k i) (sym c) h))
+-- what the asks of a round have made
+abbrev pub HasAsked : (items : List Item) → Stage → (old : List ℕ) → State → (turns i : ℕ) → Type 0
+HasAsked items r old world turns i = record { world = world; left = turns } ≡ fold (ask_in items) r (take i old)
 
-module _ (r : Stage) (old : List ℕ) (world : State) (turns : ℕ) (seats : List ℕ) (kept i : ℕ) (h : SoFar r old world turns seats kept i) where
+module _ (old : List ℕ) (world : State) (seats : List ℕ) (kept i : ℕ) (h : SoFar old world seats kept i) where
   -- the seat that is asked next
   next : i < length old → take (i + 1) old ≡ take i old ++ get_or seats i 0 ∷ []
   next below = take_more old i 0 below ∙ ap (λ x. take i old ++ x ∷ []) (sym (h.rest i (omega arith)))
 
-  asked_next : i < length old → fold ask_in r (take (i + 1) old) ≡ ask_in (record { world = world; left = turns }) (get_or seats i 0)
-  asked_next below = ap (fold ask_in r) (next below) ∙ fold_push ask_in r (take i old) (get_or seats i 0) ∙ ap (λ (t : Stage). ask_in t (get_or seats i 0)) (sym h.same)
+  pub asked_next : (items : List Item) (r : Stage) (turns turns' : ℕ) (after : State) → i < length old → HasAsked items r old world turns i → record { world = after; left = turns' } ≡ ask_in items (record { world = world; left = turns }) (get_or seats i 0) → HasAsked items r old after turns' (i + 1)
+  asked_next items r turns turns' after below same e = e ∙ sym (ap (fold (ask_in items) r) (next below) ∙ fold_push (ask_in items) r (take i old) (get_or seats i 0) ∙ ap (λ (t : Stage). ask_in items t (get_or seats i 0)) (sym same))
 
-  pub round_idle : (after : State) → i < length old → after ≡ turn_of world (get_or seats i 0) → IsIdle world (get_or seats i 0) → SoFar r old after turns seats kept (i + 1)
+  pub round_idle : (after : State) → i < length old → after ≡ world → IsIdle world (get_or seats i 0) → SoFar old after seats kept (i + 1)
   round_idle after below e idle =
-      let same : after ≡ world = e ∙ turn_idle world (get_or seats i 0) idle in
-      subst (λ (t : State). SoFar r old t turns seats kept (i + 1)) (sym same) (record {
-        same = sym (asked_next below ∙ ask_idle (record { world = world; left = turns }) (get_or seats i 0) idle);
+      subst (λ (t : State). SoFar old t seats kept (i + 1)) (sym e) (record {
         rest = λ k above. h.rest k (omega (arith, above));
-        made = h.made;
         within = omega (arith, h.within);
         thins = subst (λ (l : List ℕ). Thins world l (take kept seats)) (sym (next below)) (thins_out world (take i old) (take kept seats) (get_or seats i 0) h.thins idle);
       })
 
-  pub round_turn : (after : State) → i < length old → length seats ≡ length old → after ≡ turn_of world (get_or seats i 0) → turns ≢ 0 → (IsIdle world (get_or seats i 0) → ⊥) → SoFar r old after (turns - 1) (set seats kept (get_or seats i 0)) (kept + 1) (i + 1)
-  round_turn after below long e some busy =
+  pub round_kept : (after : State) → i < length old → length seats ≡ length old → ((x : ℕ) → IsIdle world x → IsIdle after x) → SoFar old after (set seats kept (get_or seats i 0)) (kept + 1) (i + 1)
+  round_kept after below long on =
       let x = get_or seats i 0 in
       let within : kept < length seats = omega (arith, h.within, below, long) in
       record {
-        same = ap (λ (t : State). record { world = t; left = turns - 1 }) e ∙ sym (asked_next below ∙ ask_busy (record { world = world; left = turns }) x some (not_true (is_idle_at (slice_get world.seats x)) busy));
         rest = λ k above. get_or-set_other seats kept k x 0 (λ same. absurd (omega (arith, above, same, h.within))) ∙ h.rest k (omega (arith, above));
-        made = omega (arith, h.made, some);
         within = omega (arith, h.within);
         thins = subst (λ (l : List ℕ). Thins after l (take (kept + 1) (set seats kept x))) (sym (next below)) (subst (λ (l : List ℕ). Thins after (take i old ++ x ∷ []) l) (sym (take_more_set seats kept x within))
-            (thins_in after (take i old) (take kept seats) x (subst (λ (t : State). Thins t (take i old) (take kept seats)) (sym e) (thins_on world (turn_of world x) (take i old) (take kept seats) (idle_stays world x) h.thins))));
+            (thins_in after (take i old) (take kept seats) x (thins_on world after (take i old) (take kept seats) on h.thins)));
       }
 
-  -- where no turn may be made any more, the rest of the round changes nothing
-  pub round_spent : (count : ℕ) → i ≤ count → turns ≡ 0 → record { world = world; left = turns } ≡ fold ask_in r (take count old)
-  round_spent count within none =
-      let t : Stage = record { world = world; left = turns } in
-      let whole : i + (count - i) ≡ count = omega (arith, within) in
-      let split : take count old ≡ take i old ++ take (count - i) (drop i old) = sym (ap (λ n. take n old) whole) ∙ take-add i (count - i) old in
-      sym (ap (fold ask_in r) split ∙ fold-append ask_in r (take i old) (take (count - i) (drop i old)) ∙ ap (λ (u : Stage). fold ask_in u (take (count - i) (drop i old))) (sym h.same) ∙ spent_after (take (count - i) (drop i old)) t none)
-
-  seats_so_far : length world.seats ≡ length r.world.seats
-  seats_so_far = ap (λ (t : Stage). length t.world.seats) h.same ∙ seats_after (take i old) r
-
-  pub next_below : (count : ℕ) → i < count → count ≤ length old → All (λ x. x < length r.world.seats) (take count old) → get_or seats i 0 < length world.seats
-  next_below count below long all =
+  pub next_below : (count n : ℕ) → i < count → count ≤ length old → All (λ x. x < n) (take count old) → get_or seats i 0 < n
+  next_below count n below long all =
       let here : get_or (take count old) i 0 ≡ get_or seats i 0 = get_or-take count old i 0 below ∙ sym (h.rest i (omega arith)) in
-      omega (arith, here, seats_so_far, all i 0 (omega (arith, length-take-le count old long)))
+      omega (arith, here, all i 0 (omega (arith, length-take-le count old long)))
 
-  pub ended : (count : ℕ) → i ≡ count → SoFar r old world turns seats kept count
-  ended count e = subst (λ (n : ℕ). SoFar r old world turns seats kept n) e h
+-- where no turn may be made any more, the rest of the round changes nothing
+pub round_spent : (items : List Item) (r : Stage) (old : List ℕ) (world : State) (turns i count : ℕ) → HasAsked items r old world turns i → i ≤ count → turns ≡ 0 → record { world = world; left = turns } ≡ fold (ask_in items) r (take count old)
+round_spent items r old world turns i count same within none =
+    let t : Stage = record { world = world; left = turns } in
+    let whole : i + (count - i) ≡ count = omega (arith, within) in
+    let split : take count old ≡ take i old ++ take (count - i) (drop i old) = sym (ap (λ n. take n old) whole) ∙ take-add i (count - i) old in
+    sym (ap (fold (ask_in items) r) split ∙ fold-append (ask_in items) r (take i old) (take (count - i) (drop i old)) ∙ ap (λ (u : Stage). fold (ask_in items) u (take (count - i) (drop i old))) (sym same) ∙ spent_after items (take (count - i) (drop i old)) t none)

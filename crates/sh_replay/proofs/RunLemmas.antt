@@ -29,17 +29,17 @@ by_test : (b : Bool) (r t : Stage) (es : List SeatEvent) → IsRun r.world.words
 by_test true r t es run = run
 by_test false r t es run = refl
 
-asked_run : (r : Stage) (a : Asking) → IsRun r.world.words (events_by r a) (ask r a).world.words
-asked_run r a = by_test (takes r a) r (turned r a) _ (turned_run r a)
+asked_run : (items : List Item) (r : Stage) (a : Asking) → IsRun r.world.words (events_by items r a) (ask items r a).world.words
+asked_run items r a = by_test (takes items r a) r (turned r a) _ (turned_run r a)
 
-course_run : (xs : List Asking) (c : Course) (words : List ℕ) → IsRun words c.events c.stage.world.words → IsRun words (fold goes_on c xs).events (fold goes_on c xs).stage.world.words
-course_run [] c words run = run
-course_run (a ∷ xs) c words run = course_run xs (goes_on c a) words (run_append words c.stage.world.words (ask c.stage a).world.words c.events (events_by c.stage a) run (asked_run c.stage a))
+course_run : (items : List Item) (xs : List Asking) (c : Course) (words : List ℕ) → IsRun words c.events c.stage.world.words → IsRun words (fold (goes_on items) c xs).events (fold (goes_on items) c xs).stage.world.words
+course_run items [] c words run = run
+course_run items (a ∷ xs) c words run = course_run items xs (goes_on items c a) words (run_append words c.stage.world.words (ask items c.stage a).world.words c.events (events_by items c.stage a) run (asked_run items c.stage a))
 
 -- the stage of a course is where its seats lead, when they are asked
-pub stage_is : (xs : List Asking) (c : Course) → (fold goes_on c xs).stage ≡ fold ask c.stage xs
-stage_is [] c = refl
-stage_is (a ∷ xs) c = stage_is xs (goes_on c a)
+pub stage_is : (items : List Item) (xs : List Asking) (c : Course) → (fold (goes_on items) c xs).stage ≡ fold (ask items) c.stage xs
+stage_is items [] c = refl
+stage_is items (a ∷ xs) c = stage_is items xs (goes_on items c a)
 
 -- ---- the calls that are given leave the words
 
@@ -58,5 +58,5 @@ all_given_words [] s = refl
 all_given_words (i ∷ is) s = all_given_words is (given_by s i) ∙ given_words s i
 
 -- from a world that was given its calls, the course's events are a run from the words that were laid
-pub given_run : (items : List Item) (s : State) (left : ℕ) (xs : List Asking) → IsRun s.words (fold goes_on (record { stage = record { world = fold given_by s items; left = left }; events = [] }) xs).events (fold goes_on (record { stage = record { world = fold given_by s items; left = left }; events = [] }) xs).stage.world.words
-given_run items s left xs = course_run xs (record { stage = record { world = fold given_by s items; left = left }; events = [] }) s.words (all_given_words items s)
+pub given_run : (sheet items : List Item) (s : State) (left : ℕ) (xs : List Asking) → IsRun s.words (fold (goes_on sheet) (record { stage = record { world = fold given_by s items; left = left }; events = [] }) xs).events (fold (goes_on sheet) (record { stage = record { world = fold given_by s items; left = left }; events = [] }) xs).stage.world.words
+given_run sheet items s left xs = course_run sheet xs (record { stage = record { world = fold given_by s items; left = left }; events = [] }) s.words (all_given_words items s)

@@ -4,13 +4,13 @@ use Rattle.std.{specs.{Prelude.{All, IfOk, filter, true}, List.{fold, sum_by}, F
 use Rattle.std.proofs.lemmas.List.Sums.{fold-append, sum_by-cons}
 use Rattle.sh_base.specs.{declared.config.ConfigParts.{ConfigParts}, Setting.{all_seats, IsSetting}}
 use Rattle.sh_map.specs.{declared.book.Row.{Row}, Book.{IsClosed}, Log.{map_of}, Map.{Map, row_pair, size}}
-use Rattle.sh_sheet.specs.{declared.item.Item.{Item, TheVariants.{Ask, Mark, After, Turn}}, Sheet.{item_calls}}
+use Rattle.sh_sheet.specs.{declared.item.Item.{Item, TheVariants.{Ask, Mark, After, Turn}}, Sheet.{item_calls, IsLawfulItem}}
 use Rattle.sh_tree.specs.Tree.{IsTree, map_in}
 use Rattle.sh_image.specs.Laid.{AreLaid}
 use Rattle.sh_world.specs.{Laws.{IsLawfulWorld}, Running.{IsRunning}, States.{State, dones_of, fresh_from, fresh_state}, Turning.{is_idle_at, turn_of}}
 use Rattle.sh_replay.specs.declared.ending.Finish.{Finish, TheVariants.{Done, Spent}}
 use Rattle.sh_replay.specs.{Course.{all_asks, ask, budget_of, course, finished, given_by, have_ended, row_asks, rounds_asks, Course, HasFinished, Stage}, Run.{IsRun}}
-use Rattle.sh_replay.specs.{Served.{is_call, item_of, row_of, HasServed, HoldsAll, HoldsRows}, Serving.{IsServable}, declared.turns.TurnRow.{TurnRow}, TurnRows.{kept_asks, turn_rows}}
+use Rattle.sh_replay.specs.{Served.{is_call, item_of, row_of, HasServed, HoldsAll, HoldsRows}, declared.turns.TurnRow.{TurnRow}, TurnRows.{kept_asks, turn_rows}}
 use Rattle.sh_replay.proofs.{CallLemmas.{all_given, map_size, turn_same}, EndLemmas.{all_rest, idle_ended}, ItemLemmas.{given_seats, given_setting, kept_are}, RunLemmas.{given_run, stage_is}}
 use Rattle.sh_replay.proofs.TurnLemmas.{all_keep, asked_seats, turn_seats, turn_setting}
 
@@ -53,7 +53,7 @@ fresh_seats : (p : ConfigParts) (seat count : ℕ) → length (fresh_from p seat
 fresh_seats p seat zero = refl
 fresh_seats p seat (suc count) = ap suc (fresh_seats p (seat + 1) count)
 
-calls_counted : (items : List Item) → length (filter is_call items) ≡ sum_by item_calls items
+pub calls_counted : (items : List Item) → length (filter is_call items) ≡ sum_by item_calls items
 calls_counted [] = refl
 calls_counted (Ask seat call ∷ is) = omega (arith, calls_counted is, sum_by-cons item_calls (Ask seat call) is)
 calls_counted (Mark seat n ∷ is) = omega (arith, calls_counted is, sum_by-cons item_calls (Mark seat n) is)
@@ -66,41 +66,41 @@ some_seats p h = product p.computes p.seats h.ranged.computes.0 h.ranged.seats.0
   product a b x y = grind arith
 
 -- the rows that were kept ask the seats of the items
-pub rows_taken : (given taken : State) (budget : ℕ) (sheet slice : List Item) (rows lent : List TurnRow) → record { world = taken; left = budget } ≡ fold ask (record { world = given; left = budget }) (kept_asks lent) → lent ≡ rows → rows ≡ turn_rows slice → slice ≡ sheet → record { world = taken; left = budget } ≡ fold ask (record { world = given; left = budget }) (row_asks sheet)
-rows_taken given taken budget sheet slice rows lent is lent_is rows_are same = is ∙ ap (λ (xs : List TurnRow). fold ask (record { world = given; left = budget }) (kept_asks xs)) (lent_is ∙ rows_are) ∙ ap (fold ask (record { world = given; left = budget })) (kept_are slice ∙ ap row_asks same)
+pub rows_taken : (given taken : State) (budget : ℕ) (sheet slice : List Item) (rows lent : List TurnRow) → record { world = taken; left = budget } ≡ fold (ask sheet) (record { world = given; left = budget }) (kept_asks lent) → lent ≡ rows → rows ≡ turn_rows slice → slice ≡ sheet → record { world = taken; left = budget } ≡ fold (ask sheet) (record { world = given; left = budget }) (row_asks sheet)
+rows_taken given taken budget sheet slice rows lent is lent_is rows_are same = is ∙ ap (λ (xs : List TurnRow). fold (ask sheet) (record { world = given; left = budget }) (kept_asks xs)) (lent_is ∙ rows_are) ∙ ap (fold (ask sheet) (record { world = given; left = budget })) (kept_are slice ∙ ap row_asks same)
 
 -- and the rounds behind them are the rest of the course
-module _ (given taken : State) (sheet : List Item) (budget : ℕ) (is : record { world = taken; left = budget } ≡ fold ask (record { world = given; left = budget }) (row_asks sheet)) where
+module _ (given taken : State) (sheet : List Item) (budget : ℕ) (is : record { world = taken; left = budget } ≡ fold (ask sheet) (record { world = given; left = budget }) (row_asks sheet)) where
   pub taken_seats : length taken.seats ≡ length given.seats
-  taken_seats = ap (λ (r : Stage). length r.world.seats) is ∙ asked_seats (row_asks sheet) (record { world = given; left = budget })
+  taken_seats = ap (λ (r : Stage). length r.world.seats) is ∙ asked_seats sheet (row_asks sheet) (record { world = given; left = budget })
 
-  pub rounds_behind : fold ask (record { world = taken; left = budget }) (rounds_asks budget (length taken.seats)) ≡ (finished given sheet budget).stage
+  pub rounds_behind : fold (ask sheet) (record { world = taken; left = budget }) (rounds_asks budget (length taken.seats)) ≡ (finished given sheet budget).stage
   rounds_behind =
       let r : Stage = record { world = given; left = budget } in
       let rest = rounds_asks budget (length given.seats) in
-      ap (λ n. fold ask (record { world = taken; left = budget }) (rounds_asks budget n)) taken_seats ∙ ap (λ (t : Stage). fold ask t rest) is ∙ sym (fold-append ask r (row_asks sheet) rest) ∙ sym (stage_is (all_asks sheet (length given.seats) budget) (record { stage = r; events = [] }))
+      ap (λ n. fold (ask sheet) (record { world = taken; left = budget }) (rounds_asks budget n)) taken_seats ∙ ap (λ (t : Stage). fold (ask sheet) t rest) is ∙ sym (fold-append (ask sheet) r (row_asks sheet) rest) ∙ sym (stage_is sheet (all_asks sheet (length given.seats) budget) (record { stage = r; events = [] }))
 
-  pub rounds_last : (after : State) → after ≡ (fold ask (record { world = taken; left = budget }) (rounds_asks budget (length taken.seats))).world → after ≡ (finished given sheet budget).stage.world
+  pub rounds_last : (after : State) → after ≡ (fold (ask sheet) (record { world = taken; left = budget }) (rounds_asks budget (length taken.seats))).world → after ≡ (finished given sheet budget).stage.world
   rounds_last after last = last ∙ ap (λ (t : Stage). t.world) rounds_behind
 
-  pub rounds_end : (finish : Finish) → HasFinished budget (fold ask (record { world = taken; left = budget }) (rounds_asks budget (length taken.seats))) finish → HasFinished budget (finished given sheet budget).stage finish
+  pub rounds_end : (finish : Finish) → HasFinished budget (fold (ask sheet) (record { world = taken; left = budget }) (rounds_asks budget (length taken.seats))) finish → HasFinished budget (finished given sheet budget).stage finish
   rounds_end finish ends = subst (λ (t : Stage). HasFinished budget t finish) rounds_behind ends
 
-module _ (p : ConfigParts) (lawful : IsSetting p) (items sheet : List Item) (laid given : State) (is : laid ≡ fresh_state p laid.words) (same : items ≡ sheet) (so : given ≡ fold given_by laid items) (can : All (IsServable p) sheet) where
+module _ (p : ConfigParts) (lawful : IsSetting p) (items sheet : List Item) (laid given : State) (is : laid ≡ fresh_state p laid.words) (same : items ≡ sheet) (so : given ≡ fold given_by laid items) (can : All (IsLawfulItem p) sheet) where
   pub laid_seats : length laid.seats ≡ all_seats laid.setting
   laid_seats = ap (λ (s : State). length s.seats) is ∙ fresh_seats p 0 (all_seats p) ∙ sym (ap (λ (s : State). all_seats s.setting) is)
 
   seats_are : length laid.seats ≡ all_seats p
   seats_are = ap (λ (s : State). length s.seats) is ∙ fresh_seats p 0 (all_seats p)
 
-  setting_is : given.setting ≡ p
+  pub setting_is : given.setting ≡ p
   setting_is = ap (λ (s : State). s.setting) so ∙ given_setting items laid ∙ ap (λ (s : State). s.setting) is
 
   pub given_laid : 0 < length given.seats
   given_laid = omega (arith, ap (λ (s : State). length s.seats) so, given_seats items laid, seats_are, some_seats p lawful)
 
-  given_all : map item_of given.calls ≡ filter is_call sheet
-  given_all = ap (λ (s : State). map item_of s.calls) so ∙ all_given p items laid (subst (All (IsServable p)) (sym same) can) seats_are ∙ ap (λ (s : State). map item_of s.calls ++ filter is_call items) is ∙ ap (filter is_call) same
+  pub given_all : map item_of given.calls ≡ filter is_call sheet
+  given_all = ap (λ (s : State). map item_of s.calls) so ∙ all_given p items laid (subst (All (IsLawfulItem p)) (sym same) can) seats_are ∙ ap (λ (s : State). map item_of s.calls ++ filter is_call items) is ∙ ap (filter is_call) same
 
   pub given_count : length given.calls ≡ sum_by item_calls sheet
   given_count = sym (length-map given.calls item_of) ∙ ap length given_all ∙ calls_counted sheet
@@ -111,7 +111,7 @@ module _ (p : ConfigParts) (lawful : IsSetting p) (items sheet : List Item) (lai
     keeps f each =
         let xs = all_asks sheet (length given.seats) budget in
         let r : Stage = record { world = given; left = budget } in
-        ap (λ (t : Stage). f t.world) (stage_is xs (record { stage = r; events = [] })) ∙ all_keep f each xs r
+        ap (λ (t : Stage). f t.world) (stage_is sheet xs (record { stage = r; events = [] })) ∙ all_keep sheet f each xs r
 
     pub after_laid : 0 < length after.seats
     after_laid = omega (arith, ap (λ (s : State). length s.seats) last, keeps (λ (s : State). length s.seats) turn_seats, given_laid)
@@ -131,7 +131,7 @@ module _ (p : ConfigParts) (lawful : IsSetting p) (items sheet : List Item) (lai
           are_laid = are_laid;
           last = last ∙ ap (λ (c : Course). c.stage.world) on_course;
           end_is = subst (λ (c : Course). HasFinished (budget_of (sum_by item_calls sheet)) c.stage finish) on_course (subst (λ n. HasFinished n (finished given sheet budget).stage finish) budget_same ends);
-          run = subst (λ (s : State). IsRun laid.words (course p laid.words sheet).events s.words) (sym (last ∙ ap (λ (c : Course). c.stage.world) on_course)) (given_run sheet (fresh_state p laid.words) (budget_of (sum_by item_calls sheet)) (all_asks sheet (length (fold given_by (fresh_state p laid.words) sheet).seats) (budget_of (sum_by item_calls sheet))));
+          run = subst (λ (s : State). IsRun laid.words (course p laid.words sheet).events s.words) (sym (last ∙ ap (λ (c : Course). c.stage.world) on_course)) (given_run sheet sheet (fresh_state p laid.words) (budget_of (sum_by item_calls sheet)) (all_asks sheet (length (fold given_by (fresh_state p laid.words) sheet).seats) (budget_of (sum_by item_calls sheet))));
           setting = ap (λ (s : State). s.setting) last ∙ keeps (λ (s : State). s.setting) turn_setting ∙ setting_is;
           calls = same_items ∙ given_all;
           lawful = sound.0.book.lawful;

@@ -1,12 +1,13 @@
 -- What a turn of a seat leaves of a world.
-use Rattle.std.proofs.Common.{◌≡◌, ◌≢◌, ◌⊎◌, ◌<◌, ℕ, zero, suc, ◌+◌, ◌-◌, Bool, true, false, List, [], ◌∷◌, length, Option, Some, None, refl, sym, ap, subst, ◌∙◌, inl, inr, arith}
-use Rattle.std.{specs.{Prelude.{slice_get, slice_set, not, if◌then◌else◌}, List.{fold}}, proofs.lemmas.{Bool.{cases_eq}, List.{length-set}}}
+use Rattle.std.proofs.Common.{◌≡◌, ◌≢◌, ◌⊎◌, ◌<◌, ℕ, zero, suc, ◌+◌, ◌-◌, Bool, true, false, List, [], ◌∷◌, length, Option, Some, None, refl, ap, subst, ◌∙◌, inl, inr, arith}
+use Rattle.std.{specs.{Prelude.{slice_get, slice_set, if◌then◌else◌}, List.{fold}}, proofs.lemmas.{Bool.{cases_eq}, List.{length-set}}}
 use Rattle.sh_logic.proofs.Lists.{set_else}
 use Rattle.sh_client.specs.{declared.state.Want.{Want}, Wants.{want_of}}
 use Rattle.sh_client.specs.declared.state.Want.TheVariants as want
 use Rattle.sh_map.specs.declared.call.Call.{Call}
+use Rattle.sh_sheet.specs.declared.item.Item.{Item}
 use Rattle.sh_world.{specs.{States.{Place, State}, Turning.{asked, give_at, give_of, is_idle_at, took, turn_at, turn_of}}, proofs.LawLemmas.{turn_idle}}
-use Rattle.sh_replay.specs.Course.{ask, seat_of, takes, turn_asks, turned, Asking, ByRow, InRound, Stage}
+use Rattle.sh_replay.specs.Course.{ask, can_turn, seat_of, takes, turn_asks, turned, Asking, ByRow, InRound, Stage}
 
 -- only the place of this seat differs
 pub record Alters (s : State) (seat : ℕ) (t : State) : Type 0 where
@@ -60,47 +61,56 @@ by_test true r t = inr (refl, refl)
 by_test false r t = inl refl
 
 -- nothing changes, or the seat takes a turn
-pub asks : (r : Stage) (a : Asking) → (ask r a ≡ r) ⊎ ((ask r a ≡ turned r a) × (takes r a ≡ true))
-asks r a = by_test (takes r a) r (turned r a)
+pub asks : (items : List Item) (r : Stage) (a : Asking) → (ask items r a ≡ r) ⊎ ((ask items r a ≡ turned r a) × (takes items r a ≡ true))
+asks items r a = by_test (takes items r a) r (turned r a)
 
 turned_world : (r : Stage) (a : Asking) → (turned r a).world ≡ turn_of r.world (seat_of a)
 turned_world r (ByRow seat) = refl
 turned_world r (InRound seat) = refl
 
 -- what a turn leaves, each ask leaves
-asked_keeps : {X : Type 0} (f : State → X) → ((s : State) (seat : ℕ) → f (turn_of s seat) ≡ f s) → (r : Stage) (a : Asking) → f (ask r a).world ≡ f r.world
-asked_keeps f keeps r a = elim (asks r a) [
+asked_keeps : {X : Type 0} (items : List Item) (f : State → X) → ((s : State) (seat : ℕ) → f (turn_of s seat) ≡ f s) → (r : Stage) (a : Asking) → f (ask items r a).world ≡ f r.world
+asked_keeps items f keeps r a = elim (asks items r a) [
   | inl same ↦ ap (λ (t : Stage). f t.world) same
   | inr turn ↦ ap (λ (t : Stage). f t.world) turn.0 ∙ ap f (turned_world r a) ∙ keeps r.world (seat_of a)
 ]
 
-pub all_keep : {X : Type 0} (f : State → X) → ((s : State) (seat : ℕ) → f (turn_of s seat) ≡ f s) → (xs : List Asking) (r : Stage) → f (fold ask r xs).world ≡ f r.world
-all_keep f keeps [] r = refl
-all_keep f keeps (a ∷ xs) r = all_keep f keeps xs (ask r a) ∙ asked_keeps f keeps r a
+pub all_keep : {X : Type 0} (items : List Item) (f : State → X) → ((s : State) (seat : ℕ) → f (turn_of s seat) ≡ f s) → (xs : List Asking) (r : Stage) → f (fold (ask items) r xs).world ≡ f r.world
+all_keep items f keeps [] r = refl
+all_keep items f keeps (a ∷ xs) r = all_keep items f keeps xs (ask items r a) ∙ asked_keeps items f keeps r a
 
-pub asked_seats : (xs : List Asking) (r : Stage) → length (fold ask r xs).world.seats ≡ length r.world.seats
-asked_seats = all_keep (λ (s : State). length s.seats) turn_seats
+pub asked_seats : (items : List Item) (xs : List Asking) (r : Stage) → length (fold (ask items) r xs).world.seats ≡ length r.world.seats
+asked_seats items = all_keep items (λ (s : State). length s.seats) turn_seats
+
+-- where the seat takes no turn nothing changes
+not_taken : (b : Bool) (r t : Stage) → b ≡ false → (if b then t else r) ≡ r
+not_taken true r t e = absurd (cc)
+not_taken false r t e = refl
+
+taken : (b : Bool) (r t : Stage) → b ≡ true → (if b then t else r) ≡ t
+taken true r t e = refl
+taken false r t e = absurd (cc)
+
+pub none_taken : (items : List Item) (r : Stage) (a : Asking) → takes items r a ≡ false → ask items r a ≡ r
+none_taken items r a none = not_taken (takes items r a) r (turned r a) none
+
+pub one_taken : (items : List Item) (r : Stage) (a : Asking) → takes items r a ≡ true → ask items r a ≡ turned r a
+one_taken items r a one = taken (takes items r a) r (turned r a) one
+
+-- an idle seat takes none
+pub idle_rests : (items : List Item) (s : State) (seat : ℕ) → is_idle_at (slice_get s.seats seat) ≡ true → can_turn items s seat ≡ false
+idle_rests items s seat idle = rw idle refl
 
 -- ---- a row of turns
 
-by_idle : (b : Bool) (r t : Stage) → (b ≡ true → t ≡ r) → (if not b then t else r) ≡ t
-by_idle true r t same = sym (same refl)
-by_idle false r t same = refl
+pub turns_none : (items : List Item) (r : Stage) (seat count : ℕ) → can_turn items r.world seat ≡ false → fold (ask items) r (turn_asks seat count) ≡ r
+turns_none items r seat zero none = refl
+turns_none items r seat (suc count) none = ap (λ (t : Stage). fold (ask items) t (turn_asks seat count)) (none_taken items r (ByRow seat) none) ∙ turns_none items r seat count none
 
--- a turn of an idle seat changes nothing, so the seat may be said to take it
-row_turn : (r : Stage) (seat : ℕ) → ask r (ByRow seat) ≡ record { world = turn_of r.world seat; left = r.left }
-row_turn r seat = by_idle (is_idle_at (slice_get r.world.seats seat)) r (record { world = turn_of r.world seat; left = r.left }) (λ idle. ap (λ (s : State). record { world = s; left = r.left }) (turn_idle r.world seat idle))
-
-pub turns_idle : (r : Stage) (seat count : ℕ) → is_idle_at (slice_get r.world.seats seat) ≡ true → fold ask r (turn_asks seat count) ≡ r
-turns_idle r seat zero idle = refl
-turns_idle r seat (suc count) idle =
-    let same : ask r (ByRow seat) ≡ r = rw idle refl in
-    ap (λ (t : Stage). fold ask t (turn_asks seat count)) same ∙ turns_idle r seat count idle
-
-pub turns_more : (r : Stage) (seat count i : ℕ) → i < count → fold ask r (turn_asks seat (count - i)) ≡ fold ask (record { world = turn_of r.world seat; left = r.left }) (turn_asks seat (count - (i + 1)))
-turns_more r seat count i below =
+pub turns_more : (items : List Item) (r : Stage) (seat count i : ℕ) → i < count → can_turn items r.world seat ≡ true → fold (ask items) r (turn_asks seat (count - i)) ≡ fold (ask items) (record { world = turn_of r.world seat; left = r.left }) (turn_asks seat (count - (i + 1)))
+turns_more items r seat count i below can =
     let step : count - i ≡ suc (count - (i + 1)) = omega arith in
-    ap (λ n. fold ask r (turn_asks seat n)) step ∙ ap (λ (t : Stage). fold ask t (turn_asks seat (count - (i + 1)))) (row_turn r seat)
+    ap (λ n. fold (ask items) r (turn_asks seat n)) step ∙ ap (λ (t : Stage). fold (ask items) t (turn_asks seat (count - (i + 1)))) (one_taken items r (ByRow seat) can)
 
 -- ---- calls that are given
 

@@ -3,7 +3,6 @@ use Rattle.std.specs.Prelude.{ℕ, Bool, ◌≡◌, ◌≢◌, ◌<◌, ◌⊎�
 use Rattle.sh_sheet.specs.{declared.{item.{Item.{Item}, Mode.TheVariants.{Replay}}, status.Status.{Status}}, Sheet.{Items, AreFew, sheet_of}, Generate.{made_items}}
 use Rattle.sh_sheet.specs.declared.status.Status.TheVariants as status
 use Rattle.sh_options.specs.Order.{Asked}
-use Rattle.sh_replay.specs.Serving.{first_unserved}
 
 -- a count of faults that stays, below its last value
 abbrev pub HasNoFault : ℕ → ℕ → Type 0
@@ -25,15 +24,14 @@ pub record MadeIsFree (o : Asked) (items : List Item) : Type 0 where
   pub make : o.make ≡ Some n
   pub made : items ≡ made_items o.parts n o.seed
 
--- The words are accepted, the items are read without a fault or made, they are lawful, not too many and all served, and the
--- sink didn't fail.
+-- The words are accepted, the items are read without a fault or made, they are lawful and not too many, and the sink
+-- didn't fail.
 pub record IsFree (asked : Option Asked) (left : Option (List ℕ)) (before now fell fallen : ℕ) : Type 0 where
   pub order : Asked
   pub items : List Item
   pub accepted : asked ≡ Some order
   pub are : InputIsFree order left before now items ⊎ MadeIsFree order items
   pub few : AreFew order.parts items
-  pub served : first_unserved items ≡ None
   pub sink : HasNoFault fell fallen
 
 -- it ended well, or memory was wanting, or the rounds made so many turns

@@ -1,11 +1,11 @@
 -- The course of a replay: all calls are given, and then seats are asked one after another, first by the sheet's rows of
 -- turns and then in rounds of all seats.
-use Rattle.std.specs.{Prelude.{◌≡◌, ℕ, zero, suc, ◌+◌, ◌-◌, ◌*◌, ◌==◌, ◌++◌, if◌then◌else◌, not, Bool, true, false, is_some, List, [], ◌∷◌, length, map, slice_get}, List.{flat_map, fold, list_all, range_with_len, sum_by}}
+use Rattle.std.specs.{Prelude.{◌≡◌, ℕ, zero, suc, ◌+◌, ◌-◌, ◌*◌, ◌==◌, ◌++◌, if◌then◌else◌, ◌&&◌, not, Bool, true, false, is_some, List, [], ◌∷◌, length, map, slice_get}, List.{flat_map, fold, list_all, range_with_len, sum_by}}
 use Rattle.sh_base.specs.declared.{config.ConfigParts.{ConfigParts}, event.Event.{Event}}
 use Rattle.sh_sheet.specs.{declared.item.Item.{Item, TheVariants.{Ask, Mark, After, Turn}}, Sheet.{item_calls}}
-use Rattle.sh_world.specs.{States.{Given, State, fresh_state}, Turning.{answer_of, give_of, is_idle_at, turn_of}, declared.turn.Turn.{Turn as Answer}}
+use Rattle.sh_world.specs.{States.{Given, State, dones_by, dones_of, fresh_state}, Turning.{answer_of, give_of, is_idle_at, turn_of}, declared.turn.Turn.{Turn as Answer}}
 use Rattle.sh_world.specs.declared.turn.Turn.TheVariants as turn
-use Rattle.sh_replay.specs.declared.ending.Finish.{Finish, TheVariants.{Done, Spent}}
+use Rattle.sh_replay.specs.{declared.ending.Finish.{Finish, TheVariants.{Done, Spent}}, Marks.{is_held}}
 
 -- a call is given to its seat
 abbrev pub given_by : State → Item → State
@@ -34,10 +34,21 @@ seat_of (InRound seat) = seat
 abbrev pub is_busy : State → (seat : ℕ) → Bool
 is_busy s seat = not (is_idle_at (slice_get s.seats seat))
 
--- whether the seat takes a turn: it is busy, and in a round a turn may still be made
-abbrev pub takes : Stage → Asking → Bool
-takes s (ByRow seat) = is_busy s.world seat
-takes s (InRound seat) = if s.left == 0 then false else is_busy s.world seat
+-- how many of the seat's calls have ended
+abbrev pub ended_of : State → (seat : ℕ) → ℕ
+ended_of s seat = length (dones_by seat (dones_of s.calls))
+
+-- it stands before one of the items' afters, whose mark isn't passed
+abbrev pub is_held_back : List Item → State → (seat : ℕ) → Bool
+is_held_back items s seat = is_held items (ended_of s) (length s.seats) seat
+
+abbrev pub can_turn : List Item → State → (seat : ℕ) → Bool
+can_turn items s seat = is_busy s seat && not (is_held_back items s seat)
+
+-- whether the seat takes a turn: it is busy and isn't held back, and in a round a turn may still be made
+abbrev pub takes : List Item → Stage → Asking → Bool
+takes items s (ByRow seat) = can_turn items s.world seat
+takes items s (InRound seat) = if s.left == 0 then false else can_turn items s.world seat
 
 -- the stage after a turn of the seat; one in a round is spent
 abbrev pub turned : Stage → Asking → Stage
@@ -45,8 +56,8 @@ turned s (ByRow seat) = record { world = turn_of s.world seat; left = s.left }
 turned s (InRound seat) = record { world = turn_of s.world seat; left = s.left - 1 }
 
 -- the stage when this was asked
-abbrev pub ask : Stage → Asking → Stage
-ask s a = if takes s a then turned s a else s
+abbrev pub ask : List Item → Stage → Asking → Stage
+ask items s a = if takes items s a then turned s a else s
 
 -- ---- the events
 
@@ -62,20 +73,21 @@ found_in seat (turn.Event e found) = record { seat = seat; event = e; found = fo
 found_in seat turn.Local = []
 found_in seat turn.Idle = []
 
-abbrev pub events_by : Stage → Asking → List SeatEvent
-events_by s a = if takes s a then found_in (seat_of a) (answer_of s.world (seat_of a)) else []
+abbrev pub events_by : List Item → Stage → Asking → List SeatEvent
+events_by items s a = if takes items s a then found_in (seat_of a) (answer_of s.world (seat_of a)) else []
 
 -- how far a course has come: its stage, and the events of all turns so far, in their order
 pub record Course : Type 0 where
   pub stage : Stage
   pub events : List SeatEvent
 
-abbrev pub goes_on : Course → Asking → Course
-goes_on c a = record { stage = ask c.stage a; events = c.events ++ events_by c.stage a }
+abbrev pub goes_on : List Item → Course → Asking → Course
+goes_on items c a = record { stage = ask items c.stage a; events = c.events ++ events_by items c.stage a }
 
--- the course from this world on, in whose rounds so many turns may be made, when all these were asked
-abbrev pub course_from : State → (budget : ℕ) → List Asking → Course
-course_from s budget asks = fold goes_on (record { stage = record { world = s; left = budget }; events = [] }) asks
+-- the course from this world on, with these items' marks and afters, in whose rounds so many turns may be made, when all
+-- these were asked
+abbrev pub course_from : List Item → State → (budget : ℕ) → List Asking → Course
+course_from items s budget asks = fold (goes_on items) (record { stage = record { world = s; left = budget }; events = [] }) asks
 
 -- ---- who is asked
 
@@ -112,7 +124,7 @@ all_asks items seats budget = row_asks items ++ rounds_asks budget seats
 
 -- what becomes of a world that was given its calls
 abbrev pub finished : State → List Item → (budget : ℕ) → Course
-finished s items budget = course_from s budget (all_asks items (length s.seats) budget)
+finished s items budget = course_from items s budget (all_asks items (length s.seats) budget)
 
 -- how many turns the rounds of so many calls may make
 abbrev pub budget_of : (calls : ℕ) → ℕ

@@ -2,7 +2,7 @@
 use Rattle.std.specs.{Prelude.{ℕ, ◌≡◌, ◌≢◌, ◌<◌, ◌⊎◌, Bool, List, Option, Some, None}, Io.KnownBytes.{Appends}, List.{sum_by}}
 use Rattle.sh_base.specs.declared.config.ConfigParts.{ConfigParts}
 use Rattle.sh_map.specs.declared.book.Row.{Row}
-use Rattle.sh_sheet.specs.declared.{item.{Item.{Item}, Mode.TheVariants.{Replay}}, status.{RowCause.{RowCause, TheVariants.{NotYet}}, Status.{Status}}}
+use Rattle.sh_sheet.specs.declared.{item.{Item.{Item}, Mode.TheVariants.{Replay}}, status.Status.{Status}}
 use Rattle.sh_sheet.specs.{Sheet.{Reading, Items, Refused, AreFew, IsTooMany, most_rows, rows_of, sheet_of}, Generate.{made_items}}
 use Rattle.sh_sheet.specs.declared.status.Status.TheVariants as status
 use Rattle.sh_text.specs.declared.write.WriteError.{WriteError}
@@ -10,7 +10,7 @@ use Rattle.sh_text.specs.declared.write.WriteError.TheVariants as error
 use Rattle.sh_port.specs.{Port.{HasRisen, AppendsFront}, Intake.{TookAll, TookSome, TookMost}}
 use Rattle.sh_options.specs.Order.{Asked}
 use Rattle.sh_world.specs.States.{State}
-use Rattle.sh_replay.specs.{declared.ending.Finish.{Finish, TheVariants.{Done as AllDone, Spent}}, Output.{text_of}, Served.{HasServed}, Serving.{IsUnserved}}
+use Rattle.sh_replay.specs.{declared.ending.Finish.{Finish, TheVariants.{Done as AllDone, Spent}}, Output.{text_of}, Served.{HasServed}}
 
 -- The whole input was taken, and its reading is this one.
 pub record Read (p : ConfigParts) (left rest : Option (List ℕ)) (before now : ℕ) (reading : Reading) : Type 0 where
@@ -46,15 +46,6 @@ pub record Served (o : Asked) (left rest : Option (List ℕ)) (before now : ℕ)
   pub few : AreFew o.parts items
   pub served : HasServed o.parts items s finish rows
 
--- The input's rows are lawful and not too many, and this row is the first that isn't served yet.
-pub record ReadUnserved (p : ConfigParts) (left rest : Option (List ℕ)) (before now : ℕ) (row : ℕ) (cause : RowCause) : Type 0 where
-  pub headed : Bool
-  pub items : List Item
-  pub read : Read p left rest before now (Items headed items)
-  pub few : AreFew p items
-  pub row_is : IsUnserved headed items row
-  pub cause_is : cause ≡ NotYet
-
 -- There are more calls, turns or rows of ranges than a sheet may ask for.
 pub record ReadTooMany (o : Asked) (left rest : Option (List ℕ)) (before now : ℕ) : Type 0 where
   pub make : o.make ≡ None
@@ -74,7 +65,7 @@ abbrev pub HasNoItems : (o : Asked) → (left rest : Option (List ℕ)) → (bef
 HasNoItems o left rest before now status.ReadFault = (o.make ≡ None) × TookSome left rest before now
 HasNoItems o left rest before now status.TooLong = (o.make ≡ None) × TookMost left rest before now
 HasNoItems o left rest before now (status.BadRow row cause) =
-    (o.make ≡ None) × (Read o.parts left rest before now (Refused row cause) ⊎ ReadUnserved o.parts left rest before now row cause)
+    (o.make ≡ None) × Read o.parts left rest before now (Refused row cause)
 HasNoItems o left rest before now status.TooMany = ReadTooMany o left rest before now ⊎ MadeTooMany o left rest before now
 HasNoItems o left rest before now status.NoMemory = (now ≡ before) × ((o.make ≢ None) → rest ≡ left)
 HasNoItems o left rest before now s = ⊥

@@ -1,5 +1,8 @@
+pub mod Marks
 pub mod Course
 pub mod Run
+pub mod Clocks
+pub mod Standing
 pub mod TurnRows
 pub mod Thinning
 pub mod Output

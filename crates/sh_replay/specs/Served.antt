@@ -1,12 +1,12 @@
 -- What is left of a sheet that was served.
-use Rattle.std.specs.{Prelude.{◌≡◌, ◌≤◌, ℕ, Bool, true, false, List, [], map, filter, length}, FinMap.{entries}, List.{sum_by}}
+use Rattle.std.specs.{Prelude.{◌≡◌, ◌≤◌, ℕ, Bool, true, false, List, [], map, filter, length}, FinMap.{entries}, List.{fold, sum_by}}
 use Rattle.sh_base.specs.declared.config.ConfigParts.{ConfigParts}
 use Rattle.sh_map.specs.{declared.book.{Done.{Done}, Row.{Row}}, Book.{IsClosed, IsLawful}, Log.{map_of}}
 use Rattle.sh_sheet.specs.{declared.item.Item.{Item, TheVariants.{Ask, Mark, After, Turn}}, Sheet.{item_calls}}
 use Rattle.sh_tree.specs.Tree.{IsTree, map_in}
 use Rattle.sh_image.specs.Laid.{AreLaid}
-use Rattle.sh_world.specs.{Laws.{RefusalsHaveCauses}, States.{Given, State, dones_of}}
-use Rattle.sh_replay.specs.{declared.ending.Finish.{Finish}, Course.{budget_of, course, have_ended, HasFinished}, Run.{IsRun}}
+use Rattle.sh_world.specs.{Laws.{RefusalsHaveCauses}, States.{Given, State, dones_of, fresh_state}}
+use Rattle.sh_replay.specs.{declared.ending.Finish.{Finish}, Course.{budget_of, course, given_by, have_ended, HasFinished}, Run.{IsRun}}
 use Rattle.sh_replay.specs.declared.ending.Finish.TheVariants as finish
 
 -- the row of a key and its value
@@ -45,6 +45,12 @@ is_call (Ask seat call) = true
 is_call (Mark seat n) = false
 is_call (After seat n) = false
 is_call (Turn seat count) = false
+
+-- The world was laid, and then given the items' calls.
+pub record IsGiven (p : ConfigParts) (items : List Item) (s : State) : Type 0 where
+  pub laid : List ℕ
+  pub are_laid : AreLaid p laid
+  pub is : s ≡ fold given_by (fresh_state p laid) items
 
 -- The world is the last one of the items' course, over laid words, and its rounds ended so. The course's events are a run
 -- from the laid words to the world's. Its calls are the items'.

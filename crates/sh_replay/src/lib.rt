@@ -3,6 +3,7 @@
 
 mod ending;
 mod laws;
+mod marks;
 mod output;
 mod replay;
 mod serve;

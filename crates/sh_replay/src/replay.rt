@@ -2,19 +2,19 @@
 ghost use Rattle.std.specs.{Prelude.{◌≡◌, ◌≤◌, ℕ, List, Option, None, Some, length, map, All, IfOk, MatchResult, OnOk, OnErr}, Io.KnownBytes.{Appends}};
 ghost use Rattle.sh_base.specs.Parts.{parts_of};
 ghost use Rattle.sh_port.specs.Port.{AppendsFront};
-ghost use Rattle.sh_sheet.specs.Sheet.{AreFew};
+ghost use Rattle.sh_sheet.specs.Sheet.{AreFew, IsLawfulItem};
 ghost use Rattle.sh_text.specs.Write.{HasWriteCause};
 ghost use Rattle.sh_options.specs.Order.{asked_of};
 ghost use Rattle.sh_world.specs.States.{IsBlank};
-ghost use Rattle.sh_replay.specs.{Serving.{accepted, HasCount, IsServable}, Headline.{ended_with, unwritten, AreItems, HasNoItems, Headline, Replayed}};
+ghost use Rattle.sh_replay.specs.{Serving.{accepted, HasCount}, Headline.{ended_with, unwritten, AreItems, HasNoItems, Headline, Replayed}};
 
 use crate::Finish;
 use crate::output::write_lines;
 use crate::serve::serve;
-use crate::serving::{first_unserved, read_order};
+use crate::serving::read_order;
 use sh_options::{Order, WordFault};
 use sh_port::{Intake, Sink, Source, read_all};
-use sh_sheet::{Mode, RowCause, Sheet, SheetFault, Status, generate, read_sheet};
+use sh_sheet::{Mode, Sheet, SheetFault, Status, generate, read_sheet};
 use sh_text::WriteError;
 use sh_world::World;
 use std::alloc::Global;
@@ -44,7 +44,7 @@ fn read_items<S: Source>(alloc: Global, order: &Order, source: &mut S) -> Result
     requires { order.now.make ≡ None }
     ensures are { MatchResult result (λ s. AreItems (asked_of order.now) (S.left source.old) (S.left source.new) (S.faults source.old) (S.faults source.new) s.items) (HasNoItems (asked_of order.now) (S.left source.old) (S.left source.new) (S.faults source.old) (S.faults source.new)) }
     ensures few { IfOk result (λ s. AreFew (parts_of order.now.cfg) s.items) }
-    ensures servable { IfOk result (λ s. All (IsServable (parts_of order.now.cfg)) s.items) }
+    ensures lawful { IfOk result (λ s. All (IsLawfulItem (parts_of order.now.cfg)) s.items) }
 {
     let bytes = match read_all(alloc, source) {
         Ok(bytes) => bytes,
@@ -58,12 +58,6 @@ fn read_items<S: Source>(alloc: Global, order: &Order, source: &mut S) -> Result
         Err(SheetFault::TooMany) => return Err(Status::TooMany),
         Err(SheetFault::NoMemory) => return Err(Status::NoMemory),
     };
-    if let Some(at) = first_unserved(sheet.as_slice()) {
-        return Err(Status::BadRow {
-            row: sheet.row_of(at),
-            cause: RowCause::NotYet,
-        });
-    }
     Ok(sheet)
 }
 
@@ -73,7 +67,7 @@ fn make_items(alloc: Global, order: &Order, n: u64) -> Result<Sheet, Status>
     requires count { HasCount (Some n) }
     ensures are { (left : Option (List ℕ)) (now : ℕ) → MatchResult result (λ s. AreItems (asked_of order.now) left left now now s.items) (HasNoItems (asked_of order.now) left left now now) }
     ensures few { IfOk result (λ s. AreFew (parts_of order.now.cfg) s.items) }
-    ensures servable { IfOk result (λ s. All (IsServable (parts_of order.now.cfg)) s.items) }
+    ensures lawful { IfOk result (λ s. All (IsLawfulItem (parts_of order.now.cfg)) s.items) }
 {
     match generate(alloc, &order.cfg, n, order.seed) {
         Ok(sheet) => Ok(sheet),
@@ -87,7 +81,7 @@ fn items_of<S: Source>(alloc: Global, order: &Order, source: &mut S) -> Result<S
     requires { HasCount order.now.make }
     ensures are { MatchResult result (λ s. AreItems (asked_of order.now) (S.left source.old) (S.left source.new) (S.faults source.old) (S.faults source.new) s.items) (HasNoItems (asked_of order.now) (S.left source.old) (S.left source.new) (S.faults source.old) (S.faults source.new)) }
     ensures few { IfOk result (λ s. AreFew (parts_of order.now.cfg) s.items) }
-    ensures servable { IfOk result (λ s. All (IsServable (parts_of order.now.cfg)) s.items) }
+    ensures lawful { IfOk result (λ s. All (IsLawfulItem (parts_of order.now.cfg)) s.items) }
 {
     match order.make {
         Some(n) => make_items(alloc, order, n),
@@ -128,12 +122,15 @@ fn replay<S: Source, K: Sink>(
 /// words hold, and the sum of their values. All turns are made before the first line is written. Condition: the world is
 /// blank.
 ///
-/// `Usage` comes exactly where the words are refused, and for now where they ask for events; then nothing is read. `ReadFault` comes only where the source's count of faults rose, `TooLong` exactly where 16,777,217 bytes were
-/// taken, `BadRow` exactly where a row is refused, with the first such row and its cause, and `TooMany` exactly where the
-/// rows ask for too many calls, turns or rows of ranges, or the calls that are made for too many rows. A sheet that passes all this is still `BadRow` with the cause
-/// `NotYet` where it has a row that isn't served yet: a mark or an after. Up to there nothing is written and the
-/// world is blank. `Unfinished` comes exactly where the rounds made 4,096 turns and 100,000 more for each call, and a call
-/// hasn't ended; then a call without an end has the word `pending` in its line, and the last line tells how many have
+/// A seat before an after takes no turn until the after's mark is passed: until its seat's earlier calls have ended, and the
+/// marks of its seat's earlier afters are passed.
+///
+/// `Usage` comes exactly where the words are refused, and for now where they ask for events; then nothing is read.
+/// `ReadFault` comes only where the source's count of faults rose, `TooLong` exactly where 16,777,217 bytes were taken,
+/// `BadRow` exactly where a row is refused, with the first such row and its cause, and `TooMany` exactly where the rows ask
+/// for too many calls, turns or rows of ranges, or the calls that are made for too many rows. Up to there nothing is written
+/// and the world is blank. `Unfinished` comes exactly where the rounds made 4,096 turns and 100,000 more for each call, and a
+/// call hasn't ended; then a call without an end has the word `pending` in its line, and the last line tells how many have
 /// ended. `WriteFault` comes only where the sink's count rose; what was written is a front of the output. `NoMemory` is
 /// free: nothing was written, or a front of the output.
 pub fn replay_top<S: Source, K: Sink>(

@@ -1,11 +1,11 @@
 // A sheet is served by a world.
-ghost use Rattle.std.specs.{Prelude.{◌≡◌, ◌≤◌, ◌<◌, [], All, IfOk, OnOk, length}, List.{fold, sum_by}};
+ghost use Rattle.std.specs.{Prelude.{◌≡◌, ◌≤◌, ◌<◌, [], All, IfOk, OnOk, length, map, filter}, List.{fold, sum_by}};
 ghost use Rattle.sh_base.specs.{Parts.{parts_of}, Setting.{all_seats}};
-ghost use Rattle.sh_sheet.specs.Sheet.{item_calls};
-ghost use Rattle.sh_replay.specs.{Course.{budget_of, given_by}, Serving.{IsServable}, Served.{HasEnded, HasServed, HoldsRows}};
+ghost use Rattle.sh_sheet.specs.Sheet.{item_calls, IsLawfulItem};
+ghost use Rattle.sh_replay.specs.{Course.{budget_of, given_by}, Served.{is_call, item_of, HasEnded, HasServed, HoldsRows, IsGiven}};
 
 use crate::Finish;
-use crate::turns::{finish_rounds, take_all, turn_rows};
+use crate::turns::finish;
 use sh_base::Config;
 use sh_map::Rows;
 use sh_sheet::{Item, Sheet};
@@ -17,7 +17,7 @@ use std::alloc::{AllocError, Global};
 fn give_all(world: &mut World, items: &[Item]) -> Result<(), AllocError>
     requires seats { length world.old.seats ≡ all_seats world.old.setting }
     requires none { world.old.calls ≡ [] }
-    requires items { All (IsServable world.old.setting) items.now }
+    requires items { All (IsLawfulItem world.old.setting) items.now }
     requires few { sum_by item_calls items.now ≤ 1000000 }
     ensures { OnOk result (world.new ≡ fold given_by world.old items.now) }
 {
@@ -50,21 +50,31 @@ fn rows_in(alloc: Global, world: &World, finish: &Finish) -> Result<Rows, AllocE
     }
 }
 
-/// A world that was laid and has served the sheet's calls, how its rounds ended, and where every call has ended the rows
-/// that its words hold. The sheet is let go before the first turn, but for its turn rows.
-pub fn serve(alloc: Global, cfg: &Config, sheet: Sheet) -> Result<(World, Finish, Rows), AllocError>
-    requires items { All (IsServable (parts_of cfg.now)) sheet.items }
-    requires few { sum_by item_calls sheet.items ≤ 1000000 }
-    ensures { IfOk result (λ r. HasServed (parts_of cfg.now) sheet.items r.0 r.1 r.2) }
+// A world that was laid and given the sheet's calls.
+pub(crate) fn world_of(alloc: Global, cfg: &Config, sheet: &Sheet) -> Result<World, AllocError>
+    requires items { All (IsLawfulItem (parts_of cfg.now)) sheet.now.items }
+    requires few { sum_by item_calls sheet.now.items ≤ 1000000 }
+    ensures given { IfOk result (λ w. IsGiven (parts_of cfg.now) sheet.now.items w) }
+    ensures laid { IfOk result (λ w. 0 < length w.seats) }
+    ensures calls { IfOk result (λ w. map item_of w.calls ≡ filter is_call sheet.now.items) }
+    ensures lawful { IfOk result (λ w. All (IsLawfulItem w.setting) sheet.now.items) }
 {
     let mut world = World::blank(alloc);
     world.lay(alloc, cfg)?;
     give_all(&mut world, sheet.as_slice())?;
-    let turns = turn_rows(alloc, sheet.as_slice())?;
-    drop(sheet);
+    Ok(world)
+}
+
+/// A world that was laid and has served the sheet's calls, how its rounds ended, and where every call has ended the rows
+/// that its words hold. The sheet is let go before the first turn, but for its turn rows and afters.
+pub fn serve(alloc: Global, cfg: &Config, sheet: Sheet) -> Result<(World, Finish, Rows), AllocError>
+    requires items { All (IsLawfulItem (parts_of cfg.now)) sheet.items }
+    requires few { sum_by item_calls sheet.items ≤ 1000000 }
+    ensures { IfOk result (λ r. HasServed (parts_of cfg.now) sheet.items r.0 r.1 r.2) }
+{
+    let mut world = world_of(alloc, cfg, &sheet)?;
     let budget = budget_of(world.calls().len());
-    take_all(&mut world, &turns);
-    let finish = finish_rounds(&mut world, budget);
+    let finish = finish(alloc, &mut world, sheet, budget)?;
     world.keeps_the_laws();
     let rows = rows_in(alloc, &world, &finish)?;
     Ok((world, finish, rows))

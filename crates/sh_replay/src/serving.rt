@@ -1,10 +1,10 @@
-// What a replay serves for now.
+// What a replay serves for now of words.
 ghost use Rattle.std.specs.Prelude.{◌≡◌, map, Some, None, IfOk, IsErrOf};
 ghost use Rattle.sh_options.specs.{Order.{asked_of}, declared.order.WordFault.TheVariants.{Usage}};
-ghost use Rattle.sh_replay.specs.Serving.{accepted, first_unserved, is_served, HasCount};
+ghost use Rattle.sh_replay.specs.Serving.{accepted, HasCount};
 
 use sh_options::{Order, WordFault, read_words};
-use sh_sheet::{Item, Mode};
+use sh_sheet::Mode;
 use std::alloc::Global;
 
 /// What the words ask for, where it is served: an order without events.
@@ -18,21 +18,4 @@ pub fn read_order(alloc: Global, words: &[&str]) -> Result<Order, WordFault>
         return Err(WordFault::Usage);
     }
     Ok(order)
-}
-
-// Whether an item is served: a call, or turns.
-fn is_served(item: &Item) -> bool
-    ensures { result ≡ is_served item.now }
-{
-    match item {
-        Item::Ask { .. } | Item::Turn { .. } => true,
-        Item::Mark { .. } | Item::After { .. } => false,
-    }
-}
-
-/// The place of the first item that isn't served.
-pub fn first_unserved(items: &[Item]) -> Option<usize>
-    ensures { result ≡ first_unserved items.now }
-{
-    items.iter().position(|item| !is_served(item))
 }

@@ -154,6 +154,51 @@ fn refused_words_leave_nothing(rt: HostRuntime) -> Result<(), Fail> {
     Ok(())
 }
 
+#[test]
+fn seats_wait_for_marks(rt: HostRuntime) -> Result<(), Fail> {
+    let alloc = rt.alloc();
+    for (name, input, output) in [
+        (
+            "a get waits for another seat's put",
+            "put,0,5,50\nmark,0,1,\nafter,1,1,\nget,1,5,\n",
+            "1,0,put,5,50,none,,0\n2,1,get,5,,some,50,1\nend,2,1,50\n",
+        ),
+        (
+            "turns of a seat that is held back are left out",
+            "put,0,5,50\nmark,0,1,\nafter,1,1,\nget,1,5,\nturn,1,50000000,\n",
+            "1,0,put,5,50,none,,0\n2,1,get,5,,some,50,1\nend,2,1,50\n",
+        ),
+        (
+            "three seats wait in a circle, in a lawful order",
+            "put,0,5,50\nmark,0,1,\nafter,1,1,\nput,1,5,51\nmark,1,2,\nafter,2,2,\nget,2,5,\nmark,2,3,\nafter,0,3,\nput,0,5,52\n",
+            "1,0,put,5,50,none,,0\n2,1,put,5,51,some,50,1\n3,2,get,5,,some,51,2\n4,0,put,5,52,some,51,2\nend,4,1,52\n",
+        ),
+        (
+            "a mark behind an after is passed with no turn of its seat",
+            "put,0,5,50\nmark,0,1,\nafter,1,1,\nmark,1,2,\nafter,2,2,\nget,2,5,\nput,1,5,60\nturn,0,1000,\nturn,2,1000,\nturn,1,1000,\n",
+            "1,0,put,5,50,none,,0\n2,2,get,5,,some,50,1\n3,1,put,5,60,some,50,1\nend,3,1,60\n",
+        ),
+        (
+            "a mark behind an after isn't passed before the after's mark",
+            "put,0,5,50\nmark,0,1,\nafter,1,1,\nmark,1,2,\nafter,2,2,\nget,2,5,\nturn,2,1000,\nturn,1,1000,\n",
+            "1,0,put,5,50,none,,0\n2,2,get,5,,some,50,1\nend,2,1,50\n",
+        ),
+        (
+            "a seat's calls before its after go on",
+            "put,1,6,60\nget,0,6,\nmark,0,1,\nafter,1,1,\nput,1,6,61\nturn,1,1000,\nturn,0,1000,\n",
+            "1,1,put,6,60,none,,0\n2,0,get,6,,some,60,1\n3,1,put,6,61,some,60,1\nend,3,1,61\n",
+        ),
+        (
+            "an after behind the last call holds nothing back",
+            "put,0,5,50\nmark,0,1,\nafter,1,1,\n",
+            "1,0,put,5,50,none,,0\nend,1,1,50\n",
+        ),
+    ] {
+        assert!(rt; answers(alloc, &SMALL, input, output)?, "{name}");
+    }
+    Ok(())
+}
+
 // The sheet that stands in the input is never read.
 #[test]
 fn made_calls_are_counted(rt: HostRuntime) -> Result<(), Fail> {
@@ -203,7 +248,6 @@ fn made_calls_end_alike_at_each_run(rt: HostRuntime) -> Result<(), Fail> {
     Ok(())
 }
 
-// A row that isn't served yet is told behind all other causes.
 #[test]
 fn refused_rows_leave_nothing(rt: HostRuntime) -> Result<(), Fail> {
     for (input, row, cause) in [
@@ -216,13 +260,8 @@ fn refused_rows_leave_nothing(rt: HostRuntime) -> Result<(), Fail> {
         ("range,0,8,7\n", 1, RowCause::BadBounds),
         ("mark,0,1,\nmark,1,1,\n", 2, RowCause::BadMark),
         ("turn,0,1,\nput,0,5\n", 2, RowCause::FieldCount),
-        ("put,0,5,50\nmark,0,1,\n", 2, RowCause::NotYet),
-        (
-            "op,seat,a,b\nput,0,5,50\nmark,0,1,\nafter,0,1,\n",
-            3,
-            RowCause::NotYet,
-        ),
-        ("range,7,5,50\nturn,7,9,\nmark,0,1,\n", 3, RowCause::NotYet),
+        ("after,0,1,\n", 1, RowCause::BadMark),
+        ("after,0,1,\nmark,0,1,\n", 1, RowCause::BadMark),
     ] {
         let refused = Status::BadRow { row, cause };
         assert!(rt; refuses(rt.alloc(), &[], input, refused)?, "{input}");
@@ -649,18 +688,8 @@ fn ends_with(alloc: Global, budget: u64) -> Result<Option<(Finish, Vec<u8>)>, Al
     let Ok(sheet) = read_sheet(alloc, b"put,0,5,50\n", Mode::Replay, &cfg) else {
         return Ok(None);
     };
-    let value = sh_base::Value::of(&[50]);
-    let call = sh_map::Call::Put { key: 5, value };
-    let mut world = World::blank(alloc);
-    world.lay(alloc, &cfg)?;
-    if world.seats() == 0 || world.calls().len() > 9 || !call.in_range(world.setting()) {
-        return Ok(None);
-    }
-    world.give(0, sh_map::Call::Put { key: 5, value })?;
-    if world.seats() == 0 {
-        return Ok(None);
-    }
-    let end = finish(&mut world, &sheet, budget);
+    let mut world = serve::world_of(alloc, &cfg, &sheet)?;
+    let end = finish(alloc, &mut world, sheet, budget)?;
     let mut sink = ListSink::new(alloc, 1024, 64, Vec::new(alloc))?;
     let order = Order {
         cfg,

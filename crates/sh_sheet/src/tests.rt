@@ -3,7 +3,50 @@ use super::*;
 use sh_base::{Config, ConfigParts};
 use sh_map::Call;
 use std::alloc::{AllocError, Global};
+use std::fmt::Write;
 use std::test::Fail;
+
+// Sheets that are refused, one a line: why, and the sheet with `;` for its line feeds.
+const REFUSED: &[u8] = b"row 1 FieldCount|put,0,5;
+row 1 FieldCount|get,0,5,,;
+row 2 FieldCount|get,0,5,;put,0
+row 1 BadOp|push,0,5,5;
+row 1 BadOp|Put,0,5,5;
+row 2 BadOp|op,seat,a,b;op,seat,a,b;
+row 1 BadOp|op,seat,a,c;
+row 1 BadOp|put\xff,0,5,5;
+row 1 BadNumber|put,0,5,-1;
+row 1 BadNumber|put,0,5,;
+row 1 BadNumber|put,0,5,5:6;
+row 1 BadNumber|put,0, 5,5;
+row 1 BadNumber|put,0,5,\xff;
+row 1 BadNumber|get,0,5,5;
+row 1 BadNumber|get,0,000000000000000000005,;
+row 1 BadNumber|get,0,18446744073709551616,;
+row 1 BadNumber|get,99999999999999999999,5,;
+row 1 BadNumber|range,0,8,;
+row 1 BadNumber|mark,0,1,1;
+row 1 BadSeat|put,8,5,5;
+row 1 BadSeat|put,4294967296,0,5;
+row 1 BadKey|get,0,0,;
+row 1 BadKey|get,0,18446744073709551615,;
+row 1 BadKey|range,0,0,8;
+row 1 BadBounds|range,0,8,7;
+row 1 BadMark|after,0,1,;
+row 1 BadMark|after,0,1,;mark,0,1,;
+row 2 BadMark|mark,0,1,;mark,1,1,;
+row 3 BadKey|op,seat,a,b;;get,0,5,\r;\r;get,0,0,";
+
+// Sheets that are read: how many items they have, whether behind a heading, and the sheet.
+const READ: &[u8] = b"0 false|
+0 false|;\r;
+0 true|op,seat,a,b
+2 true|op,seat,a,b;put,0,5,50:051;del,007,7,;
+1 true|\xef\xbb\xbfop,seat,a,b\r;get,0,18446744073709551614,\r;
+2 false|\"get\",\"0\",\"5\",\"\";;;get,0,5,
+1 false|put,0,5,00000000000000000050:18446744073709551615
+2 false|range,0,8,8;range,0,1,18446744073709551615;
+5 false|mark,0,1,;after,1,1,;mark,0,2,;after,0,1,;after,0,2,;";
 
 fn setting(rows: u32, value_words: u32) -> ConfigParts {
     ConfigParts {
@@ -22,139 +65,77 @@ fn setting(rows: u32, value_words: u32) -> ConfigParts {
     }
 }
 
-// Why a sheet in the setting of 8 seats and values of one word is refused.
-fn fault_of(alloc: Global, bytes: &[u8], mode: Mode) -> Option<SheetFault> {
-    let cfg = Config::new(setting(256, 1)).ok()?;
-    read_sheet(alloc, bytes, mode, &cfg).err()
-}
-
-#[test]
-fn rows_are_refused(rt: HostRuntime) {
-    for (bytes, row, cause) in [
-        (b"put,0,5\n".as_slice(), 1, RowCause::FieldCount),
-        (b"get,0,5,,\n".as_slice(), 1, RowCause::FieldCount),
-        (b"get,0,5,\nput,0".as_slice(), 2, RowCause::FieldCount),
-        (b"push,0,5,5\n".as_slice(), 1, RowCause::BadOp),
-        (b"Put,0,5,5\n".as_slice(), 1, RowCause::BadOp),
-        (b"op,seat,a,b\nop,seat,a,b\n".as_slice(), 2, RowCause::BadOp),
-        (b"op,seat,a,c\n".as_slice(), 1, RowCause::BadOp),
-        (b"put\xff,0,5,5\n".as_slice(), 1, RowCause::BadOp),
-        (b"put,0,5,-1\n".as_slice(), 1, RowCause::BadNumber),
-        (b"put,0,5,\n".as_slice(), 1, RowCause::BadNumber),
-        (b"put,0,5,5:6\n".as_slice(), 1, RowCause::BadNumber),
-        (b"put,0, 5,5\n".as_slice(), 1, RowCause::BadNumber),
-        (b"put,0,5,\xff\n".as_slice(), 1, RowCause::BadNumber),
-        (b"get,0,5,5\n".as_slice(), 1, RowCause::BadNumber),
-        (
-            b"get,0,000000000000000000005,\n".as_slice(),
-            1,
-            RowCause::BadNumber,
-        ),
-        (
-            b"get,0,18446744073709551616,\n".as_slice(),
-            1,
-            RowCause::BadNumber,
-        ),
-        (
-            b"get,99999999999999999999,5,\n".as_slice(),
-            1,
-            RowCause::BadNumber,
-        ),
-        (b"range,0,8,\n".as_slice(), 1, RowCause::BadNumber),
-        (b"mark,0,1,1\n".as_slice(), 1, RowCause::BadNumber),
-        (b"put,8,5,5\n".as_slice(), 1, RowCause::BadSeat),
-        (b"put,4294967296,0,5\n".as_slice(), 1, RowCause::BadSeat),
-        (b"get,0,0,\n".as_slice(), 1, RowCause::BadKey),
-        (
-            b"get,0,18446744073709551615,\n".as_slice(),
-            1,
-            RowCause::BadKey,
-        ),
-        (b"range,0,0,8\n".as_slice(), 1, RowCause::BadKey),
-        (b"range,0,8,7\n".as_slice(), 1, RowCause::BadBounds),
-        (b"after,0,1,\n".as_slice(), 1, RowCause::BadMark),
-        (b"after,0,1,\nmark,0,1,\n".as_slice(), 1, RowCause::BadMark),
-        (b"mark,0,1,\nmark,1,1,\n".as_slice(), 2, RowCause::BadMark),
-        (
-            b"op,seat,a,b\n\nget,0,5,\r\n\r\nget,0,0,".as_slice(),
-            3,
-            RowCause::BadKey,
-        ),
-    ] {
-        let fault = fault_of(rt.alloc(), bytes, Mode::Replay);
-        assert_eq!(rt; fault, Some(SheetFault::Row { row, cause }), "{cause}");
-    }
-    let fault = fault_of(rt.alloc(), b"turn,9,x,\n".as_slice(), Mode::Run);
-    let cause = RowCause::TurnNotHere;
-    assert_eq!(rt; fault, Some(SheetFault::Row { row: 1, cause }));
-}
-
-// How many items a sheet in this setting has, and whether they stand behind a heading.
-fn count(alloc: Global, parts: ConfigParts, bytes: &[u8], mode: Mode) -> Option<(usize, bool)> {
-    let cfg = Config::new(parts).ok()?;
-    let sheet = read_sheet(alloc, bytes, mode, &cfg).ok()?;
-    Some((sheet.as_slice().len(), sheet.has_heading()))
-}
-
-#[test]
-fn rows_are_read(rt: HostRuntime) {
-    for (bytes, items, headed) in [
-        (b"".as_slice(), 0, false),
-        (b"\n\r\n".as_slice(), 0, false),
-        (b"op,seat,a,b".as_slice(), 0, true),
-        (
-            b"op,seat,a,b\nput,0,5,50:051\ndel,007,7,\n".as_slice(),
-            2,
-            true,
-        ),
-        (
-            b"\xef\xbb\xbfop,seat,a,b\r\nget,0,18446744073709551614,\r\n".as_slice(),
-            1,
-            true,
-        ),
-        (
-            b"\"get\",\"0\",\"5\",\"\"\n\n\nget,0,5,".as_slice(),
-            2,
-            false,
-        ),
-        (
-            b"put,0,5,00000000000000000050:18446744073709551615".as_slice(),
-            1,
-            false,
-        ),
-        (
-            b"range,0,8,8\nrange,0,1,18446744073709551615\n".as_slice(),
-            2,
-            false,
-        ),
-        (
-            b"mark,0,1,\nafter,1,1,\nmark,0,2,\nafter,0,1,\nafter,0,2,\n".as_slice(),
-            5,
-            false,
-        ),
-    ] {
-        let read = count(rt.alloc(), setting(256, 2), bytes, Mode::Run);
-        assert_eq!(rt; read, Some((items, headed)));
-    }
-}
-
-// Why a sheet in the setting with the most seats, 64, is refused.
-fn fault_of_64_seats(alloc: Global, bytes: &[u8]) -> Option<SheetFault> {
-    let parts = ConfigParts {
-        computes: 8,
-        seats: 8,
-        ..setting(256, 1)
+// What is said of a sheet: why it is refused, or how many items it has and whether they stand behind a heading.
+fn said_of(
+    alloc: Global,
+    parts: ConfigParts,
+    mode: Mode,
+    bytes: &[u8],
+) -> Result<String, AllocError> {
+    let Ok(cfg) = Config::new(parts) else {
+        return Ok(String::new(alloc));
     };
-    let cfg = Config::new(parts).ok()?;
-    read_sheet(alloc, bytes, Mode::Run, &cfg).err()
+    match read_sheet(alloc, bytes, mode, &cfg) {
+        Ok(sheet) => {
+            let items = sheet.as_slice().len();
+            let headed = sheet.has_heading();
+            format!(in alloc; "{items} {headed}")
+        }
+        Err(SheetFault::Row { row, cause }) => format!(in alloc; "row {row} {cause}"),
+        Err(SheetFault::TooMany) => format!(in alloc; "too many"),
+        Err(SheetFault::NoMemory) => Err(AllocError),
+    }
+}
+
+// Whether that is said of a case's sheet which stands before it.
+fn is_said(alloc: Global, parts: ConfigParts, mode: Mode, case: &[u8]) -> Result<bool, AllocError> {
+    let mut said = Vec::new(alloc);
+    let mut sheet = Vec::new(alloc);
+    let mut is_behind = false;
+    for byte in case {
+        if *byte == b'|' {
+            is_behind = true;
+        } else if is_behind {
+            sheet.push(if *byte == b';' { b'\n' } else { *byte })?;
+        } else {
+            said.push(*byte)?;
+        }
+    }
+    Ok(said_of(alloc, parts, mode, &sheet)?.as_bytes() == said.as_slice())
 }
 
 #[test]
-fn the_last_of_64_seats_is_one(rt: HostRuntime) {
-    assert!(rt; fault_of_64_seats(rt.alloc(), b"get,63,5,".as_slice()).is_none());
-    let fault = fault_of_64_seats(rt.alloc(), b"get,64,5,".as_slice());
-    let cause = RowCause::BadSeat;
-    assert_eq!(rt; fault, Some(SheetFault::Row { row: 1, cause }));
+fn sheets_are_refused_and_read(rt: HostRuntime) -> Result<(), Fail> {
+    let alloc = rt.alloc();
+    let mut cases = 0u32;
+    for case in REFUSED.split(|byte| *byte == b'\n') {
+        assert!(rt;
+            is_said(alloc, setting(256, 1), Mode::Replay, case)?,
+            "{cases}"
+        );
+        cases = cases.saturating_add(1);
+    }
+    for case in READ.split(|byte| *byte == b'\n') {
+        assert!(rt;
+            is_said(alloc, setting(256, 2), Mode::Run, case)?,
+            "{cases}"
+        );
+        cases = cases.saturating_add(1);
+    }
+    assert_eq!(rt; cases, 38);
+    let turn = b"row 1 TurnNotHere|turn,9,x,;";
+    assert!(rt; is_said(alloc, setting(256, 1), Mode::Run, turn)?);
+    Ok(())
+}
+
+#[test]
+fn the_last_of_64_seats_is_one(rt: HostRuntime) -> Result<(), Fail> {
+    let mut parts = setting(256, 1);
+    parts.computes = 8;
+    parts.seats = 8;
+    assert!(rt; is_said(rt.alloc(), parts, Mode::Run, b"1 false|get,63,5,")?);
+    assert!(rt; is_said(rt.alloc(), parts, Mode::Run, b"row 1 BadSeat|get,64,5,")?);
+    Ok(())
 }
 
 // Whether a status has this text and this code, also as it is displayed.
@@ -180,43 +161,38 @@ fn statuses_are_told(rt: HostRuntime) -> Result<(), Fail> {
     Ok(())
 }
 
-// Whether a row's cause has this text, also as it is displayed.
-fn is_row_told(alloc: Global, row: u64, cause: RowCause, text: &[u8]) -> Result<bool, AllocError> {
+// Tells the status of a row's cause, displayed and as its text.
+fn tell(text: &mut String, row: u64, cause: RowCause) -> Result<(), AllocError> {
     let status = Status::BadRow { row, cause };
-    let shown = format!(in alloc; "{status}")?;
-    let named = format!(in alloc; "row {row} {cause}")?;
     let told = status.text();
-    let is_shown = shown.as_bytes() == text && named.as_bytes() == text;
-    Ok(status.code() == 6 && is_shown && told.as_str().as_bytes() == text)
+    let (code, told) = (status.code(), told.as_str());
+    write!(text, "{code} {status} {told} {cause};")
 }
 
 #[test]
 fn causes_are_told(rt: HostRuntime) -> Result<(), Fail> {
-    for (row, cause, text) in [
-        (1, RowCause::FieldCount, b"row 1 FieldCount".as_slice()),
-        (9, RowCause::BadOp, b"row 9 BadOp".as_slice()),
-        (10, RowCause::BadNumber, b"row 10 BadNumber".as_slice()),
-        (100, RowCause::BadSeat, b"row 100 BadSeat".as_slice()),
-        (10_000, RowCause::BadKey, b"row 10000 BadKey".as_slice()),
-        (
-            99_999,
-            RowCause::BadBounds,
-            b"row 99999 BadBounds".as_slice(),
-        ),
-        (
-            1_000_000,
-            RowCause::BadMark,
-            b"row 1000000 BadMark".as_slice(),
-        ),
-        (0, RowCause::NotYet, b"row 0 NotYet".as_slice()),
-        (
-            u64::MAX,
-            RowCause::TurnNotHere,
-            b"row 18446744073709551615 TurnNotHere".as_slice(),
-        ),
+    let mut text = String::new(rt.alloc());
+    for (row, cause) in [
+        (1, RowCause::FieldCount),
+        (9, RowCause::BadOp),
+        (10, RowCause::BadNumber),
+        (100, RowCause::BadSeat),
+        (10_000, RowCause::BadKey),
+        (99_999, RowCause::BadBounds),
+        (1_000_000, RowCause::BadMark),
+        (0, RowCause::NotYet),
+        (u64::MAX, RowCause::TurnNotHere),
     ] {
-        assert!(rt; is_row_told(rt.alloc(), row, cause, text)?, "{cause}");
+        tell(&mut text, row, cause)?;
     }
+    assert_eq!(rt;
+        text.as_str(),
+        "6 row 1 FieldCount row 1 FieldCount FieldCount;6 row 9 BadOp row 9 BadOp BadOp;\
+        6 row 10 BadNumber row 10 BadNumber BadNumber;6 row 100 BadSeat row 100 BadSeat BadSeat;\
+        6 row 10000 BadKey row 10000 BadKey BadKey;6 row 99999 BadBounds row 99999 BadBounds BadBounds;\
+        6 row 1000000 BadMark row 1000000 BadMark BadMark;6 row 0 NotYet row 0 NotYet NotYet;\
+        6 row 18446744073709551615 TurnNotHere row 18446744073709551615 TurnNotHere TurnNotHere;"
+    );
     Ok(())
 }
 
@@ -245,32 +221,27 @@ fn items_say_what_their_rows_say(rt: HostRuntime) {
     assert!(rt; sheet.as_slice().iter().all(is_meant));
 }
 
-// Whether a row, so many times, is too many in a setting with a range's buffer of 4096 rows.
-fn is_too_many(alloc: Global, row: &[u8], times: usize) -> Option<bool> {
-    let cfg = Config::new(setting(4096, 1)).ok()?;
+// Whether this is said of so many rows, in a setting with a range's buffer of 4096 rows.
+fn is_said_of(alloc: Global, row: &[u8], times: usize, text: &[u8]) -> Result<bool, AllocError> {
     let mut bytes = Vec::new(alloc);
     for _ in 0..times {
-        bytes.extend_from_slice(row).ok()?;
+        bytes.extend_from_slice(row)?;
     }
-    match read_sheet(alloc, &bytes, Mode::Replay, &cfg) {
-        Ok(sheet) if sheet.as_slice().len() == times => Some(false),
-        Err(SheetFault::TooMany) => Some(true),
-        _ => None,
-    }
+    let said = said_of(alloc, setting(4096, 1), Mode::Replay, &bytes)?;
+    Ok(said.as_bytes() == text)
 }
 
 #[test]
-fn sheets_are_too_many(rt: HostRuntime) {
-    for (row, times, wanted) in [
-        (b"turn,0,50000000,\n".as_slice(), 1, false),
-        (b"turn,0,50000001,\n".as_slice(), 1, true),
-        (b"turn,0,25000001,\n".as_slice(), 2, true),
-        (b"turn,0,9223372036854775808,\n".as_slice(), 2, true),
-        (b"range,0,1,18446744073709551615\n".as_slice(), 1024, false),
-        (b"range,0,1,18446744073709551615\n".as_slice(), 1025, true),
-        (b"range,0,8,9\n".as_slice(), 1025, false),
-        (b"get,0,1,\n".as_slice(), 100_001, false),
-    ] {
-        assert_eq!(rt; is_too_many(rt.alloc(), row, times), Some(wanted));
-    }
+fn sheets_are_too_many(rt: HostRuntime) -> Result<(), Fail> {
+    let alloc = rt.alloc();
+    assert!(rt; is_said_of(alloc, b"turn,0,50000000,\n", 1, b"1 false")?);
+    assert!(rt; is_said_of(alloc, b"turn,0,50000001,\n", 1, b"too many")?);
+    assert!(rt; is_said_of(alloc, b"turn,0,25000001,\n", 2, b"too many")?);
+    assert!(rt; is_said_of(alloc, b"turn,0,9223372036854775808,\n", 2, b"too many")?);
+    let range = b"range,0,1,18446744073709551615\n";
+    assert!(rt; is_said_of(alloc, range, 1024, b"1024 false")?);
+    assert!(rt; is_said_of(alloc, range, 1025, b"too many")?);
+    assert!(rt; is_said_of(alloc, b"range,0,8,9\n", 1025, b"1025 false")?);
+    assert!(rt; is_said_of(alloc, b"get,0,1,\n", 100_001, b"100001 false")?);
+    Ok(())
 }

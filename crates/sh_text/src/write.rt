@@ -20,6 +20,7 @@ pub enum WriteError {
 }
 
 /// Writes the line of one of the rows of range `n`.
+#[tactic(auto, unfolding(crate::specs::Text::row_line))]
 pub fn write_row<K: Sink>(alloc: Global, sink: &mut K, n: u32, row: &Row) -> Result<(), WriteError>
     ensures ok { OnOk result (Appends (K.held sink.old) (K.held sink.new) (row_line n row.now)) }
     ensures err { OnErr result (AppendsFront (K.held sink.old) (K.held sink.new) (row_line n row.now)) }
@@ -50,6 +51,7 @@ fn write_rows<K: Sink>(alloc: Global, sink: &mut K, n: u32, rows: &[Row]) -> Res
 }
 
 /// Writes the line of a finished call, without those of its rows.
+#[tactic(auto, using(crate::proofs::Fronts::call_unwritten))]
 pub fn write_finished<K: Sink>(
     alloc: Global,
     sink: &mut K,
@@ -115,6 +117,7 @@ pub fn write_calls<K: Sink>(
 }
 
 /// Writes the line of a call that hasn't ended.
+#[tactic(auto, using(crate::proofs::Fronts::pending_unwritten))]
 pub fn write_pending<K: Sink>(
     alloc: Global,
     sink: &mut K,
@@ -156,6 +159,7 @@ pub fn write_map<K: Sink>(alloc: Global, sink: &mut K, rows: &[Row]) -> Result<(
 
 /// Writes the last line of a run whose calls have all ended: how many calls there were, how many keys there are, and the
 /// sum of all words of their values.
+#[tactic(auto, unfolding(crate::specs::Text::end_line))]
 pub fn write_end<K: Sink>(
     alloc: Global,
     sink: &mut K,
@@ -177,6 +181,7 @@ pub fn write_end<K: Sink>(
 }
 
 /// Writes the last line of a run that was given up: how many calls there were, and how many of them have ended.
+#[tactic(auto, unfolding(crate::specs::Text::unfinished_line))]
 pub fn write_unfinished<K: Sink>(
     alloc: Global,
     sink: &mut K,
@@ -197,6 +202,7 @@ pub fn write_unfinished<K: Sink>(
 }
 
 /// Writes the line of a seat's event and the word that it found.
+#[tactic(auto, unfolding(crate::specs::Text::event_line))]
 pub fn write_event<K: Sink>(
     alloc: Global,
     sink: &mut K,
@@ -218,6 +224,7 @@ pub fn write_event<K: Sink>(
 }
 
 /// Writes the line of made calls: how many, and their seed.
+#[tactic(auto, unfolding(crate::specs::Text::made_line))]
 pub fn write_made<K: Sink>(alloc: Global, sink: &mut K, n: u64, seed: u64) -> Result<(), WriteError>
     ensures ok { OnOk result (Appends (K.held sink.old) (K.held sink.new) (made_line n seed)) }
     ensures err { OnErr result (AppendsFront (K.held sink.old) (K.held sink.new) (made_line n seed)) }
@@ -233,6 +240,7 @@ pub fn write_made<K: Sink>(alloc: Global, sink: &mut K, n: u64, seed: u64) -> Re
 }
 
 /// Writes the line of counts.
+#[tactic(auto, unfolding(crate::specs::Counts::counts_line))]
 pub fn write_counts<K: Sink>(alloc: Global, sink: &mut K, counts: &Counts) -> Result<(), WriteError>
     ensures ok { OnOk result (Appends (K.held sink.old) (K.held sink.new) (counts_line counts.now)) }
     ensures err { OnErr result (AppendsFront (K.held sink.old) (K.held sink.new) (counts_line counts.now)) }

@@ -1,33 +1,29 @@
 -- What holds of a world after any turns, by the core's laws.
-use Rattle.std.proofs.Common.{◌≡◌, ◌≢◌, ℕ, zero, suc, ◌+◌, ◌-◌, ◌<◌, ◌≤◌, inl, inr, Bool, true, false, List, [], ◌∷◌, ◌++◌, length, Option, Some, None, refl, sym, ap, ◌∙◌, subst, arith, append-nil, eq-eqb, eqb-true}
-use Rattle.std.{specs.{Prelude.{◌==◌, ◌&&◌, if◌then◌else◌, slice_get, map, All, AllPairs}, List.{AllByRecursion}}, proofs.lemmas.{Bool.{and_parts}, Option.{slice_get_cases, slice_get_past}}}
-use Rattle.std.proofs.lemmas.List.{length-append, Elements.{filter-append}, Kept.{AllPairs-cons}}
-use Rattle.sh_logic.proofs.Lists.{set_same}
+use Rattle.std.proofs.Common.{◌≡◌, ◌≢◌, ℕ, zero, suc, ◌+◌, ◌-◌, ◌<◌, ◌≤◌, inl, inr, Bool, true, false, List, [], ◌∷◌, ◌++◌, length, Option, Some, None, refl, sym, ap, ◌∙◌, subst, arith, append-nil}
+use Rattle.std.{proofs.{Common.{eq-eqb, eqb-true}, lemmas.{Bool.{and_parts}, List.{Elements.{All-cons}, Kept.{AllPairs-cons}}, Option.{slice_get_cases, slice_get_past}}}, specs.List.{AllByRecursion}}
+use Rattle.std.specs.Prelude.{◌==◌, ◌&&◌, if◌then◌else◌, slice_get, map, All, AllPairs}
+use Rattle.sh_logic.proofs.{Lists.{set_same}, Options.{none_some, some_none}}
 use Rattle.sh_map.specs.{declared.{call.{Reply.{Reply}, Call.{Call}}, book.Done.{Done}, log.Entry.{Entry}}, Made.{entries_by}}
-use Rattle.sh_client.{specs.{declared.state.{Phase.{Phase, TheVariants.{Body}}, Want.{Want}}, Giving.{changes_map, entries_of, made_in}, Machine.{Machine}}, proofs.BeginLemmas.{has_begun}}
-use Rattle.sh_client.specs.{Rests.{is_resting}, Wants.{want_of}, InLine.{stand_in, IsIn}}
-use Rattle.sh_client.specs.declared.state.Want.TheVariants as want
+use Rattle.sh_client.{proofs.BeginLemmas.{has_begun}, specs.{Giving.{changes_map, entries_of, made_in}, InLine.{stand_in, IsIn}, Machine.{Machine}, Rests.{is_resting}, Wants.{want_of}}}
+use Rattle.sh_client.specs.declared.state.{Phase.{TheVariants.{Body}, Phase}, Want.{Want}}
 use Rattle.sh_core.specs.Actors.{Actor}
-use Rattle.sh_core_says.{specs.Books.{numbered, IsBookOf}, proofs.{AtRest.{at_rest}, Books.{books_are_lawful, calls_are_answered}, Moments.{each_moment}, Refusals.{refusals_have_causes}}}
+use Rattle.sh_core_says.{specs.Books.{numbered, IsBookOf}, proofs.{AtRest.{at_rest}, Books.{books_are_lawful, calls_are_answered, refusals_have_causes}, Moments.{each_moment}}}
 use Rattle.sh_core_turns.proofs.Senses.{never_senseless}
+use Rattle.sh_world.proofs.{PlaceLemmas.{number_in}, RunLemmas.{entries_one, log_few, seat_at}, WorldLemmas.{rests_done}}
+use Rattle.sh_world.specs.{Laws.{entries_at, entries_wanted, AllIdle, Clients, Extends, IdlesRight, Rights, IsLawfulWorld}, Running.{numbers_from, IsRunning}}
 use Rattle.sh_world.specs.States.{Given, Place, State, actor_of, done_in, dones_by, dones_from, dones_of}
 use Rattle.sh_world.specs.Turning.{answer_at, turn_answer_in, answer_of, asked, asked_in, is_done, is_idle, is_idle_at, started, starts, starts_next, took, turn_at, turn_of}
-use Rattle.sh_world.{specs.{Running.{numbers_from, IsRunning}, Laws.{entries_at, entries_wanted, AllIdle, Clients, Extends, IdlesRight, Rights, IsLawfulWorld}}, proofs.CountLemmas.{entries_one}}
-use Rattle.sh_world.proofs.{PlaceLemmas.{number_in}, RunLemmas.{log_few, seat_at}, StartLemmas.{rests_done}}
+use Rattle.sh_client.specs.declared.state.Want.TheVariants as want
 use Rattle.sh_world.specs.declared.turn.Turn.TheVariants as turn
 
 -- ---- the book
-
-all_cons : {X : Type 0} (P : X → Type 0) (x : X) (xs : List X) → P x → All P xs → All P (x ∷ xs)
-all_cons P x xs px h zero d lt = px
-all_cons P x xs px h (suc i) d lt = h i d (omega (arith, lt))
 
 numbers_from_n : (n m : ℕ) (calls : List Given) → n ≤ m → All (λ (d : Done). n ≤ d.n) (dones_from m calls)
 numbers_from_n n m [] le = λ i d lt. absurd (omega (arith, lt))
 numbers_from_n n m (g ∷ calls) le = by_reply (numbers_from_n n (m + 1) calls (omega (arith, le))) g.reply where
   by_reply : All (λ (d : Done). n ≤ d.n) (dones_from (m + 1) calls) → (o : Option Reply) → All (λ (d : Done). n ≤ d.n) (done_in m g o ++ dones_from (m + 1) calls)
   by_reply h None = h
-  by_reply h (Some r) = all_cons (λ (d : Done). n ≤ d.n) (record { n = m; seat = g.seat; call = g.call; reply = r; first = g.first; point = g.point; rows = g.rows }) (dones_from (m + 1) calls) le h
+  by_reply h (Some r) = All-cons (λ (d : Done). n ≤ d.n) (record { n = m; seat = g.seat; call = g.call; reply = r; first = g.first; point = g.point; rows = g.rows }) (dones_from (m + 1) calls) le h
 
 rise : (n : ℕ) (calls : List Given) → AllPairs (λ (d e : Done). d.n < e.n) (dones_from n calls)
 rise n [] = λ i j d less lt. absurd (omega (arith, lt))
@@ -45,47 +41,30 @@ owners Has n (g ∷ calls) h = by_reply (owners Has (n + 1) calls (λ k x e. h (
 
 -- ---- where all of a seat's calls have ended
 
-ended_one : (seat n : ℕ) (g : Given) (o : Option Reply) (b : Bool) → (g.seat == seat) ≡ b → length (dones_by seat (done_in n g o)) ≤ (if b then 1 else 0)
-ended_one seat n g None b e = omega arith
-ended_one seat n g (Some r) true e = ap_le (g.seat == seat) where
-  ap_le : (t : Bool) → length {A = Done} (if t then record { n = n; seat = g.seat; call = g.call; reply = r; first = g.first; point = g.point; rows = g.rows } ∷ [] else []) ≤ 1
-  ap_le true = omega arith
-  ap_le false = omega arith
-ended_one seat n g (Some r) false e = let l = ap (λ (t : Bool). length {A = Done} (if t then record { n = n; seat = g.seat; call = g.call; reply = r; first = g.first; point = g.point; rows = g.rows } ∷ [] else [])) e in omega (arith, l)
-
-numbers_long : (seat m : ℕ) (g : Given) (calls : List Given) (b : Bool) → (g.seat == seat) ≡ b → length (numbers_from seat m (g ∷ calls)) ≡ (if b then 1 else 0) + length (numbers_from seat (m + 1) calls)
-numbers_long seat m g calls b e = ap (λ (t : Bool). length (if t then m ∷ numbers_from seat (m + 1) calls else numbers_from seat (m + 1) calls)) e ∙ by_test b where
-  by_test : (t : Bool) → length (if t then m ∷ numbers_from seat (m + 1) calls else numbers_from seat (m + 1) calls) ≡ (if t then 1 else 0) + length (numbers_from seat (m + 1) calls)
-  by_test true = omega arith
-  by_test false = omega arith
-
-ended_long : (seat n : ℕ) (g : Given) (calls : List Given) → length (dones_by seat (dones_from n (g ∷ calls))) ≡ length (dones_by seat (done_in n g g.reply)) + length (dones_by seat (dones_from (n + 1) calls))
-ended_long seat n g calls = ap length (filter-append (λ (d : Done). d.seat == seat) (done_in n g g.reply) (dones_from (n + 1) calls)) ∙ length-append (dones_by seat (done_in n g g.reply)) (dones_by seat (dones_from (n + 1) calls))
+-- one call more: no more of the seat's have ended than there are, and fewer where it's the seat's and has no reply
+one_more : (seat n m : ℕ) (g : Given) (ds : List Done) (ns : List ℕ) (o : Option Reply) (b : Bool) → (g.seat == seat) ≡ b → let ended = length (dones_by seat (done_in n g o ++ ds)) + length ns in let all = length (if b then m ∷ ns else ns) + length (dones_by seat ds) in (ended ≤ all) × (b ≡ true → o ≡ None → ended < all)
+one_more seat n m g ds ns None true e = (omega arith, λ x y. omega arith)
+one_more seat n m g ds ns None false e = (omega arith, λ x. cc)
+one_more seat n m g ds ns (Some r) b e = by_test b (ap (λ (t : Bool). length (if t then record { n = n; seat = g.seat; call = g.call; reply = r; first = g.first; point = g.point; rows = g.rows } ∷ dones_by seat ds else dones_by seat ds)) e) where
+  by_test : (t : Bool) → length (dones_by seat (done_in n g (Some r) ++ ds)) ≡ length (if t then record { n = n; seat = g.seat; call = g.call; reply = r; first = g.first; point = g.point; rows = g.rows } ∷ dones_by seat ds else dones_by seat ds)
+      → let ended = length (dones_by seat (done_in n g (Some r) ++ ds)) + length ns in let all = length (if t then m ∷ ns else ns) + length (dones_by seat ds) in (ended ≤ all) × (t ≡ true → Some r ≡ None → ended < all)
+  by_test true l = (omega (arith, l), λ x y. absurd (some_none y))
+  by_test false l = (omega (arith, l), λ x. cc)
 
 ended_few : (seat n m : ℕ) (calls : List Given) → length (dones_by seat (dones_from n calls)) ≤ length (numbers_from seat m calls)
 ended_few seat n m [] = omega arith
-ended_few seat n m (g ∷ calls) =
-    let a = ended_long seat n g calls in
-    let b = numbers_long seat m g calls (g.seat == seat) refl in
-    let c = ended_one seat n g g.reply (g.seat == seat) refl in
-    let r = ended_few seat (n + 1) (m + 1) calls in
-    omega (arith, a, b, c, r)
+ended_few seat n m (g ∷ calls) = omega (arith, (one_more seat n m g (dones_from (n + 1) calls) (numbers_from seat (m + 1) calls) g.reply (g.seat == seat) refl).0, ended_few seat (n + 1) (m + 1) calls)
 
 ended_all_of : (seat n m : ℕ) (calls : List Given) → length (dones_by seat (dones_from n calls)) ≡ length (numbers_from seat m calls) → (k : ℕ) (g : Given) → slice_get calls k ≡ Some g → g.seat ≡ seat → g.reply ≢ None
 ended_all_of seat n m [] e k g at own none = cc
 ended_all_of seat n m (x ∷ calls) e zero g at own none =
     let same : x ≡ g = cc in
-    let a = ended_long seat n x calls in
-    let b = numbers_long seat m x calls true (eq-eqb x.seat seat (ap (λ (y : Given). y.seat) same ∙ own)) in
-    let r = ended_few seat (n + 1) (m + 1) calls in
-    let c : length (dones_by seat (done_in n x x.reply)) ≡ 0 = ap (λ (o : Option Reply). length (dones_by seat (done_in n x o))) (ap (λ (y : Given). y.reply) same ∙ none) in
-    absurd (omega (arith, e, a, b, r, c))
+    let one = one_more seat n m x (dones_from (n + 1) calls) (numbers_from seat (m + 1) calls) x.reply (x.seat == seat) refl in
+    let less = one.1 (eq-eqb x.seat seat (ap (λ (y : Given). y.seat) same ∙ own)) (ap (λ (y : Given). y.reply) same ∙ none) in
+    absurd (omega (arith, e, less, ended_few seat (n + 1) (m + 1) calls))
 ended_all_of seat n m (x ∷ calls) e (suc k) g at own none =
-    let a = ended_long seat n x calls in
-    let b = numbers_long seat m x calls (x.seat == seat) refl in
-    let c = ended_one seat n x x.reply (x.seat == seat) refl in
-    let r = ended_few seat (n + 1) (m + 1) calls in
-    ended_all_of seat (n + 1) (m + 1) calls (omega (arith, e, a, b, c, r)) k g at own none
+    let one = one_more seat n m x (dones_from (n + 1) calls) (numbers_from seat (m + 1) calls) x.reply (x.seat == seat) refl in
+    ended_all_of seat (n + 1) (m + 1) calls (omega (arith, e, one.0, ended_few seat (n + 1) (m + 1) calls)) k g at own none
 
 done_is : (w : Want) → is_done w ≡ true → w ≡ want.Done
 done_is want.Done e = refl
@@ -203,9 +182,7 @@ module _ (s : State) (run : IsRunning s) (i : ℕ) (q : Place) (at : slice_get s
   calls_none None n e next w =
       let pl = run.places i q at in
       let nu = number_in i 1 s.calls q.ended n (ap (λ (ns : List ℕ). slice_get ns q.ended) (sym pl.numbers) ∙ next) in
-      none_some (sym e ∙ nu.here) where
-        none_some : {g : Given} → None ≡ Some g → ⊥
-        none_some x = cc
+      none_some (sym e ∙ nu.here)
   calls_none (Some g) n e next w = started_wants q n (length s.log) g.call w
 
   next_none : (o : Option ℕ) → slice_get q.numbers q.ended ≡ o → want_of (starts_next s.calls q (length s.log) o).client ≡ want.Done → slice_get q.numbers q.ended ≡ None
@@ -216,9 +193,7 @@ module _ (s : State) (run : IsRunning s) (i : ℕ) (q : Place) (at : slice_get s
   ended_all e = elim (slice_get_cases q.numbers q.ended).1 [
     | inl h ↦ absurd (none_some (sym e ∙ h.2))
     | inr h ↦ let le = (run.places i q at).ended in omega (arith, le, h.0)
-  ] where
-    none_some : {n : ℕ} → None ≡ Some n → ⊥
-    none_some x = cc
+  ]
 
   idle_from : (w : Want) → want_of q.client ≡ w → want_of (asked_in s.calls q (length s.log) w).client ≡ want.Done → is_idle q ≡ true
   idle_from want.Done e d =

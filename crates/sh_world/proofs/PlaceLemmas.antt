@@ -1,11 +1,189 @@
--- A seat's numbers are those of its calls, and its next call is the first that isn't answered.
-use Rattle.std.proofs.Common.{◌≡◌, ◌≢◌, ◌⊎◌, ℕ, zero, suc, ◌+◌, ◌-◌, ◌<◌, ◌≤◌, inl, inr, Bool, true, false, List, [], ◌∷◌, length, Some, refl, sym, ap, ◌∙◌, arith, eq-eqb, ne_eqb}
-use Rattle.std.{specs.Prelude.{◌==◌, if◌then◌else◌, slice_get}, proofs.lemmas.{Bool.{cases_eq}, Option.{slice_get_within}, List.{length_push}}}
-use Rattle.sh_logic.proofs.Options.{some_is}
-use Rattle.sh_map.specs.{declared.{call.Reply.{Reply}, book.Row.{Row}, log.Entry.{Entry}}, Points.{point_of}}
-use Rattle.sh_client.{specs.{declared.state.Phase.{Phase, TheVariants.{Idle, Ended}}, Machine.{Machine}, Rests.{has_ended, is_resting, rests, rows_told}}, proofs.BeginLemmas.{has_begun}}
-use Rattle.sh_world.specs.{States.{Given, Place, answered, dones_by, dones_of}, Turning.{calls_after, going, place_after, resting, started}, Running.{numbers_from, IsPlace}}
-use Rattle.sh_world.proofs.{DoneLemmas.{by_own, told}, MoveLemmas.{AgreeBut, IsNext}}
+-- The ended calls of seats; one seat's actor changes and the others stay; and a seat's place among its calls.
+use Rattle.std.proofs.Common.{◌≡◌, ◌≢◌, ℕ, zero, suc, ◌+◌, ◌≤◌, inl, inr, List, [], ◌∷◌, ◌++◌, length, get_or, set, Option, Some, None, refl, sym, ap, ◌∙◌, subst, arith, append-nil, append_assoc}
+use Rattle.std.proofs.{Common.{ne_eqb, eq-eqb, ◌⊎◌, ◌-◌, ◌<◌, Bool, true, false}, lemmas.{Bool.{cases_eq}, List.{Elements.{filter-append}, length_push}, Option.{slice_get_within}}}
+use Rattle.std.specs.Prelude.{◌==◌, slice_get, if◌then◌else◌}
+use Rattle.sh_map.specs.{declared.{call.Reply.{Reply}, book.{Done.{Done}, Row.{Row}}, log.Entry.{Entry}}, Points.{point_of}}
+use Rattle.sh_world.specs.{Running.{numbers_from, IsPlace}, States.{Given, answered, done_in, dones_by, dones_from, dones_of, Place, actor_of, HasActor}}
+use Rattle.sh_world.specs.Turning.{calls_after, going, place_after, resting, started}
+use Rattle.sh_logic.proofs.{Lists.{set_here, set_else}, Options.{some_is}}
+use Rattle.sh_base.specs.declared.config.ConfigParts.{ConfigParts}
+use Rattle.sh_client.{specs.{declared.state.Phase.{TheVariants.{Ended, Idle}, Phase}, Machine.{Machine}, Rests.{has_ended, rows_told, is_resting, rests}}, proofs.BeginLemmas.{has_begun}}
+use Rattle.sh_core.{specs.{Actors.{Actor, becomes, ending, actor_going, rested}, Core.{Instead, Inv, Moves, RestKeeps}}, proofs.Moves.{moves_from as core_moves, put_moves}}
+
+abbrev pub told : Given → Reply → List Row → (first point : ℕ) → Given
+told g r rs f p = record { seat = g.seat; call = g.call; reply = Some r; first = f; point = p; rows = rs }
+
+-- a call that is written whole at its place is answered there
+pub answered_is : (calls : List Given) (k : ℕ) (r : Reply) (rs : List Row) (f p : ℕ) (g : Given) → set calls k (told (get_or calls k g) r rs f p) ≡ answered calls k r rs f p
+answered_is [] k r rs f p g = refl
+answered_is (x ∷ calls) zero r rs f p g = refl
+answered_is (x ∷ calls) (suc k) r rs f p g = ap (λ (ys : List Given). x ∷ ys) (answered_is calls k r rs f p g)
+
+pub length_answered : (calls : List Given) (k : ℕ) (r : Reply) (rs : List Row) (f p : ℕ) → length (answered calls k r rs f p) ≡ length calls
+length_answered [] k r rs f p = refl
+length_answered (x ∷ calls) zero r rs f p = refl
+length_answered (x ∷ calls) (suc k) r rs f p = ap suc (length_answered calls k r rs f p)
+
+-- a call that ends is answered, and as many calls stay
+pub calls_long : (calls : List Given) (q : Place) (log : List Entry) (m : Machine) → length (calls_after calls q log m) ≡ length calls
+calls_long calls q log m = by_end (has_ended m.phase) where
+  by_end : (b : Bool) → length (if b then answered calls (q.number - 1) m.registers.reply (rows_told m) q.first (point_of log q.first q.point m.registers.call m.registers.reply) else calls) ≡ length calls
+  by_end true = length_answered calls (q.number - 1) m.registers.reply (rows_told m) q.first (point_of log q.first q.point m.registers.call m.registers.reply)
+  by_end false = refl
+
+-- the ended ones of calls and of one more
+pub dones_snoc : (n : ℕ) (calls : List Given) (g : Given) → dones_from n (calls ++ g ∷ []) ≡ dones_from n calls ++ done_in (n + length calls) g g.reply
+dones_snoc n [] g = append-nil (done_in n g g.reply) ∙ (let e : n ≡ n + 0 = omega arith in ap (λ (m : ℕ). done_in m g g.reply) e)
+dones_snoc n (x ∷ calls) g =
+    let e : n + 1 + length calls ≡ n + suc (length calls) = omega arith in
+    ap (λ (ds : List Done). done_in n x x.reply ++ ds) (dones_snoc (n + 1) calls g ∙ ap (λ (m : ℕ). dones_from (n + 1) calls ++ done_in m g g.reply) e)
+    ∙ sym (append_assoc (done_in n x x.reply) (dones_from (n + 1) calls) (done_in (n + suc (length calls)) g g.reply))
+
+-- a call that waits has no part in it
+pub dones_waits : (calls : List Given) (g : Given) → g.reply ≡ None → dones_of (calls ++ g ∷ []) ≡ dones_of calls
+dones_waits calls g e = dones_snoc 1 calls g ∙ ap (λ (o : Option Reply). dones_of calls ++ done_in (1 + length calls) g o) e ∙ append-nil (dones_of calls)
+
+module _ (seat : ℕ) where
+  abbrev by : List Done → List Done
+  by ds = dones_by seat ds
+
+  by_append : (ds es : List Done) → by (ds ++ es) ≡ by ds ++ by es
+  by_append ds es = filter-append (λ (d : Done). d.seat == seat) ds es
+
+  -- of another seat's call nothing is among them
+  none_of : (n : ℕ) (g : Given) (o : Option Reply) → g.seat ≢ seat → by (done_in n g o) ≡ []
+  none_of n g None ne = refl
+  none_of n g (Some r) ne = rw (ne_eqb g.seat seat ne) refl
+
+  one_of : (n : ℕ) (g : Given) (r : Reply) → g.seat ≡ seat → by (done_in n g (Some r)) ≡ done_in n g (Some r)
+  one_of n g r is = rw (eq-eqb g.seat seat is) refl
+
+  -- no call of the seat has ended among these
+  none_in : (n : ℕ) (calls : List Given) → ((k : ℕ) (g : Given) → slice_get calls k ≡ Some g → g.seat ≡ seat → g.reply ≡ None) → by (dones_from n calls) ≡ []
+  none_in n [] h = refl
+  none_in n (g ∷ calls) h =
+      by_append (done_in n g g.reply) (dones_from (n + 1) calls)
+      ∙ ap (λ (ds : List Done). ds ++ by (dones_from (n + 1) calls)) (elim (cases_eq g.seat seat) [
+        | inl is ↦ ap (λ (o : Option Reply). by (done_in n g o)) (h 0 g refl is)
+        | inr ne ↦ none_of n g g.reply ne
+      ])
+      ∙ none_in (n + 1) calls (λ k x is own. h (suc k) x is own)
+
+  -- another seat's call is answered
+  pub by_other : (n : ℕ) (calls : List Given) (k : ℕ) (r : Reply) (rs : List Row) (f p : ℕ) (g : Given) → slice_get calls k ≡ Some g → g.seat ≢ seat → by (dones_from n (answered calls k r rs f p)) ≡ by (dones_from n calls)
+  by_other n [] k r rs f p g is ne = refl
+  by_other n (x ∷ calls) zero r rs f p g is ne =
+      let same : x ≡ g = cc in
+      let differ : x.seat ≢ seat = subst (λ (y : Given). y.seat ≢ seat) (sym same) ne in
+      by_append (done_in n (told x r rs f p) (Some r)) (dones_from (n + 1) calls)
+      ∙ ap (λ (ds : List Done). ds ++ by (dones_from (n + 1) calls)) (none_of n (told x r rs f p) (Some r) differ ∙ sym (none_of n x x.reply differ))
+      ∙ sym (by_append (done_in n x x.reply) (dones_from (n + 1) calls))
+  by_other n (x ∷ calls) (suc k) r rs f p g is ne =
+      by_append (done_in n x x.reply) (dones_from (n + 1) (answered calls k r rs f p))
+      ∙ ap (λ (ds : List Done). by (done_in n x x.reply) ++ ds) (by_other (n + 1) calls k r rs f p g is ne)
+      ∙ sym (by_append (done_in n x x.reply) (dones_from (n + 1) calls))
+
+  -- a call of the seat is answered, and no later one of it has been
+  pub by_own : (n : ℕ) (calls : List Given) (k : ℕ) (r : Reply) (rs : List Row) (f p : ℕ) (g : Given) → slice_get calls k ≡ Some g → g.seat ≡ seat
+      → ((j : ℕ) (x : Given) → k ≤ j → slice_get calls j ≡ Some x → x.seat ≡ seat → x.reply ≡ None)
+      → by (dones_from n (answered calls k r rs f p)) ≡ by (dones_from n calls) ++ record { n = n + k; seat = seat; call = g.call; reply = r; first = f; point = p; rows = rs } ∷ []
+  by_own n [] k r rs f p g is own later = cc
+  by_own n (x ∷ calls) zero r rs f p g is own later =
+      let same : x ≡ g = cc in
+      let none : by (dones_from (n + 1) calls) ≡ [] = none_in (n + 1) calls (λ j y at mine. later (suc j) y (omega arith) at mine) in
+      let mine : x.seat ≡ seat = ap (λ (y : Given). y.seat) same ∙ own in
+      let e : n ≡ n + 0 = omega arith in
+      by_append (done_in n (told x r rs f p) (Some r)) (dones_from (n + 1) calls) ∙ ap (λ (ds : List Done). by (done_in n (told x r rs f p) (Some r)) ++ ds) none ∙ append-nil (by (done_in n (told x r rs f p) (Some r)))
+      ∙ one_of n (told x r rs f p) r mine
+      ∙ (λ z. record { n = e z; seat = mine z; call = (same z).call; reply = r; first = f; point = p; rows = rs } ∷ [])
+      ∙ ap (λ (ds : List Done). ds ++ record { n = n + 0; seat = seat; call = g.call; reply = r; first = f; point = p; rows = rs } ∷ []) (sym (by_append (done_in n x x.reply) (dones_from (n + 1) calls) ∙ ap (λ (o : Option Reply). by (done_in n x o) ++ by (dones_from (n + 1) calls)) (later 0 x (omega arith) refl mine) ∙ none))
+  by_own n (x ∷ calls) (suc k) r rs f p g is own later =
+      let e : n + 1 + k ≡ n + suc k = omega arith in
+      by_append (done_in n x x.reply) (dones_from (n + 1) (answered calls k r rs f p))
+      ∙ ap (λ (ds : List Done). by (done_in n x x.reply) ++ ds) (by_own (n + 1) calls k r rs f p g is own (λ j y le at mine. later (suc j) y (omega (arith, le)) at mine) ∙ ap (λ (m : ℕ). by (dones_from (n + 1) calls) ++ record { n = m; seat = seat; call = g.call; reply = r; first = f; point = p; rows = rs } ∷ []) e)
+      ∙ sym (append_assoc (by (done_in n x x.reply)) (by (dones_from (n + 1) calls)) (record { n = n + suc k; seat = seat; call = g.call; reply = r; first = f; point = p; rows = rs } ∷ []))
+      ∙ ap (λ (ds : List Done). ds ++ record { n = n + suc k; seat = seat; call = g.call; reply = r; first = f; point = p; rows = rs } ∷ []) (sym (by_append (done_in n x x.reply) (dones_from (n + 1) calls)))
+
+-- ---- one seat's actor changes and the others stay: what the core's laws ask of a world
+
+-- what stands at a place where one was set
+pub set_cases : {X : Type 0} (xs : List X) (i j : ℕ) (x y : X) → i < length xs → slice_get (set xs i x) j ≡ Some y → ((j ≡ i) × (y ≡ x)) ⊎ ((j ≢ i) × (slice_get xs j ≡ Some y))
+set_cases xs i j x y lt e = elim (cases_eq j i) [
+  | inl is ↦ inl (is, some_is (sym e ∙ ap (slice_get (set xs i x)) is ∙ set_here xs i x lt))
+  | inr ne ↦ inr (ne, sym (set_else xs i j x ne) ∙ e)
+]
+
+-- the others' actors stay where their ended calls do
+abbrev pub AgreeBut : (i : ℕ) → (calls now : List Given) → Type 0
+AgreeBut i calls now = (j : ℕ) → j ≢ i → dones_by j (dones_of now) ≡ dones_by j (dones_of calls)
+
+module _ (seats : List Place) (calls now : List Given) (i : ℕ) (q : Place) (a : Actor) (lt : i < length seats) (agree : AgreeBut i calls now) (is : a ≡ actor_of now i q) where
+  other_on : (j : ℕ) (b : Actor) → j ≢ i → HasActor seats calls j b → HasActor (set seats i q) now j b
+  other_on j b ne h = record { place = h.place; here = set_else seats i j q ne ∙ h.here; actor_is = h.actor_is ∙ ap (λ (ds : List Done). record { client = h.place.client; number = h.place.number; seen = h.place.seen; first = h.place.first; point = h.place.point; dones = ds }) (sym (agree j ne)) }
+
+  other_back : (j : ℕ) (b : Actor) → j ≢ i → HasActor (set seats i q) now j b → HasActor seats calls j b
+  other_back j b ne h = record { place = h.place; here = sym (set_else seats i j q ne) ∙ h.here; actor_is = h.actor_is ∙ ap (λ (ds : List Done). record { client = h.place.client; number = h.place.number; seen = h.place.seen; first = h.place.first; point = h.place.point; dones = ds }) (agree j ne) }
+
+  own_here : HasActor (set seats i q) now i a
+  own_here = record { place = q; here = set_here seats i q lt; actor_is = is }
+
+  own_back : (b : Actor) → HasActor (set seats i q) now i b → b ≡ a
+  own_back b h =
+      let same : h.place ≡ q = some_is (sym h.here ∙ set_here seats i q lt) in
+      h.actor_is ∙ ap (actor_of now i) same ∙ sym is
+
+  pub moves_from : (Has : ℕ → Actor → Type 0) → ((j : ℕ) (b : Actor) → j ≢ i → Has j b → HasActor seats calls j b) → ((j : ℕ) (b : Actor) → j ≢ i → HasActor seats calls j b → Has j b) → Moves Has i a (HasActor (set seats i q) now)
+  moves_from Has to from = core_moves Has (HasActor (set seats i q) now) i a own_here own_back (λ j b ne h. from j b ne (other_back j b ne h)) (λ j b ne h. other_on j b ne (to j b ne h))
+
+  pub moves_seats : Moves (HasActor seats calls) i a (HasActor (set seats i q) now)
+  moves_seats = moves_from (HasActor seats calls) (λ j b ne h. h) (λ j b ne h. h)
+
+-- a call that ends is the seat's next one of those that were given
+pub record IsNext (calls : List Given) (i number : ℕ) (m : Machine) : Type 0 where
+  pub given : Given
+  pub real : 1 ≤ number
+  pub here : slice_get calls (number - 1) ≡ Some given
+  pub seat_is : given.seat ≡ i
+  pub call_is : given.call ≡ m.registers.call
+  pub later : (j : ℕ) (x : Given) → number - 1 ≤ j → slice_get calls j ≡ Some x → x.seat ≡ i → x.reply ≡ None
+
+phase_ended : (ph : Phase) → has_ended ph ≡ true → ph ≡ Ended
+phase_ended Ended e = refl
+phase_ended ph e = cc
+
+module _ (p : ConfigParts) (seats : List Place) (calls : List Given) (i : ℕ) (q : Place) (lt : i < length seats) (log more : List Entry) (m : Machine) where
+  abbrev A : Actor
+  A = actor_of calls i q
+
+  pub agree_ended : IsNext calls i q.number m → AgreeBut i calls (answered calls (q.number - 1) m.registers.reply (rows_told m) q.first (point_of log q.first q.point m.registers.call m.registers.reply))
+  agree_ended n j ne = by_other j 1 calls (q.number - 1) m.registers.reply (rows_told m) q.first (point_of log q.first q.point m.registers.call m.registers.reply) n.given n.here (λ e. ne (sym e ∙ n.seat_is))
+
+  -- the seat's ended calls, with this one
+  own_ended : IsNext calls i q.number m → rested (ending i A log m) ≡ actor_of (answered calls (q.number - 1) m.registers.reply (rows_told m) q.first (point_of log q.first q.point m.registers.call m.registers.reply)) i (resting q log m)
+  own_ended n =
+      let e : 1 + (q.number - 1) ≡ q.number = omega (arith, n.real) in
+      ap (λ (ds : List Done). record { client = (rested (ending i A log m)).client; number = q.number; seen = length log; first = length log; point = q.point; dones = ds })
+      (sym (by_own i 1 calls (q.number - 1) m.registers.reply (rows_told m) q.first (point_of log q.first q.point m.registers.call m.registers.reply) n.given n.here n.seat_is n.later
+      ∙ (λ z. dones_by i (dones_of calls) ++ record { n = e z; seat = i; call = n.call_is z; reply = m.registers.reply; first = q.first; point = point_of log q.first q.point m.registers.call m.registers.reply; rows = rows_told m } ∷ [])))
+
+  -- The law's step, whatever relation tells the actors after it, gives the world's.
+  module _ (words : List ℕ) (Out : ℕ → ℕ → ℕ → Type 0) (rest_law : RestKeeps p)
+      (step : (Now : ℕ → Actor → Type 0) → Moves (HasActor seats calls) i (becomes i A log more m) Now → Inv p words (log ++ more) Now Out) (next : has_ended m.phase ≡ true → IsNext calls i q.number m) where
+    by_end : (b : Bool) → has_ended m.phase ≡ b → Inv p words (log ++ more) (HasActor (set seats i (if b then resting q log m else going q log more m)) (if b then answered calls (q.number - 1) m.registers.reply (rows_told m) q.first (point_of log q.first q.point m.registers.call m.registers.reply) else calls)) Out
+    by_end false e = step (HasActor (set seats i (going q log more m)) calls) (moves_seats seats calls calls i (going q log more m) (becomes i A log more m) lt (λ j ne. refl) (ap (λ (b : Bool). if b then ending i A log m else actor_going A log more m) e))
+    by_end true e =
+        let n = next e in
+        let ended : Actor = ending i A log m in
+        let is : becomes i A log more m ≡ ended = ap (λ (b : Bool). if b then ending i A log m else actor_going A log more m) e in
+        let inv = step (Instead (HasActor seats calls) i (becomes i A log more m)) (put_moves (HasActor seats calls) i (becomes i A log more m)) in
+        rest_law words (log ++ more) (Instead (HasActor seats calls) i (becomes i A log more m)) (HasActor (set seats i (resting q log m)) (answered calls (q.number - 1) m.registers.reply (rows_told m) q.first (point_of log q.first q.point m.registers.call m.registers.reply))) Out i ended inv (inl (refl, sym is)) (phase_ended m.phase e)
+        (moves_from seats calls (answered calls (q.number - 1) m.registers.reply (rows_told m) q.first (point_of log q.first q.point m.registers.call m.registers.reply)) i (resting q log m) (rested ended) lt (agree_ended n) (own_ended n) (Instead (HasActor seats calls) i (becomes i A log more m))
+        (λ j b ne h. elim h [ inl k ↦ absurd (ne k.0) | inr k ↦ k.1 ]) (λ j b ne h. inr (ne, h)))
+
+    pub settled_keeps : Inv p words (log ++ more) (HasActor (set seats i (place_after q log more m)) (calls_after calls q log m)) Out
+    settled_keeps = by_end (has_ended m.phase) refl
+
+-- ---- a seat's numbers are those of its calls, and its next call is the first that isn't answered
 
 -- a number is that of a call of the seat
 pub record IsNumber (calls : List Given) (seat n m : ℕ) : Type 0 where

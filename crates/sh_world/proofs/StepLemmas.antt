@@ -1,14 +1,13 @@
 -- A step that a seat makes at once, inside a verb or while it waits, is the turn that its client wants.
-use Rattle.std.{proofs.Common.{◌≡◌, ℕ, ◌-◌, ◌<◌, Bool, true, false, List, [], ◌++◌, length, set, take, get_or, Some, None, refl, sym, ap, ◌∙◌, subst}, specs.Prelude.{◌==◌, not, if◌then◌else◌}}
-use Rattle.std.proofs.lemmas.{List.{append-nil, set-get_or, take_at}, Option.{slice_get_read}}
+use Rattle.std.proofs.{Common.{◌≡◌, ℕ, ◌-◌, ◌<◌, Bool, true, false, List, [], ◌++◌, length, set, take, get_or, Some, None, refl, sym, ap, ◌∙◌, subst}, lemmas.List.{append-nil, set-get_or, take_at}}
+use Rattle.std.{proofs.lemmas.Option.{slice_get_read}, specs.Prelude.{◌==◌, not, if◌then◌else◌}}
 use Rattle.sh_base.specs.{declared.config.ConfigParts.{ConfigParts}, Layout.{compute_of}, Memory.{found_by}, Setting.{all_locks}}
-use Rattle.sh_client.specs.{declared.state.Step.{Step}, Feeds.{fed_by, turned_by}, Giving.{makes}, Machine.{Machine}, Rests.{has_ended, rows_told}, Steps.{looks_of, IsStep}}
-use Rattle.sh_client.proofs.Wanting.{goes_on, look_busy, look_stays, look_wants}
-use Rattle.sh_client.specs.declared.state.Want.TheVariants as want
+use Rattle.sh_client.{proofs.Wanting.{goes_on, look_busy, look_stays, look_wants}, specs.{Feeds.{fed_by, turned_by}, Giving.{makes}, Machine.{Machine}, Rests.{has_ended, rows_told}}}
+use Rattle.sh_client.specs.{Steps.{looks_of, IsStep}, declared.state.Step.{Step}}
 use Rattle.sh_map.specs.{declared.log.Entry.{Entry}, Points.{point_of}}
-use Rattle.sh_world.specs.{declared.state.Line.{Line}, States.{Given, Place, State, actor_of, answered, line_at}}
-use Rattle.sh_world.specs.{Turning.{asked_in, calls_after, going, looked_client, looked_line, place_after, resting, place_stepped, took, IsTurn}, declared.turn.Turn.{Turn}, Running.{IsWorld}}
-use Rattle.sh_world.proofs.WorldLemmas.{called_world, event_world, is_asked, running, IsAsked}
+use Rattle.sh_world.{proofs.WorldLemmas.{called_world, event_world, is_asked, running, IsAsked}, specs.{Running.{IsWorld}, States.{Given, Place, State, actor_of, answered, line_at}}}
+use Rattle.sh_world.specs.{Turning.{asked_in, calls_after, going, looked_client, looked_line, place_after, resting, place_stepped, took, IsTurn}, declared.{state.Line.{Line}, turn.Turn.{Turn}}}
+use Rattle.sh_client.specs.declared.state.Want.TheVariants as want
 
 -- the setting of a seat's client is the world's
 pub seat_setting : (s t : State) (room : ℕ) (kept : ConfigParts) (i : ℕ) (q : Place) → s ≡ t → IsWorld s room kept → i < length t.seats → q ≡ get_or s.seats i q → q.client.setting ≡ s.setting

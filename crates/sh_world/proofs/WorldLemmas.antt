@@ -1,18 +1,137 @@
--- The world's turn as what its parts do.
-use Rattle.std.proofs.Common.{◌≡◌, ◌≢◌, ℕ, zero, suc, ◌-◌, ◌<◌, ◌≤◌, inl, inr, Bool, true, false, List, [], ◌++◌, length, get_or, set, take, Option, Some, None, refl, sym, ap, ◌∙◌, subst, arith}
-use Rattle.std.{specs.Prelude.{◌==◌, if◌then◌else◌, slice_get, IfSome}, proofs.lemmas.{Option.{slice_get_within, slice_get_read}, List.{append-nil, length-set, take_at}}}
-use Rattle.sh_logic.proofs.{Lists.{set_here}, Options.{some_is}}
-use Rattle.sh_base.specs.{declared.{config.ConfigParts.{ConfigParts}, event.Event.{Event, TheVariants.{Load, Store, Exchange, Add}}}, Layout.{compute_of}, Memory.{apply, found_by}}
-use Rattle.sh_base.specs.Setting.{all_locks}
-use Rattle.sh_map.specs.{declared.log.Entry.{Entry}, Points.{point_of}}
-use Rattle.sh_client.specs.{declared.state.Want.{Want}, Machine.{Machine}, Feeds.{fed_by, turned_by}, Giving.{makes}, Wants.{want_of, IsWithin}, Rests.{has_ended, rows_told}}
-use Rattle.sh_client.{proofs.{InLineLemmas.{count_stands, draw_stands, look_stands}, Wanting.{stand_ended}}, specs.InLine.{MayHand, Stand, stand_of, IsIn}}
+-- The world's turn as what its parts do: a seat that is asked begins its next call; and from what the parts do to the
+-- turn.
+use Rattle.std.proofs.Common.{◌≡◌, ◌≢◌, ℕ, ◌+◌, ◌-◌, ◌<◌, inr, Bool, true, false, List, [], length, set, Option, Some, None, refl, sym, ap, ◌∙◌, subst, arith, zero, suc, ◌≤◌, inl, ◌++◌, get_or, take}
+use Rattle.std.{proofs.lemmas.{List.{append-nil, length-set, set-set, take_at}, Option.{slice_get_within, slice_get_read}}, specs.Prelude.{◌==◌, if◌then◌else◌, nat_lt, slice_get, IfSome}}
+use Rattle.sh_logic.proofs.{Tests.{less_test}, Lists.{set_same, set_here}, Options.{some_is}}
+use Rattle.sh_base.specs.{Layout.{node_word, compute_of}, Memory.{apply, found_by}, Setting.{all_locks, node_size}, declared.{config.ConfigParts.{ConfigParts}, event.Event.{Event}}}
+use Rattle.sh_base.specs.declared.event.Event.TheVariants.{Load, Store, Exchange, Add}
+use Rattle.sh_map.specs.{Calls.{IsInRange}, declared.log.Entry.{Entry}}
+use Rattle.sh_alloc.specs.{declared.state.ChunkWant.{ChunkWant}, Chunks.{WantsEvent}, Walks.{walk_wants}}
+use Rattle.sh_read.specs.Reads.{Reads, wanted}
+use Rattle.sh_state.specs.TreeState.{TreeState}
+use Rattle.sh_decide.specs.declared.state.Posting.{Posting}
+use Rattle.sh_client.{proofs.{BeginLemmas.{has_begun}, CachedLemmas.{fed_keeps}, InLineLemmas.{count_stands, draw_stands, look_stands}, Wanting.{stand_ended}}, specs.Feeds.{fed_by, fed_in, turned_by}}
+use Rattle.sh_client.specs.{Giving.{counted, made_in, makes, released}, InLine.{stand_in, MayHand, Stand, stand_of, IsIn}, Machine.{Machine, to}, Rests.{has_ended, is_resting, rests}}
+use Rattle.sh_client.specs.{Wants.{count_of, load_of, want_in, want_of, IsWithin}, declared.state.{Phase.{TheVariants.{Idle, Read, ReadLocked, Seek, Body, Ended}, Phase}, Then.{Then}, Want.{Want}}}
+use Rattle.sh_client.specs.declared.state.Write.{Write}
+use Rattle.sh_core.specs.{Actors.{Actor, actor_begun}, Fits.{Fits}, Keeps.{KeepsActor}}
+use Rattle.sh_core_turns.proofs.Calls.{begin_keeps}
+use Rattle.sh_world.proofs.{PlaceLemmas.{moves_seats, number_in, place_started, calls_long}, QueueLemmas.{lines_still, compute_within}, RunLemmas.{can_end, placed}}
+use Rattle.sh_world.proofs.TurnLemmas.{event_busy, event_step, leave_busy, leave_step, put_place, at_line, count_runs, draw_runs, event_runs, leave_runs, look_runs}
+use Rattle.sh_world.specs.{Running.{IsRunning, IsWorld}, Seats.{CanAsk, CanSettle}, States.{Given, Place, State, actor_of, HasActor, IsLeft, line_at}, declared.{state.Line.{Line}, turn.Turn.{Turn}}}
+use Rattle.sh_world.specs.Turning.{asked, asked_in, started, starts, starts_next, answer_at, turn_answer_in, answer_of, behind, calls_after, drawn, left_line, line_of, looked_client, looked_line}
+use Rattle.sh_world.specs.Turning.{or_free, line_called, place_after, place_called, took, took_in, turn_at, turn_of, wanted_lock, IsTurn}
+use Rattle.sh_alloc.specs.declared.state.ChunkWant.TheVariants as chunk
 use Rattle.sh_client.specs.declared.state.Want.TheVariants as want
-use Rattle.sh_world.specs.{declared.{state.Line.{Line}, turn.Turn.{Turn}}, States.{Given, Place, State, actor_of, answered, line_at}}
-use Rattle.sh_world.specs.Turning.{answer_at, turn_answer_in, answer_of, asked, behind, calls_after, drawn, left_line, line_of, looked_client, looked_line, or_free, line_called, place_after, place_called, took, took_in, turn_at, turn_of, wanted_lock, IsTurn}
-use Rattle.sh_world.{specs.{Running.{IsRunning, IsWorld}, Seats.{CanSettle}}, proofs.{LineLemmas.{compute_within}, DoneLemmas.{length_answered}, MoveLemmas.{set_again}}}
-use Rattle.sh_world.proofs.{StartLemmas.{asked_runs, event_settles, leave_settles}, TurnLemmas.{at_line, count_runs, draw_runs, event_runs, leave_runs, look_runs, put_place}}
 use Rattle.sh_world.specs.declared.turn.Turn.TheVariants as turn
+
+-- ---- a client that wants nothing is at rest
+
+load_some : (p : ConfigParts) (r : Reads) → length r.loaded < node_size p → load_of (wanted p r) ≢ want.Done
+load_some p r lt e = by_test (nat_lt (length r.loaded) (node_size p)) (less_test (length r.loaded) (node_size p) lt) e where
+  by_test : (b : Bool) → b ≡ true → load_of (if b then Some (node_word p r.node + (node_size p - 1 - length r.loaded)) else None) ≡ want.Done → ⊥
+  by_test true is e = cc
+  by_test false is e = cc
+
+count_some : (w : ChunkWant) → WantsEvent w → count_of w ≢ want.Done
+count_some (chunk.Event e) h x = cc
+count_some (chunk.Got server c) h x = absurd h
+count_some chunk.AllSpent h x = absurd h
+
+done_in : (p : ConfigParts) (s : TreeState) (i f q e : ℕ) (m : Machine) (duty : Option Posting) (ph : Phase) → m.setting ≡ p → Fits p s i f q e m.registers duty ph → want_in m ph ≡ want.Done → rests ph ≡ true
+done_in p s i f q e m duty Idle is h w = refl
+done_in p s i f q e m duty Ended is h w = refl
+done_in p s i f q e m duty (Read aim top) is h w = absurd (load_some p m.registers.reads h.on_way.left (ap (λ (z : ConfigParts). load_of (wanted z m.registers.reads)) (sym is) ∙ w))
+done_in p s i f q e m duty (ReadLocked aim depth) is h w = absurd (load_some p m.registers.reads h.reading.left (ap (λ (z : ConfigParts). load_of (wanted z m.registers.reads)) (sym is) ∙ w))
+done_in p s i f q e m duty (Seek need) is h w = absurd (count_some (walk_wants p m.registers.walk) h.seeking.wants (ap (λ (z : ConfigParts). count_of (walk_wants z m.registers.walk)) (sym is) ∙ w))
+done_in p s i f q e m duty ph is h w = cc
+
+module _ (s : State) (run : IsRunning s) (i : ℕ) (q : Place) (at : slice_get s.seats i ≡ Some q) where
+  abbrev P : ConfigParts
+  P = s.setting
+
+  abbrev A : Actor
+  A = actor_of s.calls i q
+
+  h : HasActor s.seats s.calls i A
+  h = record { place = q; here = at; actor_is = refl }
+
+  k : KeepsActor P run.inv.scene i A
+  k = run.inv.kept i A h
+
+  pub rests_done : want_of q.client ≡ want.Done → is_resting q.client ≡ true
+  rests_done w = done_in P run.inv.scene i q.first q.point q.seen q.client k.work.duty q.client.phase k.work.seated.setting_is k.work.fits w
+
+  -- it may begin its next call
+  pub can_ask : CanAsk s.calls q
+  can_ask w n next =
+      let pl = run.places i q at in
+      let nu = number_in i 1 s.calls q.ended n (ap (λ (ns : List ℕ). slice_get ns q.ended) (sym pl.numbers) ∙ next) in
+      let below = slice_get_within s.calls (n - 1) nu.given nu.here in
+      record {
+        idle = pl.rests (rests_done w);
+        real = (nu.low, omega (arith, below, nu.low));
+        lawful = λ g here. let x = run.given (n - 1) g here in subst (λ (p : ConfigParts). IsInRange p g.call) (sym k.work.seated.setting_is) x.in_range;
+      }
+
+  started_runs : want_of q.client ≡ want.Done → (n : ℕ) → slice_get q.numbers q.ended ≡ Some n → (g : Given) → slice_get s.calls (n - 1) ≡ Some g → IsRunning (put_place s i (started q n g.call (length s.log)))
+  started_runs w n next g here =
+      let rest = rests_done w in
+      let idle = (run.places i q at).rests rest in
+      let e = ap length run.inv.log_is in
+      let seen = k.seen in
+      let q1 : Place = started q n g.call (length s.log) in
+      placed s run i q at q1
+      (begin_keeps P run.setting s.words s.log (HasActor s.seats s.calls) (HasActor (set s.seats i q1) s.calls) (IsLeft P s.lines) i n (length s.log) A g.call run.inv h rest (run.given (n - 1) g here).in_range (omega (arith, e, seen)) (omega arith)
+      (moves_seats s.seats s.calls s.calls i q1 (actor_begun A n g.call (length s.log)) (slice_get_within s.seats i q at) (λ j ne. refl) refl))
+      (place_started s.calls i q n (length s.log) g (run.places i q at) next here) (omega arith)
+      (lines_still P run.setting s.lines s.seats i q q1 at run.lines (ap (stand_in q.client.setting q.client.registers) idle ∙ sym (has_begun q.client g.call).away) (inr refl))
+
+  same_runs : IsRunning (put_place s i q)
+  same_runs = subst (λ (xs : List Place). IsRunning (record s { seats = xs })) (sym (set_same s.seats i q at)) run
+
+  asked_calls : want_of q.client ≡ want.Done → (n : ℕ) → slice_get q.numbers q.ended ≡ Some n → (o : Option Given) → slice_get s.calls (n - 1) ≡ o → IsRunning (put_place s i (starts s.calls q n (length s.log) o))
+  asked_calls w n next None e = same_runs
+  asked_calls w n next (Some g) e = started_runs w n next g e
+
+  asked_next : want_of q.client ≡ want.Done → (o : Option ℕ) → slice_get q.numbers q.ended ≡ o → IsRunning (put_place s i (starts_next s.calls q (length s.log) o))
+  asked_next w None e = same_runs
+  asked_next w (Some n) e = asked_calls w n e (slice_get s.calls (n - 1)) refl
+
+  asked_by : (w : Want) → want_of q.client ≡ w → IsRunning (put_place s i (asked_in s.calls q (length s.log) w))
+  asked_by want.Done e = asked_next e (slice_get q.numbers q.ended) refl
+  asked_by w e = same_runs
+
+  -- the world with the seat that was asked
+  pub asked_runs : IsRunning (put_place s i (asked s.calls q (length s.log)))
+  asked_runs = asked_by (want_of q.client) refl
+
+-- ---- ends
+
+not_released : (m : Machine) (node : ℕ) (carry : Option ℕ) (after : Then) → has_ended (released m node carry after).phase ≡ false
+not_released m node (Some d) after = refl
+not_released m node None after = refl
+
+not_counted : (m : Machine) (node : ℕ) (carry : Option ℕ) (write : Write) (after : Then) (b : Bool) (x : Machine) → has_ended x.phase ≡ false → has_ended (if b then released (counted m write) node carry after else x).phase ≡ false
+not_counted m node carry write after true x e = not_released (counted m write) node carry after
+not_counted m node carry write after false x e = e
+
+true_false : (b : Bool) → b ≡ true → b ≡ false → ⊥
+true_false b x y = cc
+
+-- a turn that ends a call makes no entry
+ended_makes : (m : Machine) (word : ℕ) (ph : Phase) → has_ended (fed_in m word ph).phase ≡ true → made_in m ph ≡ []
+ended_makes m word (Body carry done giving) e = absurd (true_false (has_ended (fed_in m word (Body carry done giving)).phase) e (not_counted m giving.node carry giving.write giving.after (done + 1 == length m.registers.body) (to m (Body carry (done + 1) giving)) refl))
+ended_makes m word ph e = refl
+
+module _ (s : State) (run : IsRunning s) (i : ℕ) (q : Place) (at : slice_get s.seats i ≡ Some q) where
+  pub event_settles : (e : Event) → want_of q.client ≡ want.Event e → CanSettle s.setting s.log s.calls q (fed_by q.client (found_by s.words e))
+  event_settles e w ended = can_end s run i q at (event_busy s run i q at e w) q.ticket (apply s.words e) s.lines (makes q.client) (fed_by q.client (found_by s.words e)) (fed_keeps q.client (found_by s.words e)).2 (event_step s run i q at e w) ended (ended_makes q.client (found_by s.words e) q.client.phase ended)
+
+  pub leave_settles : (lock : ℕ) → lock < all_locks s.setting → (carry : Option ℕ) → want_of q.client ≡ want.Leave lock carry → CanSettle s.setting s.log s.calls q (fed_by q.client 0)
+  leave_settles lock lt carry w ended = can_end s run i q at (leave_busy s run i q at lock lt carry w) q.ticket s.words _ [] (fed_by q.client 0) (fed_keeps q.client 0).2 (leave_step s run i q at lock lt carry w carry refl) ended refl
+
+-- ---- the world's turn as what its parts do
 
 -- a world that has seats runs
 pub runs : (s : State) (room : ℕ) (kept : ConfigParts) → IsWorld s room kept → s.seats ≢ [] → IsRunning s × (length s.calls < room) × (kept ≡ s.setting)
@@ -41,7 +160,7 @@ module _ (s : State) (run : IsRunning s) (i : ℕ) (q : Place) (at : slice_get s
 
   -- a turn of the one with the seat asked is one of this
   again : (words : List ℕ) (log : List Entry) (x : Place) (calls : List Given) (lines : List Line) → IsRunning (record { setting = s.setting; words = words; log = log; seats = set (set s.seats i R) i x; calls = calls; lines = lines }) → IsRunning (record { setting = s.setting; words = words; log = log; seats = set s.seats i x; calls = calls; lines = lines })
-  again words log x calls lines h = subst (λ (xs : List Place). IsRunning (record { setting = s.setting; words = words; log = log; seats = xs; calls = calls; lines = lines })) (set_again s.seats i R x) h
+  again words log x calls lines h = subst (λ (xs : List Place). IsRunning (record { setting = s.setting; words = words; log = log; seats = xs; calls = calls; lines = lines })) (set-set s.seats i R x) h
 
   took_runs : (w : Want) → want_of R.client ≡ w → IsWithin s.setting w → IsRunning (took s i R w)
   took_runs want.Done e within = run1
@@ -55,16 +174,10 @@ module _ (s : State) (run : IsRunning s) (i : ℕ) (q : Place) (at : slice_get s
   pub turn_runs : IsWithin s.setting (want_of R.client) → IsRunning (turn_of s i)
   turn_runs within = subst IsRunning (sym (turn_is (want_of R.client) refl)) (took_runs (want_of R.client) refl within)
 
-  calls_long : (m : Machine) (x : Place) → length (calls_after s.calls x s.log m) ≡ length s.calls
-  calls_long m x = by_end (has_ended m.phase) where
-    by_end : (b : Bool) → length (if b then answered s.calls (x.number - 1) m.registers.reply (rows_told m) x.first (point_of s.log x.first x.point m.registers.call m.registers.reply) else s.calls) ≡ length s.calls
-    by_end true = length_answered s.calls (x.number - 1) m.registers.reply (rows_told m) x.first (point_of s.log x.first x.point m.registers.call m.registers.reply)
-    by_end false = refl
-
   -- as many calls, in the same setting
   took_long : (w : Want) (lock : Option ℕ) → (length (took_in s i R w lock).calls ≡ length s.calls) × ((took_in s i R w lock).setting ≡ s.setting)
-  took_long w (Some lock) = (calls_long (place_called R (line_of s i lock) w).client (place_called R (line_of s i lock) w), refl)
-  took_long (want.Event x) None = (calls_long (fed_by R.client (found_by s.words x)) R, refl)
+  took_long w (Some lock) = (calls_long s.calls (place_called R (line_of s i lock) w) s.log (place_called R (line_of s i lock) w).client, refl)
+  took_long (want.Event x) None = (calls_long s.calls R s.log (fed_by R.client (found_by s.words x)), refl)
   took_long w None = (refl, refl)
 
   -- a world of the same parts is one, with as much room
@@ -168,13 +281,15 @@ module _ (s : State) (i room : ℕ) (kept : ConfigParts) (r : Place) (w : Want) 
   pub kept_is : (t : State) (new : ℕ) (now : ConfigParts) → t ≡ took s i (asked s.calls a.place (length s.log)) w → new ≡ room → now ≡ kept → IsWorld t new now
   kept_is t new now is same now_is = world_is s a.run i a.place a.here w a.want_is a.within t room new now is a.room_is same (now_is ∙ a.kept_for)
 
+-- a call that ends where its client was fed can end
+fed_can : (s : State) (i room : ℕ) (kept : ConfigParts) (r : Place) (w : Want) (cs : List Given) (lg : List Entry) (word : ℕ) (a : IsAsked s i room kept r w) → cs ≡ s.calls → lg ≡ s.log
+    → (let q = asked s.calls a.place (length s.log) in CanSettle s.setting s.log s.calls q (fed_by q.client word)) → CanSettle kept lg cs r (fed_by r.client word)
+fed_can s i room kept r w cs lg word a cs_is lg_is h = subst (λ (t : Type 0). t) (λ z. CanSettle (sym a.kept_for z) (sym lg_is z) (sym cs_is z) (sym a.asked_is z) (fed_by (sym a.asked_is z).client word)) h
+
 pub event_can : (s : State) (i room : ℕ) (kept : ConfigParts) (r : Place) (e : Event) (cs : List Given) (ws : List ℕ) → IsAsked s i room kept r (want.Event e) → cs ≡ s.calls → ws ≡ s.words → CanSettle kept s.log cs r (fed_by r.client (found_by ws e))
 event_can s i room kept r e cs ws a cs_is ws_is =
-    let h = event_settles (put_place s i (asked s.calls a.place (length s.log))) (run1 s a.run i a.place a.here) i (asked s.calls a.place (length s.log)) (at1 s a.run i a.place a.here) e a.want_is in
-    subst (λ (n : ConfigParts). CanSettle n s.log cs r (fed_by r.client (found_by ws e))) (sym a.kept_for)
-    (subst (λ (x : Place). CanSettle s.setting s.log cs x (fed_by x.client (found_by ws e))) (sym a.asked_is)
-    (subst (λ (v : List ℕ). CanSettle s.setting s.log cs (asked s.calls a.place (length s.log)) (fed_by (asked s.calls a.place (length s.log)).client (found_by v e))) (sym ws_is)
-    (subst (λ (c : List Given). CanSettle s.setting s.log c (asked s.calls a.place (length s.log)) (fed_by (asked s.calls a.place (length s.log)).client (found_by s.words e))) (sym cs_is) h)))
+    let q = asked s.calls a.place (length s.log) in
+    fed_can s i room kept r (want.Event e) cs s.log (found_by ws e) a cs_is refl (subst (λ (v : List ℕ). CanSettle s.setting s.log s.calls q (fed_by q.client (found_by v e))) (sym ws_is) (event_settles (put_place s i q) (run1 s a.run i a.place a.here) i q (at1 s a.run i a.place a.here) e a.want_is))
 
 -- ---- a call on a line
 
@@ -208,22 +323,14 @@ looks_on : (r : Place) (l : Line) (lock : ℕ) → want_of r.client ≡ want.Loo
 looks_on r l lock w true = subst (IsIn lock) (sym (look_stands r.client 0 lock l.left r.client.phase w).2) refl
 looks_on r l lock w false = let x = look_stands r.client l.served lock None r.client.phase w in subst (λ (m : Machine). IsIn lock (stand_of m)) (sym x.1) (subst (IsIn lock) (sym x.0) refl)
 
-leave_can : (s : State) (i room : ℕ) (kept : ConfigParts) (r : Place) (lock : ℕ) (carry : Option ℕ) (cs : List Given) (lg : List Entry) → IsAsked s i room kept r (want.Leave lock carry) → cs ≡ s.calls → lg ≡ s.log → CanSettle kept lg cs r (fed_by r.client 0)
-leave_can s i room kept r lock carry cs lg a cs_is lg_is =
-    let q = asked s.calls a.place (length s.log) in
-    let h = leave_settles (put_place s i q) (run1 s a.run i a.place a.here) i q (at1 s a.run i a.place a.here) lock a.within carry a.want_is in
-    subst (λ (n : ConfigParts). CanSettle n lg cs r (fed_by r.client 0)) (sym a.kept_for)
-    (subst (λ (x : Place). CanSettle s.setting lg cs x (fed_by x.client 0)) (sym a.asked_is)
-    (subst (λ (v : List Entry). CanSettle s.setting v cs q (fed_by q.client 0)) (sym lg_is)
-    (subst (λ (c : List Given). CanSettle s.setting s.log c q (fed_by q.client 0)) (sym cs_is) h)))
-
 -- a call that ends with it can end
 pub call_can : (s : State) (i room : ℕ) (kept : ConfigParts) (r : Place) (w : Want) (lock : ℕ) (l : Line) (cs : List Given) (lg : List Entry) → IsAsked s i room kept r w → wanted_lock w ≡ Some lock → cs ≡ s.calls → lg ≡ s.log → CanSettle kept lg cs (place_called r l w) (place_called r l w).client
 call_can s i room kept r (want.Draw n) lock l cs lg a e cs_is lg_is = λ ended. absurd (in_line_goes (fed_by r.client l.next) n (subst (IsIn n) (sym (draw_stands r.client l.next n r.client.phase (wants s i room kept r _ a)).1) refl) ended)
 call_can s i room kept r (want.Look n) lock l cs lg a e cs_is lg_is = λ ended. absurd (in_line_goes (looked_client r l) n (looks_on r l n (wants s i room kept r _ a) (l.served == r.ticket)) ended)
 call_can s i room kept r (want.Waiting n) lock l cs lg a e cs_is lg_is = λ ended. absurd (in_line_goes (fed_by r.client (behind l r.ticket)) n (may_be n (behind l r.ticket) _ (count_stands r.client (behind l r.ticket) n r.client.phase (wants s i room kept r _ a)).1) ended)
 call_can s i room kept r (want.Leave n carry) lock l cs lg a e cs_is lg_is = λ ended.
-    let x = leave_can s i room kept r n carry cs lg a cs_is lg_is ended in
+    let q = asked s.calls a.place (length s.log) in
+    let x = fed_can s i room kept r _ cs lg 0 a cs_is lg_is (leave_settles (put_place s i q) (run1 s a.run i a.place a.here) i q (at1 s a.run i a.place a.here) n a.within carry a.want_is) ended in
     record { legal = x.legal; real = x.real; call = x.call; waits = x.waits; point = x.point; wide = x.wide; rows = x.rows; keys = x.keys; values = x.values; first = x.first; place = x.place; few = x.few; ended = x.ended }
 call_can s i room kept r w lock l cs lg a e cs_is lg_is = cc
 

@@ -1,6 +1,7 @@
 -- The calls of a world in columns: a small record of each; behind one another the words of its value and of its reply's
 -- value, all values of one width; and behind one another the rows of the ranges that have ended.
 use Rattle.std.specs.Prelude.{◌≡◌, ℕ, zero, suc, ◌+◌, ◌-◌, ◌*◌, ◌≤◌, min, List, [], ◌∷◌, length, take, drop, slice_index, Option, None, Some}
+use Rattle.std.specs.List.{AllByRecursion}
 use Rattle.sh_base.specs.declared.config.ConfigParts.{ConfigParts}
 use Rattle.sh_map.specs.declared.{call.{Call.{Call}, Reply.{Reply}}, book.Row.{Row}}
 use Rattle.sh_map.specs.declared.call.Call.TheVariants as call
@@ -70,10 +71,12 @@ abbrev pub owed_words : ConfigParts → List Given → ℕ
 owed_words p [] = 0
 owed_words p (g ∷ calls) = owed_by p g g.reply + owed_words p calls
 
--- the rows of these calls lie before this end
+-- the rows of a call, and of these calls, lie before this end
+abbrev pub LiesBefore : (width end : ℕ) → Kept → Type 0
+LiesBefore width end k = k.start + k.count * (width + 1) ≤ end
+
 abbrev pub AreInside : (width end : ℕ) → List Kept → Type 0
-AreInside width end [] = Unit {0}
-AreInside width end (k ∷ kept) = (k.start + k.count * (width + 1) ≤ end) × AreInside width end kept
+AreInside width end kept = AllByRecursion (LiesBefore width end) kept
 
 -- Each call has the words of two values. The column of rows has room for all rows that are still to come.
 pub record AreColumns (p : ConfigParts) (kept : List Kept) (words rows : List ℕ) (owed room : ℕ) : Type 0 where
@@ -116,12 +119,6 @@ kind_of (call.Get key) = Get
 kind_of (call.Put key value) = Put
 kind_of (call.Del key) = Del
 kind_of (call.Range low high) = Range
-
-abbrev pub key_of : Call → ℕ
-key_of (call.Get key) = key
-key_of (call.Put key value) = key
-key_of (call.Del key) = key
-key_of (call.Range low high) = low
 
 abbrev pub reply_kind_of : Reply → ReplyKind
 reply_kind_of (reply.Some value) = kind.Some

@@ -1,26 +1,20 @@
 -- What holds of a world after any turns.
-use Rattle.std.specs.Prelude.{◌≡◌, ◌⊎◌, ℕ, ◌+◌, ◌-◌, ◌^◌, ◌<◌, ◌≤◌, ◌==◌, if◌then◌else◌, true, false, List, [], ◌∷◌, length, slice_get, Option, None, Some}
+use Rattle.std.specs.Prelude.{◌≡◌, ◌⊎◌, ℕ, ◌+◌, ◌-◌, ◌^◌, ◌<◌, ◌≤◌, ◌==◌, if◌then◌else◌, true, false, List, [], ◌∷◌, length, slice_get, None, Some}
 use Rattle.sh_base.specs.{declared.config.ConfigParts.{ConfigParts}, Setting.{all_seats, IsSetting}}
-use Rattle.sh_map.specs.{declared.{call.{Call.{Call, TheVariants.{Get, Del}}, Reply.{Reply}}, log.Entry.{Entry}}, Calls.{IsInRange}, Map.{get}, Log.{map_at}}
-use Rattle.sh_map.specs.declared.call.Reply.TheVariants as reply
+use Rattle.sh_map.specs.{declared.{call.{Call.{TheVariants.{Get, Del}, Call}, Reply.{Reply}}, log.Entry.{Entry}}, Calls.{IsInRange}}
 use Rattle.sh_client.specs.{declared.state.Phase.TheVariants.{Idle}, Rests.{is_resting}}
+use Rattle.sh_readers.specs.Points.{HadSince}
 use Rattle.sh_core.specs.Core.{Inv}
 use Rattle.sh_world.specs.{States.{Given, Place, State, dones_by, dones_of, HasActor, IsBlank, IsLeft}, Lines.{AreLines}}
+use Rattle.sh_map.specs.declared.call.Reply.TheVariants as reply
 
 -- ---- points
 
--- the map had this at the key at some point from first on
-pub record HadAt (log : List Entry) (first key : ℕ) (had : Option (List ℕ)) : Type 0 where
-  pub at : ℕ
-  pub from : first ≤ at
-  pub within : at ≤ length log
-  pub here : get (map_at log at) key ≡ had
-
 -- a get, and a delete that found nothing, has a point
 abbrev pub HasPoint : List Entry → (first : ℕ) → Call → Reply → Type 0
-HasPoint log first (Get key) (reply.Some value) = HadAt log first key (Some value)
-HasPoint log first (Get key) reply.None = HadAt log first key None
-HasPoint log first (Del key) reply.None = HadAt log first key None
+HasPoint log first (Get key) (reply.Some value) = HadSince log first key (Some value)
+HasPoint log first (Get key) reply.None = HadSince log first key None
+HasPoint log first (Del key) reply.None = HadSince log first key None
 HasPoint log first call reply = Unit {0}
 
 -- ---- calls

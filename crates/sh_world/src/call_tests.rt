@@ -9,15 +9,17 @@ use std::alloc::{AllocError, Global};
 
 const LAST: u64 = u64::MAX;
 
-// A value of eight words, of which this is the first.
-fn eight(first: u64) -> Value
-    ensures { length result ≡ 8 }
+// A value of so many words, of which this is the first.
+fn value(width: usize, first: u64) -> Value
+    requires low { 1 ≤ width }
+    requires high { width ≤ 8 }
+    ensures { length result ≡ width }
 {
-    Value::of(&[first, 2, 3, 4, 5, 6, 7, LAST])
+    Value::of(&[first, 2, 3, 4, 5, 6, 7, LAST][..width])
 }
 
-fn is_eight(value: &Value, first: u64) -> bool {
-    value.words() == [first, 2, 3, 4, 5, 6, 7, LAST].as_slice()
+fn is_eight(given: &Value, first: u64) -> bool {
+    given.words() == value(8, first).words()
 }
 
 // A setting whose values have so many words, and whose ranges have three rows at most.
@@ -41,7 +43,7 @@ fn four(alloc: Global) -> Result<Calls, AllocError>
         return Err(AllocError);
     };
     let mut calls = Calls::new(alloc, &cfg);
-    let value = eight(40);
+    let value = value(8, 40);
     calls.push(7, &Call::Put { key: 1, value })?;
     calls.push(7, &Call::Get { key: 2 })?;
     calls.push(7, &Call::Del { key: LAST })?;
@@ -63,7 +65,7 @@ fn reply_of(kind: char) -> Reply
     ensures { IsReplyWide 8 result }
 {
     match kind {
-        's' => Reply::Some(eight(LAST)),
+        's' => Reply::Some(value(8, LAST)),
         'r' => Reply::Rows { upto: LAST },
         'f' => Reply::Full,
         'w' => Reply::Worn { version: 65_535 },
@@ -71,12 +73,11 @@ fn reply_of(kind: char) -> Reply
     }
 }
 
-// Whether a call was answered so: `s` for some with its value's first word, `n` for none, `r`, `f` and `w` for the
-// others, and `-` for not yet.
-fn is_reply(reply: &Option<Reply>, kind: char, first: u64) -> bool {
+// Whether a call was answered so: `s` for some, `n` for none, `r`, `f` and `w` for the others, and `-` for not yet.
+fn is_reply(reply: &Option<Reply>, kind: char) -> bool {
     match reply {
         None => kind == '-',
-        Some(Reply::Some(value)) => kind == 's' && is_eight(value, first),
+        Some(Reply::Some(value)) => kind == 's' && is_eight(value, LAST),
         Some(Reply::None) => kind == 'n',
         Some(Reply::Rows { upto }) => kind == 'r' && *upto == LAST,
         Some(Reply::Full) => kind == 'f',
@@ -84,28 +85,19 @@ fn is_reply(reply: &Option<Reply>, kind: char, first: u64) -> bool {
     }
 }
 
-// Whether the call at this place is that of the place, with this answer and these numbers.
-fn stands(calls: &Calls, place: usize, kind: char, first: u32, point: u32) -> bool {
-    if place >= calls.len() {
-        return false;
-    }
-    let given = calls.get(place);
-    given.seat == 7
-        && is_given(&given.call, place)
-        && is_reply(&given.reply, kind, LAST)
-        && given.first == first
-        && given.point == point
-}
-
 // Whether all four stand, this one answered and the others not.
 fn stand(calls: &Calls, answered: usize, kind: char) -> bool {
     for place in 0..4 {
+        if place >= calls.len() {
+            return false;
+        }
+        let given = calls.get(place);
         let right = if place == answered {
-            stands(calls, place, kind, 3, u32::MAX)
+            is_reply(&given.reply, kind) && given.first == 3 && given.point == u32::MAX
         } else {
-            stands(calls, place, '-', 0, 0)
+            is_reply(&given.reply, '-') && given.first == 0 && given.point == 0
         };
-        if !right {
+        if !right || given.seat != 7 || !is_given(&given.call, place) {
             return false;
         }
     }
@@ -138,15 +130,6 @@ fn replies_stand(alloc: Global) -> Result<bool, AllocError> {
 #[test]
 fn calls_of_each_kind_are_answered_by_each_reply(rt: HostRuntime) {
     assert!(rt; replies_stand(rt.alloc()).unwrap_or(false));
-}
-
-// A value of so many words, of which this is the first.
-fn value(width: usize, first: u64) -> Value
-    requires low { 1 ≤ width }
-    requires high { width ≤ 8 }
-    ensures { length result ≡ width }
-{
-    Value::of(&[first, 2, 3, 4, 5, 6, 7, LAST][..width])
 }
 
 // A row whose value's first word is twice the key.

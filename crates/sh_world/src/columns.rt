@@ -1,13 +1,15 @@
 // The calls of a world: they join its columns, are read and are answered.
 ghost use Rattle.std.specs.{Prelude.{◌≡◌, ◌+◌, ◌<◌, ◌≤◌, ◌++◌, ◌∷◌, [], OnOk, OnErr, None, Some, length, slice_get, take, drop}, List.{All}};
 ghost use Rattle.sh_base.specs.Parts.{parts_of};
+ghost use Rattle.sh_decide.specs.Aims.{call_key};
 ghost use Rattle.sh_world.specs.States.{answered, fresh_call, rows_at, with_rows, Given};
-ghost use Rattle.sh_world.specs.Columns.{call_of, key_of, keys_of, kind_of, reply_kind_of, reply_read, IsCallWide, IsReplyWide, IsRowWide, IsWritten};
+ghost use Rattle.sh_world.specs.Columns.{call_of, keys_of, kind_of, reply_kind_of, reply_read, IsCallWide, IsReplyWide, IsRowWide, IsWritten};
 
 use crate::calls::{CallKind, Kept, ReplyKind};
 use crate::rows::{push_rows, room_words};
 use crate::{Calls, GivenCall};
 use sh_base::{Config, Value};
+use sh_decide::call_key;
 use sh_map::{Call, Reply, Row};
 use std::alloc::{AllocError, Global};
 
@@ -20,18 +22,6 @@ fn kind_of(call: &Call) -> CallKind
         Call::Put { .. } => CallKind::Put,
         Call::Del { .. } => CallKind::Del,
         Call::Range { .. } => CallKind::Range,
-    }
-}
-
-// Its key, or a range's begin.
-fn key_of(call: &Call) -> u64
-    ensures { result ≡ key_of call.now }
-{
-    match *call {
-        Call::Get { key } => key,
-        Call::Put { key, .. } => key,
-        Call::Del { key } => key,
-        Call::Range { low, .. } => low,
     }
 }
 
@@ -73,7 +63,7 @@ fn call_words(call: &Call, width: usize) -> [u64; 16]
     requires high { width ≤ 8 }
     requires wide { IsCallWide width call.now }
     ensures length { length result ≡ 16 }
-    ensures back { call_of (kind_of call.now) (key_of call.now) (take width result) ≡ call.now }
+    ensures back { call_of (kind_of call.now) (call_key call.now) (take width result) ≡ call.now }
 {
     match call {
         Call::Put { value, .. } => padded(value),
@@ -197,7 +187,7 @@ impl Calls {
         self.rows.reserve(owed)?;
         self.words.extend_from_slice(&words[..2 * width])?;
         self.kept.push_reserved(Kept {
-            key: key_of(call),
+            key: call_key(call),
             seat,
             first: 0,
             point: 0,

@@ -1,7 +1,8 @@
 // The point at which a call is answered.
 ghost use Rattle.std.specs.Prelude.{◌≡◌, ◌↔◌, ◌≤◌, IsTrue, length};
 ghost use Rattle.sh_map.specs.{Log.{IsLegal}, Points.{least_point, point_of}};
-ghost use Rattle.sh_world.specs.Running.{HadAt, HasPoint};
+ghost use Rattle.sh_readers.specs.Points.{HadSince};
+ghost use Rattle.sh_world.specs.Running.{HasPoint};
 
 use sh_base::Value;
 use sh_map::{Call, Entry, Reply};
@@ -21,7 +22,7 @@ fn same(a: &Option<Value>, b: &Option<Value>) -> bool
 // the key show where: each tells what the map had before it.
 fn least_point(log: &[Entry], first: u64, key: u64, had: &Option<Value>) -> u64
     requires legal { IsLegal log.now }
-    requires had { HadAt log.now first key had.now }
+    requires had { HadSince log.now first key had.now }
     ensures { result ≡ least_point log.now first key had.now }
 {
     let mut start = first;

@@ -1,5 +1,5 @@
 // The rows of ranges, in their column.
-ghost use Rattle.std.specs.Prelude.{◌≡◌, ◌+◌, ◌*◌, ◌<◌, ◌≤◌, ◌++◌, Some, IfOk, length, slice_get, vec_len};
+ghost use Rattle.std.specs.Prelude.{◌≡◌, ◌+◌, ◌*◌, ◌<◌, ◌≤◌, ◌++◌, Some, IfOk, length, slice_get, slice_index_or, take, drop, vec_len};
 ghost use Rattle.std.specs.{List.{flat_map, All}, Vec.{vec_capacity}};
 ghost use Rattle.sh_base.specs.Parts.{parts_of};
 ghost use Rattle.sh_world.specs.{States.{rows_at}, Columns.{keys_of, room_of, row_words, IsRowWide}};
@@ -64,6 +64,22 @@ pub(crate) fn push_rows(words: &mut Vec<u64>, rows: &[Row], width: usize)
     }
 }
 
+// The row behind so many others among the words of a call's rows. Conditions: values of 1 to 8 words, and it ends among
+// them.
+fn row_in(words: &[u64], start: usize, row: u32, width: usize) -> Row
+    requires low { 1 ≤ width }
+    requires high { width ≤ 8 }
+    requires within { start + row * (width + 1) + (width + 1) ≤ length words.now }
+    ensures key { result.key ≡ slice_index_or words.now (start + row * (width + 1)) result.key }
+    ensures value { result.value ≡ take width (drop (start + row * (width + 1) + 1) words.now) }
+{
+    let at = start + row as usize * (width + 1);
+    Row {
+        key: words[at],
+        value: Value::of(&words[at + 1..at + 1 + width]),
+    }
+}
+
 impl Calls {
     /// How many rows a call has: none, but a range that has ended. Condition: the index is below the calls' number.
     pub fn rows(&self, index: usize) -> u32
@@ -83,11 +99,7 @@ impl Calls {
     {
         prove!(index < self.kept.len());
         let width = self.cfg.value_words() as usize;
-        let at = self.kept[index].start + row as usize * (width + 1);
-        Row {
-            key: self.rows[at],
-            value: Value::of(&self.rows[at + 1..at + 1 + width]),
-        }
+        row_in(&self.rows, self.kept[index].start, row, width)
     }
 
     // A call's rows. Condition: the index is below the calls' number.

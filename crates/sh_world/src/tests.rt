@@ -144,12 +144,9 @@ fn push_tally(text: &mut String, world: &World, seat: u32) -> Result<(), AllocEr
         return Ok(());
     }
     let tally = world.tally(seat);
+    let (handed, skipped) = (tally.handed, tally.skipped_spent);
     write!(text, " again {} splits {}", tally.again, tally.splits)?;
-    write!(
-        text,
-        " handed {} skipped {}",
-        tally.handed, tally.skipped_spent
-    )?;
+    write!(text, " handed {handed} skipped {skipped}")?;
     write!(text, " rewritten {}", tally.rewritten)
 }
 
@@ -159,12 +156,8 @@ fn leaves(alloc: Global, parts: ConfigParts, sheet: &[u8], told: &str) -> Result
     let world = served(alloc, parts, sheet)?;
     let mut text = String::new(alloc);
     push_tree(&mut text, &world)?;
-    write!(
-        text,
-        " chunks {} log {}",
-        word(&world, 2),
-        world.log().len()
-    )?;
+    let (chunks, log) = (word(&world, 2), world.log().len());
+    write!(text, " chunks {chunks} log {log}")?;
     push_tally(&mut text, &world, 0)?;
     Ok(text.as_str().contains(told))
 }
@@ -224,13 +217,16 @@ fn count(world: &mut World, seat: u32) -> u64 {
     1000
 }
 
+// The seats of the calls that are counted.
+const SEATS: [u32; 8] = [0, 0, 1, 1, 0, 0, 0, 0];
+
 // Whether the calls of these seats, one after another, take so many turns, behind the sheet's turn rows; and how many of
 // seat 0's calls began at a cached node then.
 fn takes_turns(
     alloc: Global,
     cached: u32,
     sheet: &[u8],
-    told: &[(u32, u64)],
+    told: &[u64; 8],
     from_cache: u64,
 ) -> Result<bool, AllocError> {
     let parts = ConfigParts {
@@ -238,8 +234,8 @@ fn takes_turns(
         ..small(4, 8)
     };
     let mut world = begun(alloc, parts, sheet)?;
-    for (seat, turns) in told {
-        if count(&mut world, *seat) != *turns {
+    for call in 0..8 {
+        if count(&mut world, SEATS[call]) != told[call] {
             return Ok(false);
         }
     }
@@ -252,26 +248,8 @@ const SIX_MORE: &[u8] = b"put,0,10,1\nput,0,20,2\nput,0,30,3\nput,0,40,4\nput,0,
 #[test]
 fn cached_nodes_save_turns(rt: HostRuntime) {
     let alloc = rt.alloc();
-    let cached = [
-        (0, 47),
-        (0, 23),
-        (1, 57),
-        (1, 153),
-        (0, 46),
-        (0, 47),
-        (0, 33),
-        (0, 69),
-    ];
-    let none = [
-        (0, 47),
-        (0, 47),
-        (1, 57),
-        (1, 177),
-        (0, 47),
-        (0, 47),
-        (0, 57),
-        (0, 93),
-    ];
+    let cached = [47, 23, 57, 153, 46, 47, 33, 69];
+    let none = [47, 47, 57, 177, 47, 47, 57, 93];
     assert!(rt; takes_turns(alloc, 4, SIX_MORE, &cached, 4) == Ok(true));
     assert!(rt; takes_turns(alloc, 0, SIX_MORE, &none, 0) == Ok(true));
 }
@@ -325,12 +303,8 @@ fn lock_shows(alloc: Global, told: &str) -> Result<bool, AllocError> {
         }
     }
     if world.seats() == 6 {
-        write!(
-            text,
-            "handed {} {}",
-            world.tally(0).handed,
-            world.tally(3).handed
-        )?;
+        let (first, second) = (world.tally(0).handed, world.tally(3).handed);
+        write!(text, "handed {first} {second}")?;
     }
     Ok(text.as_str() == told)
 }

@@ -1,6 +1,6 @@
 use Rattle.std.proofs.Common.{[]}
 use Rattle.sh_core.specs.Listed.{HasAt, OutAt}
-use Rattle.sh_core_says.proofs.{Refusals.{refusals_have_causes}, Books.{books_are_lawful, calls_are_answered}, Moments.{each_moment}, AtRest.{at_rest}}
+use Rattle.sh_core_says.proofs.{Books.{refusals_have_causes, books_are_lawful, calls_are_answered}, Moments.{each_moment}, AtRest.{at_rest}}
 use Rattle.sh_core_says.proofs.trees_and_books.Goals as goal
 
 pub returns-clause-moment : goal.returns-clause-moment

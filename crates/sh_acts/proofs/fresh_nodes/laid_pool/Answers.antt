@@ -1,4 +1,4 @@
-use Rattle.sh_acts.{specs.Counters.{IsAmong}, proofs.{Late.{bounded_begin}, LaidLemmas.{laid_ground}}}
+use Rattle.sh_acts.{specs.Counters.{IsAmong}, proofs.Own.{bounded_begin, laid_ground}}
 use Rattle.sh_acts.proofs.fresh_nodes.laid_pool.Goals as goal
 
 pub returns-clause-scene : goal.returns-clause-scene

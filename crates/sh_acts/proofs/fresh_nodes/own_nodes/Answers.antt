@@ -2,7 +2,7 @@ use Rattle.std.proofs.Common.{ℕ, ◌+◌, ◌*◌, ◌<◌, ◌≤◌, List, s
 use Rattle.std.{specs.Prelude.{◌^◌}, proofs.lemmas.Nat.{mul-le}}
 use Rattle.sh_base.specs.Places.{Counter}
 use Rattle.sh_state.specs.{Ground.{Ground}, Change.{Change}}
-use Rattle.sh_acts.{specs.{Acts.{counted, drawn}, Counters.{IsAmong}}, proofs.{Own.{fresh_act, spent_act, draw_act, drawn_mine}, Events.{added}, Late.{bounded, raises}}}
+use Rattle.sh_acts.{specs.{Acts.{counted, drawn}, Counters.{IsAmong}}, proofs.{Own.{fresh_act, spent_act, draw_act, drawn_mine, bounded, raises}, Events.{added}}}
 use Rattle.sh_acts.proofs.fresh_nodes.own_nodes.Goals as goal
 
 pub returns-clause-filled : goal.returns-clause-filled

@@ -1,7 +1,7 @@
 use Rattle.std.proofs.Common.{ℕ, List, sym, subst, ◌∙◌}
 use Rattle.sh_base.specs.Places.{Root}
 use Rattle.sh_state.specs.{Ground.{Ground}, Change.{Change}}
-use Rattle.sh_acts.{specs.Acts.{grown}, proofs.{Posts.{skip_act}, Roots.{taller, root_act}, Events.{exchanged, not_exchanged}}}
+use Rattle.sh_acts.{specs.Acts.{grown}, proofs.{Holds.{skip_act, taller, root_act}, Events.{exchanged, not_exchanged}}}
 use Rattle.sh_acts.proofs.locks.posts_and_roots.Goals as goal
 
 pub returns-clause-skipped : goal.returns-clause-skipped

@@ -1,4 +1,4 @@
-use Rattle.sh_acts.proofs.{LeafEnds.{bound_of}, InnerEnds.{unique, is_new, pair_end, inner_split_end}}
+use Rattle.sh_acts.proofs.Ends.{bound_of, unique, is_new, pair_end, inner_split_end}
 use Rattle.sh_acts.proofs.writes.inner_writes_end.Goals as goal
 
 pub returns-clause-once : goal.returns-clause-once

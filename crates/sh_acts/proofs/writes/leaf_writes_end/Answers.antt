@@ -1,4 +1,4 @@
-use Rattle.sh_acts.proofs.LeafEnds.{bound_of, entry_end, rewritten_end, leaf_split_end}
+use Rattle.sh_acts.proofs.Ends.{bound_of, entry_end, rewritten_end, leaf_split_end}
 use Rattle.sh_acts.proofs.writes.leaf_writes_end.Goals as goal
 
 pub returns-clause-entry : goal.returns-clause-entry

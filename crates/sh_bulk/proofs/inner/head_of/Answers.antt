@@ -1,66 +1,24 @@
-use Rattle.std.proofs.Common.{◌≡◌, suc, ◌+◌, ◌∙◌, [], ap, sym, length, arith}
-use Rattle.sh_base.proofs.LayoutLemmas.{nodes_small}
-use Rattle.sh_bulk.{specs.Nodes.{low_in, next_in, taken_by}, proofs.{LevelLemmas.{inner_next, inner_last}, RowLemmas.{high_last, high_more, next_last, next_more}}}
-use Rattle.sh_bulk.proofs.ShapeLemmas.{child_begins, first_above, some_node, within_need}
+use Rattle.std.proofs.Common.{◌≡◌, suc, ◌+◌, ◌∙◌, [], ap, sym, refl, arith}
+use Rattle.sh_bulk.{specs.Nodes.{low_in, next_in, taken_by}, proofs.{LevelLemmas.{inner_next, inner_last, over}, RowLemmas.{high_last, high_more, next_last, next_more}}}
 use Rattle.sh_bulk.proofs.inner.head_of.Goals as goal
 
 pub low_of-low-requires-clause-node : goal.low_of-low-requires-clause-node
-low_of-low-requires-clause-node c = omega (arith, c.requires.from, c.requires.level.count_is, child_begins c.args.cfg.now.parts c.args.cfg.now.lawful (length c.args.rows.now) c.args.below.number c.args.j c.requires.node)
+low_of-low-requires-clause-node c = omega (arith, c.requires.from, over _ _ _ c.args.j _ c.args.cfg.now.lawful c.requires.room c.requires.level c.requires.node refl)
 
 pub overflow_add-level : goal.overflow_add-level
-overflow_add-level c =
-    let p = c.args.cfg.now.parts in
-    let lawful = c.args.cfg.now.lawful in
-    let n = length c.args.rows.now in
-    let l = c.args.below in
-    let this = within_need p lawful n l.number (omega (arith, c.requires.level.below)) in
-    let up = within_need p lawful n (suc l.number) (omega (arith, c.requires.level.below)) in
-    let few = nodes_small p lawful in
-    omega (arith, this, up, few, first_above p lawful n l.number, some_node p lawful n (suc l.number), c.requires.room, c.requires.level.first_is, c.requires.level.count_is)
+overflow_add-level c = omega (arith, over _ _ _ c.args.j _ c.args.cfg.now.lawful c.requires.room c.requires.level c.requires.node refl)
 
 pub overflow_add-next : goal.overflow_add-next
-overflow_add-next c =
-    let p = c.args.cfg.now.parts in
-    let lawful = c.args.cfg.now.lawful in
-    let n = length c.args.rows.now in
-    let l = c.args.below in
-    let this = within_need p lawful n l.number (omega (arith, c.requires.level.below)) in
-    let up = within_need p lawful n (suc l.number) (omega (arith, c.requires.level.below)) in
-    let few = nodes_small p lawful in
-    omega (arith, this, up, few, first_above p lawful n l.number, some_node p lawful n (suc l.number), c.requires.room, c.requires.level.first_is, c.requires.level.count_is)
+overflow_add-next c = omega (arith, over _ _ _ c.args.j _ c.args.cfg.now.lawful c.requires.room c.requires.level c.requires.node refl)
 
 pub overflow_add-next-then-to-below : goal.overflow_add-next-then-to-below
-overflow_add-next-then-to-below c =
-    let p = c.args.cfg.now.parts in
-    let lawful = c.args.cfg.now.lawful in
-    let n = length c.args.rows.now in
-    let l = c.args.below in
-    let this = within_need p lawful n l.number (omega (arith, c.requires.level.below)) in
-    let up = within_need p lawful n (suc l.number) (omega (arith, c.requires.level.below)) in
-    let few = nodes_small p lawful in
-    omega (arith, this, up, few, first_above p lawful n l.number, some_node p lawful n (suc l.number), c.requires.room, c.requires.level.first_is, c.requires.level.count_is, c.requires.node)
+overflow_add-next-then-to-below c = omega (arith, over _ _ _ c.args.j _ c.args.cfg.now.lawful c.requires.room c.requires.level c.requires.node refl)
 
 pub overflow_add-next-then-to-below-2 : goal.overflow_add-next-then-to-below-2
-overflow_add-next-then-to-below-2 c =
-    let p = c.args.cfg.now.parts in
-    let lawful = c.args.cfg.now.lawful in
-    let n = length c.args.rows.now in
-    let l = c.args.below in
-    let this = within_need p lawful n l.number (omega (arith, c.requires.level.below)) in
-    let up = within_need p lawful n (suc l.number) (omega (arith, c.requires.level.below)) in
-    let few = nodes_small p lawful in
-    omega (arith, this, up, few, first_above p lawful n l.number, some_node p lawful n (suc l.number), c.requires.room, c.requires.level.first_is, c.requires.level.count_is, c.requires.node)
+overflow_add-next-then-to-below-2 c = omega (arith, over _ _ _ c.args.j _ c.args.cfg.now.lawful c.requires.room c.requires.level c.requires.node refl)
 
 pub overflow_cast-next : goal.overflow_cast-next
-overflow_cast-next c =
-    let p = c.args.cfg.now.parts in
-    let lawful = c.args.cfg.now.lawful in
-    let n = length c.args.rows.now in
-    let l = c.args.below in
-    let this = within_need p lawful n l.number (omega (arith, c.requires.level.below)) in
-    let up = within_need p lawful n (suc l.number) (omega (arith, c.requires.level.below)) in
-    let few = nodes_small p lawful in
-    omega (arith, this, up, few, first_above p lawful n l.number, some_node p lawful n (suc l.number), c.requires.room, c.requires.level.first_is, c.requires.level.count_is, c.requires.node)
+overflow_cast-next c = omega (arith, over _ _ _ c.args.j _ c.args.cfg.now.lawful c.requires.room c.requires.level c.requires.node refl)
 
 pub returns-then-to-below : goal.returns-then-to-below
 returns-then-to-below c =

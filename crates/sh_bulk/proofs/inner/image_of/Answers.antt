@@ -1,68 +1,23 @@
 use Rattle.std.proofs.Common.{◌≡◌, ◌+◌, ◌-◌, ◌*◌, ◌∙◌, ◌++◌, ◌∷◌, [], ap, sym, length, map, arith}
 use Rattle.std.{specs.List.{range_with_len}, proofs.lemmas.List.FromFn.{length-map-range_with_len, map-range_with_len_more}}
-use Rattle.sh_base.proofs.LayoutLemmas.{nodes_small}
-use Rattle.sh_bulk.{specs.{Shape.{count_in, inner_fill}, Nodes.{inner_of, pair_to, taken_by}}, proofs.ShapeLemmas.{child_begins, within_need}}
+use Rattle.sh_bulk.{specs.{Nodes.{inner_of, pair_to, taken_by}}, proofs.{LevelLemmas.{over}, ShapeLemmas.{child_begins}}}
 use Rattle.sh_bulk.proofs.inner.image_of.Goals as goal
 
 pub overflow_mul-from : goal.overflow_mul-from
-overflow_mul-from c =
-    let p = c.args.cfg.now.parts in
-    let lawful = c.args.cfg.now.lawful in
-    let n = length c.args.rows.now in
-    let l = c.args.below in
-    let this = within_need p lawful n l.number (omega (arith, c.requires.level.below)) in
-    let few = nodes_small p lawful in
-    let start = child_begins p lawful n l.number c.args.j c.requires.node in
-    let at = ap (λ f. c.args.j * f) c.inner_fill-fill.ensures.fill in
-    omega (arith, this, few, start, at, c.inner_fill-fill.ensures, c.requires.room, c.requires.level.first_is, c.requires.level.count_is)
+overflow_mul-from c = omega (arith, c.inner_fill-fill.ensures.high, over _ _ _ c.args.j _ c.args.cfg.now.lawful c.requires.room c.requires.level c.requires.node c.inner_fill-fill.ensures.fill)
 
 pub overflow_add-from : goal.overflow_add-from
-overflow_add-from c =
-    let p = c.args.cfg.now.parts in
-    let lawful = c.args.cfg.now.lawful in
-    let n = length c.args.rows.now in
-    let l = c.args.below in
-    let this = within_need p lawful n l.number (omega (arith, c.requires.level.below)) in
-    let few = nodes_small p lawful in
-    let start = child_begins p lawful n l.number c.args.j c.requires.node in
-    let at = ap (λ f. c.args.j * f) c.inner_fill-fill.ensures.fill in
-    omega (arith, this, few, start, at, c.inner_fill-fill.ensures, c.requires.room, c.requires.level.first_is, c.requires.level.count_is)
+overflow_add-from c = omega (arith, c.inner_fill-fill.ensures.high, over _ _ _ c.args.j _ c.args.cfg.now.lawful c.requires.room c.requires.level c.requires.node c.inner_fill-fill.ensures.fill)
+
+pub overflow_add-below : goal.overflow_add-below
+overflow_add-below c = omega (arith, c.inner_fill-fill.ensures.high, over _ _ _ c.args.j _ c.args.cfg.now.lawful c.requires.room c.requires.level c.requires.node c.inner_fill-fill.ensures.fill)
+
+pub overflow_cast-below : goal.overflow_cast-below
+overflow_cast-below c = omega (arith, c.inner_fill-fill.ensures.high, over _ _ _ c.args.j _ c.args.cfg.now.lawful c.requires.room c.requires.level c.requires.node c.inner_fill-fill.ensures.fill)
 
 pub head_of-image-requires-clause-to : goal.head_of-image-requires-clause-to
 head_of-image-requires-clause-to c =
-    let p = c.args.cfg.now.parts in
-    let lawful = c.args.cfg.now.lawful in
-    let n = length c.args.rows.now in
-    let l = c.args.below in
-    let this = within_need p lawful n l.number (omega (arith, c.requires.level.below)) in
-    let few = nodes_small p lawful in
-    let start = child_begins p lawful n l.number c.args.j c.requires.node in
-    let at = ap (λ f. c.args.j * f) c.inner_fill-fill.ensures.fill in
-    omega (arith, this, few, start, at, c.inner_fill-fill.ensures, c.requires.room, c.requires.level.first_is, c.requires.level.count_is)
-
-pub overflow_add-below : goal.overflow_add-below
-overflow_add-below c =
-    let p = c.args.cfg.now.parts in
-    let lawful = c.args.cfg.now.lawful in
-    let n = length c.args.rows.now in
-    let l = c.args.below in
-    let this = within_need p lawful n l.number (omega (arith, c.requires.level.below)) in
-    let few = nodes_small p lawful in
-    let start = child_begins p lawful n l.number c.args.j c.requires.node in
-    let at = ap (λ f. c.args.j * f) c.inner_fill-fill.ensures.fill in
-    omega (arith, this, few, start, at, c.inner_fill-fill.ensures, c.requires.room, c.requires.level.first_is, c.requires.level.count_is)
-
-pub overflow_cast-below : goal.overflow_cast-below
-overflow_cast-below c =
-    let p = c.args.cfg.now.parts in
-    let lawful = c.args.cfg.now.lawful in
-    let n = length c.args.rows.now in
-    let l = c.args.below in
-    let this = within_need p lawful n l.number (omega (arith, c.requires.level.below)) in
-    let few = nodes_small p lawful in
-    let start = child_begins p lawful n l.number c.args.j c.requires.node in
-    let at = ap (λ f. c.args.j * f) c.inner_fill-fill.ensures.fill in
-    omega (arith, this, few, start, at, c.inner_fill-fill.ensures, c.requires.room, c.requires.level.first_is, c.requires.level.count_is)
+    let at = ap (λ f. c.args.j * f) c.inner_fill-fill.ensures.fill in omega (arith, at, c.inner_fill-fill.ensures.fill, c.requires.level.count_is, over _ _ _ c.args.j _ c.args.cfg.now.lawful c.requires.room c.requires.level c.requires.node c.inner_fill-fill.ensures.fill)
 
 pub push-requires : goal.push-requires
 push-requires c =

@@ -1,4 +1,4 @@
-use Rattle.sh_core_says.proofs.{Trees.{holds_tree}, Counts.{skipped_are, top_is, all_free, free_words}}
+use Rattle.sh_core_says.proofs.{Trees.{holds_tree}, AtRest.{skipped_are, top_is, all_free, free_words}}
 use Rattle.sh_core_says.proofs.quiescent.trees_at_rest.Goals as goal
 
 pub returns-clause-tree : goal.returns-clause-tree

@@ -1,5 +1,5 @@
 use Rattle.sh_core.specs.Listed.{HasAt, OutAt}
-use Rattle.sh_core_turns.proofs.{Senses.{never_senseless}, SensesAll.{are_all_cases}}
+use Rattle.sh_core_turns.proofs.Senses.{never_senseless, are_all_cases}
 use Rattle.sh_core_turns.proofs.senseless.senseless_cases_never_come.Goals as goal
 
 pub returns-clause-never : goal.returns-clause-never

@@ -1,4 +1,4 @@
-use Rattle.sh_course.proofs.{Cached.{counts_no_start}, Counting.{counts}}
+use Rattle.sh_course.proofs.Rising.{counts, counts_no_start}
 use Rattle.sh_course.proofs.counters.turns_are_counted.Goals as goal
 
 pub returns-clause-handed : goal.returns-clause-handed

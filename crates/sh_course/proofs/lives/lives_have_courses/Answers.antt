@@ -1,4 +1,4 @@
-use Rattle.sh_course.proofs.LifeLemmas.{ends_are, life_course, life_turns}
+use Rattle.sh_course.proofs.Courses.{ends_are, life_course, life_turns}
 use Rattle.sh_course.proofs.lives.lives_have_courses.Goals as goal
 
 pub returns-clause-course : goal.returns-clause-course

@@ -1,6 +1,6 @@
 use Rattle.std.proofs.Common.{refl}
 use Rattle.sh_map.specs.declared.call.Call.TheVariants.{Del}
-use Rattle.sh_course.proofs.{Deciding.{course_decides}, Halving.{stores_halves}, Storing.{stores_entry, stores_leaf, stores_nothing, worn_stores_nothing}}
+use Rattle.sh_course.proofs.{Deciding.{course_decides}, Storing.{stores_entry, stores_halves, stores_leaf, stores_nothing, worn_stores_nothing}}
 use Rattle.sh_course.proofs.stores.updates_store_what_they_owe.Goals as goal
 
 pub returns-clause-entry : goal.returns-clause-entry

@@ -1,12 +1,12 @@
 use Rattle.std.proofs.{Common.{◌≤◌, ◌∙◌, arith}, lemmas.Result.{err_from_is_err_and}}
 use Rattle.sh_base.specs.Parts.{parts_of}
-use Rattle.sh_picture.proofs.PaintLemmas.{front_first, front_later, piece_more}
+use Rattle.sh_picture.proofs.PaintLemmas.{front_later, piece_first, piece_more}
 use Rattle.sh_picture.proofs.painting.paint.Goals as goal
 
 pub returns-in_err-write_first-clause-err : goal.returns-in_err-write_first-clause-err
 returns-in_err-write_first-clause-err g c =
     let e = err_from_is_err_and c.from_residual.result c.from_residual.ensures.1 in
-    rw e.1 (front_first _ _ (parts_of c.args.cfg.now) c.args.words.now c.min-at.result c.in_err-write_first.ensures.err)
+    rw e.1 (piece_first _ _ (parts_of c.args.cfg.now) c.args.words.now c.min-at.result c.in_err-write_first.ensures.err)
 
 pub returns-in_err-write_words-clause-err : goal.returns-in_err-write_words-clause-err
 returns-in_err-write_words-clause-err g c =

@@ -1,5 +1,4 @@
-use Rattle.sh_text.proofs.Fronts.{front_behind}
-use Rattle.sh_picture.proofs.PaintLemmas.{front_of_first}
+use Rattle.sh_text.proofs.Fronts.{front_behind, front_first}
 use Rattle.sh_picture.proofs.writing.write_lawful.Goals as goal
 
 pub returns-in-Ok-clause-err : goal.returns-in-Ok-clause-err
@@ -8,4 +7,4 @@ returns-in-Ok-clause-err g c =
     front_behind _ _ _ _ _ c.write_total.result c.in-Ok.ensures.ok written
 
 pub returns-in-Err-clause-err : goal.returns-in-Err-clause-err
-returns-in-Err-clause-err g c = front_of_first _ _ _ _ c.in-Err.ensures.err
+returns-in-Err-clause-err g c = front_first _ _ _ _ c.in-Err.ensures.err

@@ -1,4 +1,4 @@
-use Rattle.std.proofs.{Common.{arith, drop, length-drop, length-take, sym, take, ◌∙◌}, lemmas.{List.{take-append-drop}, Result.{err_from_is_err_and}}}
+use Rattle.std.proofs.{Common.{ap, arith, length, drop, length-drop, length-take, sym, take, ◌∙◌}, lemmas.{List.{take-append-drop}, Result.{err_from_is_err_and}}}
 use Rattle.sh_port.proofs.Bytes.{appends_keeps, appends_take}
 use Rattle.sh_port.proofs.loops.write_all.Goals as goal
 
@@ -18,4 +18,5 @@ returns-in_err-at-clause-err g c =
       rest = drop c.writes.at c.args.piece.now;
       whole = sym (take-append-drop c.writes.at c.args.piece.now);
       written = appends_keeps _ _ _ _ c.writes.invariant.1 c.in_err-at.ensures.bytes;
+      missed = λ e. absurd (omega (arith, length-drop c.writes.at c.args.piece.now, ap length e, c.writes-test.true));
     })

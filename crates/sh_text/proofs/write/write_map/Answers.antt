@@ -1,9 +1,9 @@
-use Rattle.sh_text.{specs.Text.{map_line}, proofs.Fronts.{front_more, front_so_far, part_at, parts_at}}
+use Rattle.sh_text.{specs.Text.{map_line}, proofs.Fronts.{front_more, map_unwritten, part_at}}
 use Rattle.sh_text.proofs.write.write_map.Goals as goal
 
 pub returns-in_default-clause-err : goal.returns-in_default-clause-err
 returns-in_default-clause-err g c =
-    front_so_far _ _ _ _ _ (parts_at map_line c.args.rows.now c.loop-row.row-index) c.loop-row.invariant.0
+    front_more _ _ _ _ _ _ _ (part_at map_line c.args.rows.now c.loop-row.row-index c.row-item.result c.loop-row-test.true) c.loop-row.invariant.0 (map_unwritten _ _)
 
 pub returns-in-Err-clause-err : goal.returns-in-Err-clause-err
 returns-in-Err-clause-err g c =

@@ -1,6 +1,6 @@
 use Rattle.std.proofs.{Common.{◌≡◌, ◌+◌, ◌<◌, ◌∙◌, ◌∷◌, [], Vec, Global, ap, arith, get_or, length, sym}, lemmas.Option.{get_or_from_slice_get}}
 use Rattle.sh_map.specs.declared.book.Done.{Done}
-use Rattle.sh_world.{specs.States.{rows_at, with_rows}, proofs.{OpenLemmas.{told_more, untold_more}, laid.ended_calls.Goals.{in-Some+in_ok-rows_of+in_ok-push, in_default}}}
+use Rattle.sh_world.{specs.States.{rows_at, with_rows}, proofs.{GiveLemmas.{told_more, untold_more}, laid.ended_calls.Goals.{in-Some+in_ok-rows_of+in_ok-push, in_default}}}
 use Rattle.sh_world.proofs.laid.ended_calls.Goals as goal
 
 pub loop-i-preserved : goal.loop-i-preserved

@@ -1,4 +1,4 @@
-use Rattle.sh_world.proofs.OpenLemmas.{seats_more}
+use Rattle.sh_world.proofs.GiveLemmas.{seats_more}
 use Rattle.sh_world.proofs.laid.fresh_seats.Goals as goal
 
 pub loop-seat-preserved : goal.loop-seat-preserved

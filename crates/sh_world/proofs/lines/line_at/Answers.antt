@@ -1,6 +1,6 @@
 use Rattle.std.proofs.Common.{◌<◌, ap}
 use Rattle.sh_base.specs.{declared.config.ConfigParts.{ConfigParts}, Setting.{all_locks}}
-use Rattle.sh_world.proofs.LineLemmas.{row_within, compute_within}
+use Rattle.sh_world.proofs.QueueLemmas.{row_within, compute_within}
 use Rattle.sh_world.proofs.lines.line_at.Goals as goal
 
 pub returns-clause-within : goal.returns-clause-within

@@ -22,7 +22,7 @@ returns-in-Done-clause-served g c =
     let q : Standing = c.loop.self in
     let r : Standing = c.step.new.self in
     let some : reply_of r.client ≡ Some c.in-Done.reply = ended_with (reply_of r.client) c.in-Done.reply (sym c.step.ensures.reply ∙ c.in-Done.is) in
-    ends_served c.args.self.now q r c.args.call c.in-Done.reply c.loop.invariant.1 c.step.ensures.turn some (reply_rests r.client c.in-Done.reply some)
+    ends_served c.args.self.now q r c.args.call c.in-Done.reply c.loop.invariant.1 c.step.ensures.turn some (reply_rests r.client c.in-Done.reply some) c.step.ensures.pass
 
 pub loop-preserved : goal.loop-preserved
 loop-preserved g c =

@@ -1,5 +1,5 @@
 use Rattle.std.proofs.{Common.{◌<◌, ◌≤◌, ◌∙◌, arith, length, refl}, lemmas.Option.{slice_get_read}}
-use Rattle.sh_world.proofs.KeptLemmas.{answered_is, answered_keeps, kept_long, room_reserved, rows_fit}
+use Rattle.sh_world.proofs.RowLemmas.{answered_is, answered_keeps, kept_long, room_reserved, rows_fit}
 use Rattle.sh_world.proofs.calls.Calls.answer.Goals as goal
 
 pub prove-unreachable-requires : goal.prove-unreachable-requires

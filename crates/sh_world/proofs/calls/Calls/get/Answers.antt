@@ -1,6 +1,6 @@
 use Rattle.std.proofs.Common.{◌+◌, ◌-◌, ◌*◌, ◌≡◌, ◌<◌, ◌∙◌, ℕ, Some, ap, arith, drop, length, refl, sym, take}
 use Rattle.std.{specs.Prelude.{slice_get}, proofs.lemmas.Option.{slice_get_read}}
-use Rattle.sh_world.{specs.{States.{rows_in}, Columns.{Listed, call_of, reply_read}}, proofs.{ColumnLemmas.{call_at}, KeptLemmas.{kept_long}}}
+use Rattle.sh_world.{specs.{States.{rows_in}, Columns.{Listed, call_of, reply_read}}, proofs.RowLemmas.{call_at, kept_long}}
 use Rattle.sh_world.proofs.calls.Calls.get.Goals as goal
 
 pub prove-unreachable-requires : goal.prove-unreachable-requires

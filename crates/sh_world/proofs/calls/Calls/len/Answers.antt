@@ -1,5 +1,5 @@
 use Rattle.std.proofs.Common.{length, ap, ◌∙◌, sym}
-use Rattle.sh_world.{specs.Columns.{Listed}, proofs.ColumnLemmas.{length_calls}}
+use Rattle.sh_world.{specs.Columns.{Listed}, proofs.RowLemmas.{length_calls}}
 use Rattle.sh_world.proofs.calls.Calls.len.Goals as goal
 
 pub returns : goal.returns

@@ -1,5 +1,5 @@
 use Rattle.std.proofs.{Common.{◌<◌, ◌∙◌, ap, arith, drop, length, refl, sym}, lemmas.Option.{slice_get_read}}
-use Rattle.sh_world.{specs.{States.{rows_at}, Columns.{Listed}}, proofs.{ColumnLemmas.{rows_of_call}, RowLemmas.{length_rows}, KeptLemmas.{kept_long}}}
+use Rattle.sh_world.{specs.{States.{rows_at}, Columns.{Listed}}, proofs.RowLemmas.{rows_of_call, length_rows, kept_long}}
 use Rattle.sh_world.proofs.calls.Calls.rows.Goals as goal
 
 pub prove-unreachable-requires : goal.prove-unreachable-requires

@@ -1,6 +1,6 @@
 use Rattle.std.proofs.Common.{◌∙◌, ap, sym}
-use Rattle.sh_world.{specs.contracts.state.Seat.{the_view}, proofs.SettleLemmas.{can_end, place_going, point_fits, point_made, point_stays, seen_is}}
-use Rattle.sh_world.proofs.state.Seat.settle.Goals.{then-seen-log, else-seen-log}
+use Rattle.sh_world.proofs.{PointLemmas.{can_end, place_going, point_fits, point_made, point_stays, seen_is}, state.Seat.settle.Goals.{then-seen-log, else-seen-log}}
+use Rattle.sh_world.specs.contracts.state.Seat.{the_view}
 use Rattle.sh_client.proofs.Wanting.{ended_in, going_in}
 use Rattle.sh_world.proofs.state.Seat.settle.Goals as goal
 

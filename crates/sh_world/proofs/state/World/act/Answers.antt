@@ -1,6 +1,7 @@
 use Rattle.std.proofs.{Common.{◌∙◌, ℕ, ap, arith, length, refl, sym}, lemmas.Option.{slice_get_read}}
-use Rattle.sh_world.{specs.{contracts.state.World.{the_view}, declared.turn.Turn.TheVariants.{Event}}, proofs.{RunLemmas.{log_few}, StartLemmas.{can_ask}}}
-use Rattle.sh_world.proofs.WorldLemmas.{call_can, called_world, done_world, event_can, event_world, if_some, is_asked, kept_is, left_bound, line_read, local_told, lock_within, nothing_left, running, turned}
+use Rattle.sh_world.{proofs.RunLemmas.{log_few}, specs.{contracts.state.World.{the_view}, declared.turn.Turn.TheVariants.{Event}}}
+use Rattle.sh_world.proofs.WorldLemmas.{can_ask, call_can, called_world, done_world, event_can, event_world, if_some, is_asked, kept_is, left_bound, line_read, local_told, lock_within, nothing_left}
+use Rattle.sh_world.proofs.WorldLemmas.{running, turned}
 use Rattle.sh_world.proofs.state.World.act.Goals as goal
 
 pub ask-want-requires : goal.ask-want-requires

@@ -1,5 +1,5 @@
 use Rattle.std.proofs.Common.{ap, arith}
-use Rattle.sh_world.{specs.Columns.{Listed}, proofs.OpenLemmas.{open_world}}
+use Rattle.sh_world.{specs.Columns.{Listed}, proofs.GiveLemmas.{open_world}}
 use Rattle.sh_world.proofs.state.World.lay.Goals as goal
 
 pub invariant_of-self : goal.invariant_of-self

@@ -1,0 +1,11 @@
+pub mod Decimals
+pub mod Cuts
+pub mod Places
+pub mod Tells
+pub mod Lines
+pub mod Texts
+pub mod Bounds
+pub mod Books
+pub mod Sheets
+pub mod Worlds
+pub mod Outputs

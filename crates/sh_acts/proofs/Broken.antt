@@ -1,5 +1,5 @@
 -- What would break the words' hold on the scene.
-use Rattle.std.proofs.Common.{◌≡◌, ◌≢◌, ℕ, ◌<◌, List, get_or, set, ap, sym, ◌∙◌, ⊎_elim, arith, get_or-set_other}
+use Rattle.std.proofs.Common.{rules, ◌≡◌, ◌≢◌, ℕ, ◌<◌, List, get_or, set, ap, sym, ◌∙◌, arith, get_or-set_other}
 use Rattle.sh_base.{specs.{declared.config.ConfigParts.{ConfigParts}, Setting.{node_size, IsSetting}, Layout.{lock_of, rear_at}, Places.{Node, Lock, address}}, proofs.PlacesLemmas.{are_places_apart}}
 use Rattle.sh_base.proofs.{PlanLemmas.{lock_below}, LayoutLemmas.{rear_at_low, node_size_is}}
 use Rattle.sh_map.specs.declared.log.Entry.{Entry}
@@ -34,7 +34,4 @@ module _ (p : ConfigParts) (words : List ℕ) (s : TreeState) (g : Ground p word
 
   -- a node that is hung in stays its seat's own
   pub kept_number : (now : List ℕ) (i d n l a r : ℕ) (image : List ℕ) (post : ℕ → ParentLink) (more : List Entry) → s.class n ≡ Linked l a → s.class r ≡ Fresh i → next_in image ≡ r → Ground p now (ended p s n i d image s.class post more) → ⊥
-  kept_number now i d n l a r image post more e fresh next g' =
-      let z = g'.sits n l a e in
-      let is : next_in (put s.node n image n) ≡ r = ap next_in (put_here s.node n image) ∙ next in
-      ⊎_elim (λ (h : (next_in (put s.node n image n) ≡ 0) × (_ ≡ _)). let real = (g.own r i fresh).first in omega (arith, real, is, h.0)) (λ h. fresh_linked i l _ (sym fresh ∙ ap s.class (sym is) ∙ h)) z.next
+  kept_number now i d n l a r image post more e fresh next g' = search (rules, put_here, fresh_linked)

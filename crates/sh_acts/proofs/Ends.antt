@@ -1,12 +1,12 @@
 -- The last store of a WRITE: of a leaf, of an entry, and of an inner node.
-use Rattle.std.proofs.Common.{◌≡◌, ◌≢◌, ◌⊎◌, None, ℕ, suc, ◌<◌, ◌≤◌, List, ◌++◌, length, set, refl, ap, sym, ◌∙◌, subst, ⊎_elim, inl, inr, arith, ◌*◌, [], ◌∷◌, take, drop, get_or, append-nil, zero}
+use Rattle.std.proofs.Common.{rules, ◌≡◌, ◌≢◌, ◌⊎◌, None, ℕ, suc, ◌<◌, ◌≤◌, List, ◌++◌, length, set, refl, ap, sym, ◌∙◌, subst, ⊎_elim, inl, inr, arith, ◌*◌, [], ◌∷◌, take, drop, get_or, append-nil, zero}
 use Rattle.std.{proofs.{Common.{◌+◌}, lemmas.{Bool.{cases_lt, cases_eq}, List.{take-append-drop}}}, specs.{List.{AllByRecursion}, Prelude.{◌-◌, ◌^◌, ◌↔◌}}}
 use mathlib.Core.Logic.{dite}
 use native.Mathlib.Decide.{ℕ_discrete}
 use Rattle.sh_base.specs.{Layout.{lock_of, rear_at, entry_at, entry_rear_at}, Places.{Site, Own, Root, Counter, Lock, Node, address, IsSite}, Setting.{node_size, last_version, IsSetting}}
 use Rattle.sh_base.specs.declared.config.ConfigParts.{ConfigParts}
 use Rattle.sh_map.{proofs.{LogLemmas.{map_of-push, changed_other, IsLegal-push}, MapLemmas.{get-put, get-put_other, get-del, get-del_other}}, specs.Log.{map_of, IsLegal, change_key, changed, IsNext}}
-use Rattle.sh_map.specs.{Map.{get, Map}, declared.log.{Change.{TheVariants.{Put, Del}, Change as MapChange}, Entry.{Entry}}}
+use Rattle.sh_map.specs.{Map.{get, Map}, declared.log.{Change.{TheVariants.{Put}, Change as MapChange}, Entry.{Entry}}}
 use Rattle.sh_read.specs.Moments.{Writing, Idle, word, Next, still, Whole, One}
 use Rattle.sh_state.{proofs.{Puts.{put_here, put_else, put_case, shows_store}, Spelled.{inner_is, inner_long, inner_stands, leaf_long, leaf_stands}}, specs.Change.{IsPostOf, HasNoneOf, Change}}
 use Rattle.sh_state.proofs.Scenes.{Links, linked_is, fresh_linked, fresh_is, undrawn_fresh, links_on, follows_on, sits_on, orderly_on, child_linked, led_down, leads_join, leads_left, leads_right}
@@ -310,10 +310,7 @@ posted_pending i e = cc
 module _ (p : ConfigParts) (words : List ℕ) (s : TreeState) (g : Ground p words s) where
   -- a level and a low fence name one node
   pub unique : (m n l a : ℕ) → s.class m ≡ Linked l a → s.class n ≡ Linked l a → m ≡ n
-  unique m n l a e f = dite (ℕ_discrete m n) (λ q. q) (λ ne.
-      let y = g.sits m l a e in
-      let z = g.sits n l a f in
-      absurd (⊎_elim (λ (le : high_in (s.node m) ≤ a). omega (arith, le, y.fences)) (λ (le : high_in (s.node n) ≤ a). omega (arith, le, z.fences)) (g.apart m n l a a e f ne)))
+  unique m n l a e f = search rules
 
   -- the separator of a node that is to be posted isn't there
   pub is_new : (i n c l a sep : ℕ) → s.class n ≡ Linked (suc l) a → s.class c ≡ Linked l sep → s.post c ≡ Pending i → IsNewSeparator (standing_pairs (s.node n)) sep
@@ -342,18 +339,7 @@ module _ (p : ConfigParts) (words : List ℕ) (s : TreeState) (g : Ground p word
   real = let r = (g.sits x.child l x.separator child).real in (r.first, r.last)
 
   posts : PostsOver s i (suc l) inner.pairs (pairs_with inner.pairs x) (put s.post x.child Posted)
-  posts = record {
-    others = λ j m y ne z. (
-      λ f. put_else s.post x.child Posted m (λ v. ne (ap Seat (sym (pending_of i j y z (sym mine ∙ ap s.post (sym v) ∙ f))))) ∙ f,
-      put_case (λ u. u ≡ y → s.post m ≡ y) s.post x.child Posted m (λ v f. absurd (posted_of j y z f)) (λ v f. f),
-    );
-    stays = λ m k b f z. put_case (λ u. u ≡ Posted) s.post x.child Posted m (λ v. refl) (λ v. z);
-    newly = λ m. put_case (λ u. u ≡ Posted → (s.post m ≡ Posted) ⊎ ((k : ℕ) × (b : ℕ) × (suc l ≡ suc k) × (s.class m ≡ Linked k b) × LeadsTo (pairs_with inner.pairs x) m)) s.post x.child Posted m
-        (λ v z. inr (l, x.separator, refl, ap s.class v ∙ child, with_new m inner.pairs x (sym v))) (λ v z. inl z);
-    outside = λ m. ⊎_elim (λ z. inl z) (λ z. inr (put_case (λ u. u ≡ Posted) s.post x.child Posted m (λ v. refl) (λ v. z))) (g.outside m);
-    kids = λ k m e led. put_case (λ u. u ≡ Posted) s.post x.child Posted m (λ v. refl) (λ ne. elim (leads_with m inner.pairs x led) [ inl q ↦ absurd (ne (sym q)) | inr old ↦ g.children n l a m link old ]);
-    keeps = λ k m e led. with_old m inner.pairs x led;
-  }
+  posts = search (rules, put_else, pending_of, put_case, posted_of, with_new, leads_with, old, with_old)
 
   same_log : s.log ≡ s.log ++ []
   same_log = sym (append-nil s.log)
@@ -409,9 +395,7 @@ module _ (p : ConfigParts) (words : List ℕ) (s : TreeState) (g : Ground p word
   pub pair_end : (b : Inner) → b ≡ inner → s.hold (lock_of p n) ≡ Writes i d n (Whole (inner_words p (with_pair b x)) (rear_at p)) → length b.pairs < 2 * p.leaf → b.version < last_version p
       → let t : TreeState = ended p s n i d (inner_words p (with_pair b x)) s.class (put s.post x.child Posted) [] in
       Change p i s t × Ground p (set words (address p (Node n (rear_at p))) (get_or (inner_words p (with_pair b x)) (rear_at p) 0)) t
-  pair_end b same = subst (λ (b : Inner). s.hold (lock_of p n) ≡ Writes i d n (Whole (inner_words p (with_pair b x)) (rear_at p)) → length b.pairs < 2 * p.leaf → b.version < last_version p
-      → let t : TreeState = ended p s n i d (inner_words p (with_pair b x)) s.class (put s.post x.child Posted) [] in
-      Change p i s t × Ground p (set words (address p (Node n (rear_at p))) (get_or (inner_words p (with_pair b x)) (rear_at p) 0)) t) (sym same) pair_at
+  pair_end b same = search (rules, pair_at)
 
   pub inner_split_end : (b : Inner) → b ≡ inner → (r : ℕ) → s.hold (lock_of p n) ≡ Writes i d n (Whole (inner_words p (left_inner p.leaf b x r)) (rear_at p)) → s.class r ≡ Fresh i → s.node r ≡ inner_words p (right_inner p.leaf b x)
       → length b.pairs ≡ 2 * p.leaf → b.version < last_version p
@@ -430,19 +414,11 @@ module _ (p : ConfigParts) (words : List ℕ) (s : TreeState) (g : Ground p word
 
 -- two maps that agree at a key agree there after the same change
 changed_alike : (m n : Map) (c : MapChange) (q : ℕ) → get m q ≡ get n q → get (changed m c) q ≡ get (changed n c) q
-changed_alike m n (Put key value) q e = elim (cases_eq q key) [
-  | inl here ↦ subst (λ (z : ℕ). get (map.put m key value) z ≡ get (map.put n key value) z) (sym here) (get-put m key value ∙ sym (get-put n key value))
-  | inr ne ↦ get-put_other m key q value ne ∙ e ∙ sym (get-put_other n key q value ne)
-]
-changed_alike m n (Del key) q e = elim (cases_eq q key) [
-  | inl here ↦ subst (λ (z : ℕ). get (map.del m key) z ≡ get (map.del n key) z) (sym here) (get-del m key ∙ sym (get-del n key))
-  | inr ne ↦ get-del_other m key q ne ∙ e ∙ sym (get-del_other n key q ne)
-]
+changed_alike m n c q e = search (rules, cases_eq, get-put, get-put_other, get-del, get-del_other)
 
 -- the map of a leaf that has another entry
 pub map_changed : (log : List Entry) (entry : Entry) (es fs : List LeafEntry) (q : ℕ) → q ≢ 0 → get (map_of_entries fs) q ≡ get (changed (map_of_entries es) entry.change) q → held es q ≡ get (map_of log) q → held fs q ≡ get (map_of (log ++ entry ∷ [])) q
-map_changed log entry es fs q nz h e =
-    sym (get-map_of_entries fs q nz) ∙ h ∙ changed_alike (map_of_entries es) (map_of log) entry.change q (get-map_of_entries es q nz ∙ e) ∙ ap (λ (m : Map). get m q) (sym (map_of-push log entry))
+map_changed log entry es fs q nz h e = search (rules, get-map_of_entries, changed_alike, map_of-push)
 
 -- a leaf whose keys the entry isn't about
 pub leaf_else : (p : ConfigParts) (log : List Entry) (entry : Entry) (ws : List ℕ) → ((q : ℕ) → q ≢ 0 → low_in ws ≤ q → q < high_in ws → q ≢ change_key entry.change) → IsStandingLeaf p log ws → IsStandingLeaf p (log ++ entry ∷ []) ws
@@ -476,14 +452,7 @@ module _ (p : ConfigParts) (words : List ℕ) (s : TreeState) (g : Ground p word
   others t log on m (suc l) b ne f body = inner_on p s t on l (s.node m) body
 
   none_new : (news : List Pair) → PostsOver s i 0 (standing_pairs (s.node n)) news s.post
-  none_new news = record {
-    others = λ j m y ne h. ((λ z. z), λ z. z);
-    stays = λ m l b f z. z;
-    newly = λ m z. inl z;
-    outside = g.outside;
-    kids = λ l m z. absurd (omega (arith, z));
-    keeps = λ l m z. absurd (omega (arith, z));
-  }
+  none_new news = search (rules, others)
 
   pub leaf_end : IsOver (s.node n) image → IsStandingLeaf p (s.log ++ entry ∷ []) image
       → Change p i s (ended p s n i d image s.class s.post (entry ∷ [])) × Ground p (set words (address p (Node n at)) x) (ended p s n i d image s.class s.post (entry ∷ []))

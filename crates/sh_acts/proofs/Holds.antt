@@ -1,5 +1,5 @@
 -- A lock changes its holder, or its holder's WRITE begins or goes on; a node's post is skipped; and a new root posts one.
-use Rattle.std.proofs.{Common.{◌≡◌, ◌≢◌, ℕ, ◌+◌, ◌<◌, ◌≤◌, List, [], set, refl, ap, sym, ◌∙◌, subst, inl, inr, arith, append-nil, ◌⊎◌, ⊎_elim, zero, suc, ◌-◌, ◌∷◌}, lemmas.Bool.{cases_lt}}
+use Rattle.std.proofs.{Common.{rules, ◌≡◌, ◌≢◌, ℕ, ◌+◌, ◌<◌, ◌≤◌, List, [], set, refl, ap, sym, ◌∙◌, subst, inl, inr, arith, append-nil, ◌⊎◌, ⊎_elim, zero, suc, ◌-◌, ◌∷◌}, lemmas.Bool.{cases_lt}}
 use Rattle.std.specs.Prelude.{◌^◌}
 use mathlib.Core.Logic.{dite}
 use native.Mathlib.Decide.{ℕ_discrete}
@@ -23,9 +23,7 @@ Rests (Held owner depth) = Unit {0}
 Rests (Writes seat depth node w) = ⊥
 
 pub rests_idle : (n : ℕ) (h : LockState) → Rests h → writing_of n h ≡ Idle
-rests_idle n Nobody r = refl
-rests_idle n (Held owner depth) r = refl
-rests_idle n (Writes seat depth node w) r = absurd r
+rests_idle n h r = search rules
 
 -- a seat holds the lock, and w is under way of node n, no other
 pub record IsWriter (p : ConfigParts) (h : LockState) (seat depth n : ℕ) (w : Writing) : Type 0 where
@@ -80,12 +78,7 @@ module _ (p : ConfigParts) (words : List ℕ) (s : TreeState) (g : Ground p word
 
   -- the places but the lock's, where no WRITE is under way before and after
   rest_places : (l : ℕ) (x : LockState) → Rests (s.hold l) → Rests x → (b : Site) → IsSite p b → b ≢ Lock l → shown p s b ≡ shown p (with_hold s l x) b
-  rest_places l x r q Own ib ne = refl
-  rest_places l x r q Root ib ne = refl
-  rest_places l x r q (Counter server) ib ne = refl
-  rest_places l x r q (Lock m) ib ne = ap (hold_word p) (sym (put_else s.hold l x m (λ e. ne (ap Lock e))))
-  rest_places l x r q (Node n o) ib ne = put_case (λ h. word p (s.node n) (writing_of n (s.hold (lock_of p n))) o ≡ word p (s.node n) (writing_of n h) o) s.hold l x (lock_of p n)
-      (λ e. ap (λ (w : Writing). word p (s.node n) w o) (ap (λ (z : ℕ). writing_of n (s.hold z)) e ∙ rests_idle n (s.hold l) r ∙ sym (rests_idle n x q))) (λ away. refl)
+  rest_places l x r q b ib ne = search (rules, put_else, put_case, rests_idle)
 
   rest_next : (l : ℕ) (x : LockState) → Rests (s.hold l) → Rests x → (n : ℕ) → Next p (s.node n) (writing_of n (s.hold l)) (s.node n) (writing_of n x)
   rest_next l x r q n = subst (λ (w : Writing). Next p (s.node n) (writing_of n (s.hold l)) (s.node n) w) (rests_idle n (s.hold l) r ∙ sym (rests_idle n x q)) still
@@ -154,19 +147,13 @@ module _ (p : ConfigParts) (words : List ℕ) (s : TreeState) (g : Ground p word
 -- ---- a post is skipped
 
 pub posted_of : (i : ℕ) (x : ParentLink) → IsPostOf i x → Posted ≡ x → ⊥
-posted_of i Posted h e = h
-posted_of i (Pending j) h e = cc
-posted_of i (Skipped j) h e = cc
+posted_of i x h e = search rules
 
 pub pending_of : (i j : ℕ) (x : ParentLink) → IsPostOf j x → Pending i ≡ x → i ≡ j
-pending_of i j Posted h e = absurd h
-pending_of i j (Pending k) h e = cc
-pending_of i j (Skipped k) h e = absurd (cc)
+pending_of i j x h e = search rules
 
 pub skipped_of : (i j : ℕ) (x : ParentLink) → IsPostOf j x → Skipped i ≡ x → i ≡ j
-skipped_of i j Posted h e = absurd h
-skipped_of i j (Pending k) h e = absurd (cc)
-skipped_of i j (Skipped k) h e = cc
+skipped_of i j x h e = search rules
 
 pending_posted : (i : ℕ) → Pending i ≡ Posted → ⊥
 pending_posted i e = cc

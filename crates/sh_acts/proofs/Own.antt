@@ -1,13 +1,13 @@
 -- A seat's own nodes, the chunks and the counters that they come from, and a laid pool.
-use Rattle.std.proofs.Common.{◌≡◌, ℕ, ◌+◌, ◌*◌, ◌<◌, ◌≤◌, true, inl, inr, arith, ◌≢◌, ◌⊎◌, suc, Bool, false, List, [], length, set, refl, ap, sym, ◌∙◌, subst, ⊎_elim, append-nil, length-set}
+use Rattle.std.proofs.Common.{rules, ◌≡◌, ℕ, ◌+◌, ◌*◌, ◌<◌, ◌≤◌, true, inl, inr, arith, ◌≢◌, ◌⊎◌, suc, Bool, false, List, [], length, set, refl, ap, sym, ◌∙◌, subst, ⊎_elim, append-nil, length-set}
 use Rattle.std.{proofs.{Common.{get_or-set_same, get_or-set_other, get_or, replicate, zero}, Math.Nat.{mul-le-mul_right}, lemmas.Bool.{Decides.{nat_tests}, cases_lt}}, specs.FinMap.{get-empty}}
 use Rattle.std.{proofs.lemmas.List.{length-replicate, get_or-replicate}, specs.{Ordering.{nat_cmp}, Prelude.{if◌then◌else◌, ◌-◌, ◌^◌}}}
-use Rattle.sh_base.{proofs.LayoutLemmas.{part_word}, specs.{Layout.{first_node, lock_of}, Places.{Site, Own, Root, Counter, Lock, Node, address, IsSite}, Setting.{IsNode, node_size, IsSetting}}}
+use Rattle.sh_base.{proofs.LayoutLemmas.{part_word}, specs.{Layout.{first_node}, Places.{Site, Own, Root, Counter, Lock, Node, address, IsSite}, Setting.{IsNode, node_size, IsSetting}}}
 use Rattle.sh_base.specs.declared.config.ConfigParts.{ConfigParts}
 use Rattle.sh_state.{proofs.{Puts.{put_here, put_else, put_case, shows_store}, Spelled.{leaf_long, leaf_stands}}, specs.{Change.{Change}, Ground.{IsInChunk, Ground, HasParent}}}
 use Rattle.sh_state.proofs.Scenes.{Links, fresh_linked, fresh_is, undrawn_fresh, undrawn_linked, links_on, writes_else, body_on, sits_on, orderly_on, linked_is}
 use Rattle.sh_state.specs.Nodes.{high_in, LeadsTo, standing_pairs, Orderly, IsStandingLeaf, Sits}
-use Rattle.sh_state.specs.TreeState.{Class, Undrawn, Fresh, Linked, Seat, LockState, Nobody, Held, Writes, TreeState, put, writing_of, writing, shown, Reserved}
+use Rattle.sh_state.specs.TreeState.{Class, Undrawn, Fresh, Linked, Seat, LockState, Writes, TreeState, put, writing, shown, Reserved}
 use Rattle.sh_acts.specs.{Acts.{in_chunk, filled, counted, drawn}, Laid.{laid_class, none_drawn, laid_scene}, Counters.{one_where, count, Bounded}}
 use Rattle.sh_read.specs.Moments.{Writing, Idle, word, Next, still}
 use Rattle.sh_image.{specs.{declared.leaf.LeafEntry.{LeafEntry}, Leaf.{leaf_words, empty_entry}, Laid.{blank_leaf, AreLaid}}, proofs.LaidLemmas.{blank_lawful, laid_zero}}
@@ -65,12 +65,7 @@ module _ (p : ConfigParts) (words : List ℕ) (s : TreeState) (g : Ground p word
 
   -- no WRITE of a linked node is of a seat's own
   pub unwritten : (r j : ℕ) → s.class r ≡ Fresh j → writing p s r ≡ Idle
-  unwritten r j e = go (s.hold (lock_of p r)) (g.orderly (lock_of p r))
-    where
-      go : (h : LockState) → Orderly p s (lock_of p r) h → writing_of r h ≡ Idle
-      go Nobody o = refl
-      go (Held owner depth) o = refl
-      go (Writes i d m w) o = writes_else r i d m w (not_linked r j m o.1.level o.1.low e o.1.linked)
+  unwritten r j e = search (rules, writes_else, not_linked)
 
   pub fresh_act : (i r o x : ℕ) → s.class r ≡ Fresh i → o < node_size p → Change p i s (filled s r o x) × Ground p (set words (address p (Node r o)) x) (filled s r o x)
   fresh_act i r o x e lt =
@@ -232,13 +227,10 @@ module _ (p : ConfigParts) (ok : IsSetting p) where
 
   -- only node 1 is linked, and no node is a seat's own
   by_test : (b : Bool) (P : Class → Type 0) → P Reserved → P Undrawn → P (if b then Reserved else Undrawn)
-  by_test true P r u = r
-  by_test false P r u = u
+  by_test b h1 r u = search rules
 
   only : (n l a : ℕ) → laid_class p n ≡ Linked l a → (n ≡ 1) × (l ≡ 0) × (a ≡ 0)
-  only n l a = put_case (λ c. c ≡ Linked l a → (n ≡ 1) × (l ≡ 0) × (a ≡ 0)) (λ n. if in_chunk p 0 0 n then Reserved else Undrawn) 1 (Linked 0 0) n
-      (λ q e. let w = linked_is 0 0 l a e in (q, sym w.0, sym w.1))
-      (λ ne. by_test (in_chunk p 0 0 n) (λ c. c ≡ Linked l a → (n ≡ 1) × (l ≡ 0) × (a ≡ 0)) (λ e. absurd (cc)) (λ e. absurd (cc)))
+  only n l a = search (rules, put_case, linked_is, by_test)
 
   no_own : (n i : ℕ) → laid_class p n ≡ Fresh i → ⊥
   no_own n i = put_case (λ c. c ≡ Fresh i → ⊥) (λ n. if in_chunk p 0 0 n then Reserved else Undrawn) 1 (Linked 0 0) n (λ q e. cc) (λ ne. by_test (in_chunk p 0 0 n) (λ c. c ≡ Fresh i → ⊥) (λ e. cc) (λ e. cc))
@@ -303,8 +295,7 @@ module _ (p : ConfigParts) (ok : IsSetting p) where
 -- ---- a counter that seats raise after they have found it below a limit doesn't pass the limit by more than the seats
 
 one_le : (b : Bool) → one_where b ≤ 1
-one_le true = omega arith
-one_le false = omega arith
+one_le b = search rules
 
 count_le : (k : ℕ) (f : ℕ → Bool) → count k f ≤ k
 count_le zero f = omega arith
@@ -333,12 +324,7 @@ module _ (limit seats counter : ℕ) (Wants : ℕ → Type 0) (b : Bounded limit
 
   -- a seat finds it below the limit
   pub finds_below : (i : ℕ) (Now : ℕ → Type 0) → counter < limit → ((j : ℕ) → j ≢ i → Now j → Wants j) → Bounded limit seats counter Now
-  finds_below i Now lt back = record {
-    late = b.late;
-    bound = b.bound;
-    done = λ j e. absurd (omega (arith, lt, b.reached j e));
-    reached = b.reached;
-  }
+  finds_below i h1 lt back = search rules
 
   -- a seat raises it
   pub raises : (i : ℕ) (Now : ℕ → Type 0) → i < seats → Wants i → (Now i → ⊥) → ((j : ℕ) → j ≢ i → Now j → Wants j) → Bounded limit seats (counter + 1) Now

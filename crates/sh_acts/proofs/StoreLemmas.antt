@@ -1,5 +1,5 @@
 -- The stores of a WRITE, one by one.
-use Rattle.std.proofs.{Common.{◌≡◌, ◌≢◌, ◌⊎◌, ℕ, zero, suc, ◌+◌, ◌-◌, ◌<◌, ◌≤◌, List, [], ◌∷◌, length, get_or, set, refl, sym, ap, ◌∙◌, inl, inr, arith, length-set}, lemmas.Bool.{cases_lt}}
+use Rattle.std.proofs.{Common.{rules, ◌≡◌, ◌≢◌, ◌⊎◌, ℕ, zero, suc, ◌+◌, ◌-◌, ◌<◌, ◌≤◌, List, [], ◌∷◌, length, get_or, set, refl, sym, ap, ◌∙◌, inl, inr, arith, length-set}, lemmas.Bool.{cases_lt}}
 use Rattle.std.proofs.lemmas.List.{get_or-set_same, get_or-set_other}
 use Rattle.sh_base.{specs.{declared.config.ConfigParts.{ConfigParts}, Setting.{node_size}, Layout.{entry_at, entry_rear_at, rear_at}}, proofs.LayoutLemmas.{node_size_is, entry_within}}
 use Rattle.sh_read.proofs.Words.{stored, not_stored, inside, outside}
@@ -8,10 +8,7 @@ use Rattle.sh_acts.specs.{Stores.{GoesOn, Ends}, Images.{patched}}
 
 module _ (p : ConfigParts) (level : ℕ) (node new : List ℕ) where
   whole_other : (done o : ℕ) → o ≢ done → word p node (Whole new done) o ≡ word p node (Whole new (done + 1)) o
-  whole_other done o ne = elim (cases_lt o done) [
-    | inl lt ↦ stored done o _ _ lt ∙ sym (stored (done + 1) o _ _ (omega arith))
-    | inr ge ↦ not_stored done o _ _ (omega arith) ∙ sym (not_stored (done + 1) o _ _ (omega arith))
-  ]
+  whole_other done o ne = search (rules, cases_lt, stored, not_stored)
 
   -- a node's WRITE begins with its front version, goes on, and ends with its rear version
   pub whole_begins : IsVersioned p level new → get_or node 0 0 < get_or new 0 0 → GoesOn p level node Idle (Whole new 1) 0 (get_or new 0 0)
@@ -42,18 +39,10 @@ module _ (p : ConfigParts) (level : ℕ) (node new : List ℕ) where
   }
 
   one_other : (i done o : ℕ) → o ≢ entry_at p i + done → word p node (One i new done) o ≡ word p node (One i new (done + 1)) o
-  one_other i done o ne = elim (cases_lt o (entry_at p i)) [
-    | inl lt ↦ outside (entry_at p i) done o _ _ (inl lt) ∙ sym (outside (entry_at p i) (done + 1) o _ _ (inl lt))
-    | inr ge ↦ elim (cases_lt o (entry_at p i + done)) [
-      | inl lt ↦ inside (entry_at p i) done o _ _ ge lt ∙ sym (inside (entry_at p i) (done + 1) o _ _ ge (omega (arith, lt)))
-      | inr past ↦ outside (entry_at p i) done o _ _ (inr past) ∙ sym (outside (entry_at p i) (done + 1) o _ _ (inr (omega (arith, past, ne))))
-    ]
-  ]
+  one_other i done o ne = search (rules, cases_lt, outside, inside)
 
   one_here : (i done : ℕ) → word p node (One i new (done + 1)) (entry_at p i + done) ≡ get_or new done 0
-  one_here i done =
-      let offset : entry_at p i + done - entry_at p i ≡ done = omega arith in
-      inside (entry_at p i) (done + 1) (entry_at p i + done) _ _ (omega arith) (omega arith) ∙ ap (λ (k : ℕ). get_or new k 0) offset
+  one_here i done = search (rules, inside)
 
   -- an entry's WRITE begins with its front version, goes on, and ends with its rear version
   pub one_begins : (i : ℕ) → level ≡ 0 → i < p.leaf → get_or node (entry_at p i) 0 < get_or new 0 0 → get_or new (2 + p.value_words) 0 ≡ get_or new 0 0 → GoesOn p level node Idle (One i new 1) (entry_at p i) (get_or new 0 0)
@@ -105,13 +94,4 @@ patched_inside ws at (x ∷ new) (suc k) lt room =
 
 -- an entry's words, stored in its node
 pub patched_word : (p : ConfigParts) (ws : List ℕ) (i : ℕ) (new : List ℕ) → i < p.leaf → length ws ≡ node_size p → length new ≡ 3 + p.value_words → (o : ℕ) → get_or (patched ws (entry_at p i) new) o 0 ≡ word p ws (One i new (2 + p.value_words + 1)) o
-patched_word p ws i new lt long size o = elim (cases_lt o (entry_at p i)) [
-  | inl less ↦ patched_outside ws (entry_at p i) new o (inl less) ∙ sym (outside (entry_at p i) (2 + p.value_words + 1) o _ _ (inl less))
-  | inr ge ↦ elim (cases_lt o (entry_at p i + (3 + p.value_words))) [
-    | inr past ↦ patched_outside ws (entry_at p i) new o (inr (omega (arith, past, size))) ∙ sym (outside (entry_at p i) (2 + p.value_words + 1) o _ _ (inr (omega (arith, past))))
-    | inl less ↦
-        let at : entry_at p i + (o - entry_at p i) ≡ o = omega (arith, ge) in
-        sym (ap (λ (k : ℕ). get_or (patched ws (entry_at p i) new) k 0) at) ∙ patched_inside ws (entry_at p i) new (o - entry_at p i) (omega (arith, less, ge, size)) (omega (arith, size, long, entry_within p i lt, node_size_is p))
-        ∙ sym (inside (entry_at p i) (2 + p.value_words + 1) o _ _ ge (omega (arith, less)))
-  ]
-]
+patched_word p ws i new lt long size o = search (rules, cases_lt, patched_outside, outside, patched_inside, entry_within, node_size_is, inside)

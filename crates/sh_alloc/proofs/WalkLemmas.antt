@@ -1,5 +1,5 @@
 -- What the words of a walk's run were.
-use Rattle.std.proofs.{Common.{◌≡◌, ◌⊎◌, ℕ, ◌+◌, ◌-◌, ◌%◌, ◌<◌, ◌≤◌, List, [], ◌∷◌, ◌++◌, inl, inr, refl, sym, ap, subst, ◌∙◌, arith}, Math.Nat.{mod-eq_of_lt, add-mod_right}, lemmas.Nat.{mod_below}}
+use Rattle.std.proofs.{Common.{rules, ◌≡◌, ◌⊎◌, ℕ, ◌+◌, ◌-◌, ◌%◌, ◌<◌, ◌≤◌, List, [], ◌∷◌, ◌++◌, inl, inr, refl, sym, ap, subst, ◌∙◌, arith}, Math.Nat.{mod-eq_of_lt, add-mod_right}, lemmas.Nat.{mod_below}}
 use Rattle.std.proofs.lemmas.Bool.{cases_lt, Decides.{nat_tests}}
 use Rattle.sh_base.specs.{declared.config.ConfigParts.{ConfigParts}, Layout.{counter_word}}
 use Rattle.sh_alloc.specs.declared.state.{Phase.{Phase, TheVariants.{Loading, Adding, Found, Spent}}, Walk.{Walk}, ChunkWant.{ChunkWant, TheVariants.{Got, AllSpent}}}
@@ -28,16 +28,10 @@ module _ (p : ConfigParts) where
   adds f n x below = grind (arith, nat_tests)
 
   passes : (f n x : ℕ) (phase : Phase) → Runs phase → p.chunks ≤ x → n + 1 < p.servers → walk_fed p (walk_at f n phase) x ≡ walk_at f (n + 1) Loading
-  passes f n x Loading runs spent more = grind (arith, nat_tests)
-  passes f n x Adding runs spent more = grind (arith, nat_tests)
-  passes f n x (Found chunk) runs spent more = absurd runs
-  passes f n x Spent runs spent more = absurd runs
+  passes f n x phase runs spent more = search rules
 
   ends : (f n x : ℕ) (phase : Phase) → Runs phase → p.chunks ≤ x → p.servers ≤ n + 1 → walk_fed p (walk_at f n phase) x ≡ walk_at f n Spent
-  ends f n x Loading runs spent last = grind (arith, nat_tests)
-  ends f n x Adding runs spent last = grind (arith, nat_tests)
-  ends f n x (Found chunk) runs spent last = absurd runs
-  ends f n x Spent runs spent last = absurd runs
+  ends f n x phase runs spent last = search rules
 
   -- a run's end, after its first word
   ends_as : (want : ChunkWant) (w v : Walk) (x : ℕ) (words : List ℕ) → walk_fed p w x ≡ v → walk_wants p (run_of p w (x ∷ words)) ≡ want → walk_wants p (run_of p v words) ≡ want
@@ -159,27 +153,10 @@ module _ (p : ConfigParts) where
 
   -- servers less than once round apart are two
   mod_once : (a : ℕ) → p.servers ≤ a → a < p.servers + p.servers → a % p.servers ≡ a - p.servers
-  mod_once a low high =
-      let sum : a ≡ (a - p.servers) + p.servers = omega arith in
-      ap (λ i. i % p.servers) sum ∙ add-mod_right (a - p.servers) p.servers ∙ mod-eq_of_lt (omega arith)
+  mod_once a low high = search (rules, add-mod_right, mod-eq_of_lt)
 
   apart : (f n k : ℕ) → f < p.servers → n < k → k < p.servers → (f + n) % p.servers ≡ (f + k) % p.servers → ⊥
-  apart f n k first less below same = elim (cases_lt (f + k) p.servers) [
-    | inl lk ↦
-        let ek : (f + k) % p.servers ≡ f + k = mod-eq_of_lt lk in
-        let en : (f + n) % p.servers ≡ f + n = mod-eq_of_lt (omega arith) in
-        omega (arith, sym en ∙ same ∙ ek)
-    | inr gk ↦
-        let ek = mod_once (f + k) gk (omega arith) in
-        elim (cases_lt (f + n) p.servers) [
-          | inl ln ↦
-              let en : (f + n) % p.servers ≡ f + n = mod-eq_of_lt ln in
-              omega (arith, sym en ∙ same ∙ ek)
-          | inr gn ↦
-              let en = mod_once (f + n) gn (omega arith) in
-              omega (arith, sym en ∙ same ∙ ek)
-        ]
-  ]
+  apart f n k first less below same = search (rules, mod-eq_of_lt, mod_once)
 
   -- a walk that has its chunk asks for no more
   asks_none : (f n c : ℕ) (words : List ℕ) (server : ℕ) → FindsSpent p (walk_at f n (Found c)) words server → ⊥
@@ -228,5 +205,4 @@ module _ (p : ConfigParts) where
       in_time Spent runs less found then = absurd runs
 
   pub run_by_spent : (seat : ℕ) (words : List ℕ) → 1 ≤ p.servers → ((server : ℕ) → server < p.servers → FindsSpent p (walk_start p seat) words server) → walk_wants p (run_of p (walk_start p seat) words) ≡ AllSpent
-  run_by_spent seat words some found =
-      ends_spent (seat % p.servers) 0 Loading words tt (mod_below seat p.servers (omega arith)) (omega arith) (λ k from below. found ((seat % p.servers + k) % p.servers) (mod_below (seat % p.servers + k) p.servers (omega arith)))
+  run_by_spent seat words some found = search (rules, ends_spent, mod_below)

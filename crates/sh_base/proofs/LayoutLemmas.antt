@@ -166,9 +166,7 @@ module _ (p : ConfigParts) (lawful : IsSetting p) where
   entry_product_small i h = mul-le (entry_size p) i 11 64 entry_size_small (omega (arith, lawful.ranged.leaf.1))
 
   pub nodes_small : (p.servers * p.chunks ≤ 32768) × (nodes p ≤ 8388608)
-  nodes_small =
-      let chunks : p.servers * p.chunks ≤ 32768 = mul-le p.servers p.chunks 8 4096 lawful.ranged.servers.1 lawful.ranged.chunks.1 in
-      (chunks, mul-le (p.servers * p.chunks) p.chunk_nodes 32768 256 chunks lawful.ranged.chunk_nodes.1)
+  nodes_small = search (rules, mul-le)
 
 -- the words of any numbers in their ranges are few enough to count
 pub words_small : (p : ConfigParts) → IsRanged p → ((3 + p.value_words) * p.leaf ≤ 704) × (nodes p * (7 + (3 + p.value_words) * p.leaf) ≤ 5964300288) × (p.servers * p.locks ≤ 8192)

@@ -1,5 +1,5 @@
 -- Places and addresses are the same, one to one.
-use Rattle.std.proofs.Common.{◌≡◌, ℕ, ◌+◌, ◌-◌, ◌*◌, ◌/◌, ◌%◌, ◌<◌, ◌≤◌, List, set, eqb, ltb, if◌then◌else◌, refl, sym, ap, ◌∙◌, inl, inr, arith}
+use Rattle.std.proofs.Common.{rules, ◌≡◌, ℕ, ◌+◌, ◌-◌, ◌*◌, ◌/◌, ◌%◌, ◌<◌, ◌≤◌, List, set, eqb, ltb, if◌then◌else◌, refl, sym, ap, ◌∙◌, inl, inr, arith}
 use Rattle.std.proofs.lemmas.{Nat.{div_below, mod_below, div-add-mod', div-mul-add, mod-mul-add}, List.{get_or-set_other}, Bool.{cases_lt, cases_eq, Decides.{nat_tests}}}
 use Rattle.sh_base.specs.{declared.config.ConfigParts.{ConfigParts}, Setting.{nodes, node_size, first_node_word, pool_words}, Layout.{node_word, node_part}}
 use Rattle.sh_base.specs.Places.{Site, Own, Root, Counter, Lock, Node, address, IsSite, ArePlacesApart, IsBelowNodes, StoresKeepApart}
@@ -65,11 +65,7 @@ module _ (p : ConfigParts) where
   }
 
   part_below_nodes : (words : List ℕ) (a : Site) (n word : ℕ) → IsSite p a → IsBelowNodes a → node_part p (set words (address p a) word) n ≡ node_part p words n
-  part_below_nodes words Own n word h below = part_below p words n _ word (omega arith)
-  part_below_nodes words Root n word h below = part_below p words n _ word (omega arith)
-  part_below_nodes words (Counter server) n word h below = part_below p words n _ word (omega arith)
-  part_below_nodes words (Lock lock) n word h below = part_below p words n _ word (omega arith)
-  part_below_nodes words (Node m offset) n word h below = absurd below
+  part_below_nodes words a n word h below = search (rules, part_below)
 
   pub stores_keep_apart : StoresKeepApart p
   stores_keep_apart = record {

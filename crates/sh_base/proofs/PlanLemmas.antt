@@ -1,6 +1,6 @@
 -- The steps of verbs keep to their node.
-use Rattle.std.proofs.Common.{◌≡◌, ℕ, ◌+◌, ◌-◌, ◌*◌, ◌%◌, ◌<◌, ◌≤◌, Bool, true, false, refl, sym, arith}
-use Rattle.std.proofs.{lemmas.{Nat.{div_below, mod_below}, Bool.Decides.{nat_tests}}, Math.Nat.{mul-le-mul_right, mul_assoc}}
+use Rattle.std.proofs.Common.{rules, ◌≡◌, ℕ, ◌+◌, ◌-◌, ◌*◌, ◌%◌, ◌<◌, ◌≤◌, Bool, refl, sym, arith}
+use Rattle.std.proofs.{lemmas.{Nat.{div_below, mod_below}}, Math.Nat.{mul-le-mul_right, mul_assoc}}
 use Rattle.sh_base.specs.declared.{config.ConfigParts.{ConfigParts}, plan.{Place.TheVariants.{Body, Lock}, ReadPlan.{ReadPlan}, WritePlan.{WritePlan}}}
 use Rattle.sh_base.specs.{Setting.{all_locks, node_size, IsNode, IsSetting}, Layout.{node_word, lock_word, lock_of, server_of}}
 use Rattle.sh_base.{specs.Plans.{IsReadOf, FallsOver, IsWriteOf, RisesOver, rising, steps_with, unlocked_word}, proofs.LayoutLemmas.{node_size_is}}
@@ -25,12 +25,10 @@ lock_below p n lawful h =
 -- a step behind the body, of a WRITE that gives the lock back or doesn't
 module _ (p : ConfigParts) (n offset count : ℕ) where
   body_step : (unlock : Bool) (step : ℕ) → step < count → rising (node_word p n) offset count (unlocked_word p n unlock) step ≡ Body (node_word p n + (offset + step)) (offset + step)
-  body_step true step h = grind (arith, nat_tests)
-  body_step false step h = refl
+  body_step unlock step h = search rules
 
   last_step : (unlock : Bool) (step : ℕ) → count ≤ step → step < steps_with count (unlocked_word p n unlock) → rising (node_word p n) offset count (unlocked_word p n unlock) step ≡ Lock (lock_word p (lock_of p n))
-  last_step true step h below = grind (arith, nat_tests)
-  last_step false step h below = absurd (omega arith)
+  last_step unlock step h below = search rules
 
   pub rises_over : (unlock : Bool) (plan : WritePlan) → IsSetting p → IsNode p n → offset + count ≤ node_size p → IsWriteOf p n offset count unlock plan → RisesOver p n offset count plan
   rises_over unlock plan lawful node inside h = record {

@@ -1,5 +1,5 @@
 -- Where each node lies in the memory that is built, and what that says: a lawful tree at rest, whose map is the rows.
-use Rattle.std.proofs.Common.{◌≡◌, ℕ, zero, suc, ◌+◌, ◌-◌, ◌*◌, ◌<◌, ◌≤◌, false, List, [], ◌∷◌, ◌++◌, length, get_or, take, drop, map, replicate, refl, sym, ap, subst, ◌∙◌, inl, inr, append_assoc, length-append, arith}
+use Rattle.std.proofs.Common.{rules, ◌≡◌, ℕ, zero, suc, ◌+◌, ◌-◌, ◌*◌, ◌<◌, ◌≤◌, false, List, [], ◌∷◌, ◌++◌, length, get_or, take, drop, map, replicate, refl, sym, ap, subst, ◌∙◌, inl, inr, append_assoc, length-append, arith}
 use Rattle.std.specs.{Prelude.{slice_index, IfOk, Result, Ok, Err}, List.{range_with_len, flat_map, concat, AllByRecursion}, Ordering.{nat_cmp}}
 use Rattle.std.{specs.{FinMap.{entries, from_entries, get-from_entries, get-from_sorted}, Cmp.{nat_cmp_total}}, proofs.{Math.Nat.{mul-le-mul_right}, lemmas.Bool.{cases_eq}}}
 use Rattle.std.proofs.lemmas.List.{length-drop, length-replicate, drop-drop, drop_all, drop_at, drop-append-le, take-append-le, take-append-drop, map-append, get_or_append_left, get_or-append-add, get_or-replicate}
@@ -11,7 +11,7 @@ use Rattle.sh_edit.specs.Held.{pairs_of, HasKeysOnce}
 use Rattle.sh_logic.proofs.Lists.{from_each}
 use Rattle.sh_tree.specs.{Lists.{first_of, is_in, AreDifferent}, Nodes.{leaf_at, inner_at, low_at, high_at, next_at}}
 use Rattle.sh_tree.specs.Tree.{leaves_of, pairs_along, top_of, AreLevels, IsChain, IsChildIn, IsInnerOf, IsLeafOf}
-use Rattle.sh_bulk.specs.{Shape.{leaf_fill, inner_fill, count_in, div_up, first_in, need_of, height_of}, Nodes.{high_in, inner_of, leaf_of, low_in, next_in, rows_at, taken_by, words_at, HaveValues}}
+use Rattle.sh_bulk.specs.{Shape.{leaf_fill, count_in, div_up, first_in, need_of, height_of}, Nodes.{high_in, inner_of, leaf_of, low_in, next_in, rows_at, words_at, HaveValues}}
 use Rattle.sh_bulk.{specs.{Words.{bulk_words, drawn_of, front_words, level_words, words_to}, Fault.{AreGood, HoldRows}}, proofs.LevelLemmas.{pair_is, pairs_many}}
 use Rattle.sh_bulk.proofs.{PieceLemmas.{length-pieces, piece_cut, AreLong}, RangeLemmas.{all_in_range, different_range, in_range, outside_range}}
 use Rattle.sh_bulk.proofs.RowLemmas.{are_rising, high_last, high_more, low_first, next_last, next_more}
@@ -26,8 +26,7 @@ cut_behind m k at xs ys long e = ap (λ i. drop i (xs ++ ys)) e ∙ (sym (drop-d
 
 -- the first of a range that has a number
 named : (a c : ℕ) → 1 ≤ c → a ≡ first_of (range_with_len a c)
-named a zero h = absurd (omega arith)
-named a (suc c) h = refl
+named a c h = search rules
 
 module _ (p : ConfigParts) (need : ℕ) where
   pub length-front : length (front_words p need) ≡ first_node_word p
@@ -220,13 +219,7 @@ module _ (p : ConfigParts) (lawful : IsSetting p) (rows : List Row) (good : AreG
   inner_is level j le h = ap inner_in (node_at (suc level) j le h) ∙ inner_in-inner_words p (inner_of p rows level j)
 
   child_good : (level j i : ℕ) → suc level ≤ height_of p (length rows) → i < length (inner_of p rows level j).pairs → IsChildIn p words (range_with_len (first_in p (length rows) level) (count_in p (length rows) level)) (get_or (inner_of p rows level j).pairs i no_pair)
-  child_good level j i le lt =
-      let at : i < taken_by p rows level j = omega (arith, pairs_many p rows level j, lt) in
-      let within : j * inner_fill p + i < count_in p (length rows) level = omega (arith, at) in
-      subst (IsChildIn p words (range_with_len (first_in p (length rows) level) (count_in p (length rows) level))) (sym (pair_is p rows level j i at)) (record {
-        among = in_range _ _ (first_in p (length rows) level + (j * inner_fill p + i)) (omega arith) (omega (arith, within));
-        low = low_is level (j * inner_fill p + i) (omega arith) within;
-      })
+  child_good level j i le lt = search (rules, pairs_many, pair_is, in_range, low_is)
 
   inner_good : (level : ℕ) → suc level ≤ height_of p (length rows) → (k : ℕ) → first_in p (length rows) (suc level) ≤ k → k < first_in p (length rows) (suc level) + count_in p (length rows) (suc level)
       → IsInnerOf p words (suc level) (range_with_len (first_in p (length rows) level) (count_in p (length rows) level)) k

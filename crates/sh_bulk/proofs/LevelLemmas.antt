@@ -1,5 +1,5 @@
 -- What the code's places and products come to.
-use Rattle.std.proofs.Common.{◌≡◌, ℕ, zero, suc, ◌+◌, ◌-◌, ◌*◌, ◌<◌, ◌≤◌, List, [], ◌∷◌, ◌++◌, length, get_or, set, take, drop, map, replicate, refl, sym, ap, ◌∙◌, inl, inr, append_assoc, arith}
+use Rattle.std.proofs.Common.{rules, ◌≡◌, ℕ, zero, suc, ◌+◌, ◌-◌, ◌*◌, ◌<◌, ◌≤◌, List, [], ◌∷◌, ◌++◌, length, get_or, set, take, drop, map, replicate, refl, sym, ap, ◌∙◌, inl, inr, append_assoc, arith}
 use Rattle.std.{specs.{Prelude.{◌/◌, min}, List.{range_with_len, flat_map}}, proofs.{Math.Nat.{mul-le-mul_left, mul-le-mul_right}, lemmas.Nat.{div-add-mod', div-mul-add}}}
 use Rattle.std.proofs.lemmas.Bool.{cases_eq, cases_lt}
 use Rattle.std.proofs.lemmas.List.{length-map, length-replicate, length-take, length-drop, drop_all, drop-drop, drop-set-lt, drop-replicate, take_min, replicate_more, replicate-append-replicate}
@@ -68,19 +68,10 @@ module _ (p : ConfigParts) where
   ]
 
   pub leaf_next : IsSetting p → (n j to : ℕ) → j < count_in p n 0 → to ≡ min (j * leaf_fill p + leaf_fill p) n → to < n → (to ≡ (j + 1) * leaf_fill p) × (j + 1 < count_in p n 0)
-  leaf_next lawful n j to h is lt =
-      let step : (j + 1) * leaf_fill p ≡ j * leaf_fill p + leaf_fill p = grind arith in
-      let at : to ≡ (j + 1) * leaf_fill p = omega (arith, is, step, lt) in
-      let there = among n (leaf_fill p) (j + 1) (omega (arith, leaf_fill_small p lawful)) (omega (arith, at, lt)) in
-      (at, grind arith)
+  leaf_next lawful n j to h is lt = search (rules, among, leaf_fill_small)
 
   pub leaf_last : IsSetting p → (n j to : ℕ) → j < count_in p n 0 → to ≡ min (j * leaf_fill p + leaf_fill p) n → n ≤ to → count_in p n 0 ≤ j + 1
-  leaf_last lawful n j to h is le = elim (cases_lt (j + 1) (count_in p n 0)) [
-    | inl more ↦
-        let step : (j + 1) * leaf_fill p ≡ j * leaf_fill p + leaf_fill p = grind arith in
-        absurd (omega (arith, leaf_begins p lawful n (j + 1) more (λ e. omega arith), is, step, le))
-    | inr last ↦ last
-  ]
+  leaf_last lawful n j to h is le = search (rules, cases_lt, leaf_begins)
 
   -- the rows from a leaf's first up to the next leaf's first
   pub rows_cut : (rows : List Row) (j from to : ℕ) → from ≡ j * leaf_fill p → from ≤ length rows → to ≡ min (from + leaf_fill p) (length rows) → take (to - from) (drop from rows) ≡ rows_at p rows j
@@ -156,18 +147,10 @@ over p n l j fill lawful room is h wide = record {
 -- where the next inner node begins, and where the level ends
 module _ (p : ConfigParts) (lawful : IsSetting p) (rows : List Row) (level j to : ℕ) where
   pub inner_next : to ≡ j * inner_fill p + taken_by p rows level j → to < count_in p (length rows) level → (to ≡ (j + 1) * inner_fill p) × (j + 1 < count_in p (length rows) (suc level))
-  inner_next is lt =
-      let step : (j + 1) * inner_fill p ≡ j * inner_fill p + inner_fill p = grind arith in
-      let at : to ≡ (j + 1) * inner_fill p = omega (arith, is, step, lt) in
-      (at, among (count_in p (length rows) level) (inner_fill p) (j + 1) (omega (arith, inner_fill_small p lawful)) (omega (arith, at, lt)))
+  inner_next is lt = search (rules, among, inner_fill_small)
 
   pub inner_last : j < count_in p (length rows) (suc level) → to ≡ j * inner_fill p + taken_by p rows level j → count_in p (length rows) level ≤ to → count_in p (length rows) (suc level) ≤ j + 1
-  inner_last h is le = elim (cases_lt (j + 1) (count_in p (length rows) (suc level))) [
-    | inl more ↦
-        let step : (j + 1) * inner_fill p ≡ j * inner_fill p + inner_fill p = grind arith in
-        absurd (omega (arith, child_begins p lawful (length rows) level (j + 1) more, is, step, le))
-    | inr last ↦ last
-  ]
+  inner_last h is le = search (rules, cases_lt, child_begins)
 
 -- one counter more
 pub counter_more : (f : ℕ → ℕ) (need size server word : ℕ) (out : List ℕ) → word ≡ f server → 2 + server < size

@@ -1,5 +1,5 @@
 -- Pieces of one length, one behind the other.
-use Rattle.std.proofs.Common.{◌≡◌, ℕ, zero, suc, ◌+◌, ◌-◌, ◌*◌, ◌<◌, ◌≤◌, List, [], ◌∷◌, ◌++◌, length, take, drop, refl, sym, ap, ◌∙◌, length-append, arith}
+use Rattle.std.proofs.Common.{rules, ◌≡◌, ℕ, zero, suc, ◌+◌, ◌-◌, ◌*◌, ◌<◌, ◌≤◌, List, [], ◌∷◌, ◌++◌, length, take, drop, refl, sym, ap, ◌∙◌, length-append, arith}
 use borrow.Rule.Slice.PartMut.{put_mid}
 use Rattle.sh_image.proofs.WriteLemmas.{piece_more}
 use Rattle.std.{specs.List.{range_with_len, flat_map}, proofs.Math.Nat.{mul-le-mul_right}, proofs.lemmas.List.{append-nil, drop_at, take_at, Concat.{flat_map-append}}}
@@ -52,8 +52,4 @@ module _ (f : ℕ → List ℕ) (w : ℕ) where
   -- a loop that writes piece after piece has written one more
   pub piece_on : (a k count at size : ℕ) (out new : List ℕ) → at ≡ k * w → size ≡ w → k < count → length out ≡ count * w → (at + size ≤ length out → length new ≡ size) → take at out ≡ flat_map f (range_with_len a k) → new ≡ f (a + k)
       → (at + size ≡ (k + 1) * w) × (take (at + size) (put_mid at (at + size - at) out new) ≡ flat_map f (range_with_len a (k + 1)))
-  piece_on a k count at size out new at_is size_is lt long new_long before made =
-      let step : (k + 1) * w ≡ k * w + w = grind arith in
-      let row : (k + 1) * w ≤ count * w = mul-le-mul_right w (omega arith) in
-      let room : at + size ≤ length out = omega (arith, at_is, size_is, long, step, row) in
-      (omega (arith, at_is, size_is, step), piece_more out _ new at size _ (omega (arith, room)) (λ t. at + size) (new_long room) before ∙ (ap (λ l. flat_map f (range_with_len a k) ++ l) made ∙ pieces_more a k))
+  piece_on a k count at size out new at_is size_is lt long new_long before made = search (rules, mul-le-mul_right, piece_more, pieces_more)

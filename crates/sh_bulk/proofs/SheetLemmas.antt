@@ -1,13 +1,13 @@
 -- The reading of rows, one by one.
-use Rattle.std.proofs.Common.{ℕ, zero, suc, ◌≡◌, ◌≢◌, ◌<◌, ◌≤◌, Bool, true, false, List, [], ◌∷◌, ◌++◌, length, get_or, Option, Some, None, Err, Ok, ◌∙◌, ap, subst, sym, refl, arith, inl, inr}
+use Rattle.std.proofs.Common.{rules, ℕ, ◌≡◌, ◌≢◌, ◌<◌, true, false, List, [], ◌∷◌, ◌++◌, length, get_or, Option, Some, Err, Ok, ◌∙◌, ap, subst, sym, refl, arith}
 use Rattle.std.{specs.{Prelude.{Result, MatchResult, if◌then◌else◌}, Result.{IsErrAnd}}, proofs.lemmas.{Bool.{cases_eq}, List.{get_or_append_left, get_or_push, length_push}}}
 use Rattle.std.proofs.lemmas.Result.{err_from_is_err_and}
 use Rattle.csv.specs.{Reading.{ReadRecord, took_first}, declared.reader.Reader.{Reader}}
 use Rattle.sh_base.specs.declared.config.ConfigParts.{ConfigParts}
-use Rattle.sh_map.specs.{declared.book.Row.{Row}, Rows.{row_key, nothing}, Map.{pair_row}}
-use Rattle.sh_sheet.{specs.{Row.{is_key, or_cause, value_in}, Number.{number_of}, declared.status.RowCause.{RowCause, TheVariants.{BadKey, BadNumber, FieldCount}}}, proofs.Lawful.{length-value_in}}
+use Rattle.sh_map.specs.{declared.book.Row.{Row}, Map.{pair_row}}
+use Rattle.sh_sheet.{specs.{Row.{is_key, or_cause}, declared.status.RowCause.{TheVariants.{BadKey, BadNumber, FieldCount}}}, proofs.Lawful.{length-value_in}}
 use Rattle.sh_sheet.proofs.RecordSteps.{IsReading, reading_more, reading_end}
-use Rattle.sh_bulk.specs.{Fault.{AreGood, key_before, IsGoodRow}, Sheet.{row_in, rows_from, rows_of, Good, IsRowsFault, Reading}, declared.gather.RowsFault.{RowsFault}}
+use Rattle.sh_bulk.specs.{Fault.{AreGood, key_before}, Sheet.{row_in, rows_from, rows_of, Good, IsRowsFault, Reading}, declared.gather.RowsFault.{RowsFault}}
 
 -- two fields are those at places 0 and 1
 pub two : (fields : List (List ℕ)) → length fields ≡ 2 → fields ≡ get_or fields 0 [] ∷ get_or fields 1 [] ∷ []
@@ -17,50 +17,18 @@ two (a ∷ b ∷ []) h = refl
 two (a ∷ b ∷ c ∷ more) h = absurd (omega arith)
 
 pub not_two : (p : ConfigParts) (fields : List (List ℕ)) → length fields ≢ 2 → Err FieldCount ≡ row_in p fields
-not_two p [] h = refl
-not_two p (a ∷ []) h = refl
-not_two p (a ∷ b ∷ []) h = absurd (h refl)
-not_two p (a ∷ b ∷ c ∷ more) h = refl
+not_two p fields h = search rules
 
 -- a good row more
 pub good_more : (found : List Row) (r : Row) → AreGood found → is_key r.key ≡ true → key_before found (length found) < r.key → AreGood (found ++ r ∷ [])
-good_more found r good key above i lt = elim (cases_eq i (length found)) [
-  | inl last ↦ subst (IsGoodRow (found ++ r ∷ [])) (sym last) (record {
-    key = ap is_key here ∙ key;
-    rises = omega (arith, here, before (length found) (omega arith), above);
-  })
-  | inr other ↦
-      let inside : i < length found = omega (arith, length_push found r) in
-      let was = good i inside in
-      let same : row_key (found ++ r ∷ []) i ≡ row_key found i = ap (λ (x : Row). x.key) (get_or_append_left found (r ∷ []) nothing i inside) in
-      record {
-        key = ap is_key same ∙ was.key;
-        rises = omega (arith, same, before i (omega (arith, inside)), was.rises);
-      }
-]
-  where
-    here : row_key (found ++ r ∷ []) (length found) ≡ r.key
-    here = ap (λ (x : Row). x.key) (get_or_push found r nothing (length found) refl)
-
-    before : (k : ℕ) → k ≤ length found → key_before (found ++ r ∷ []) k ≡ key_before found k
-    before zero le = refl
-    before (suc k) le = ap (λ (x : Row). x.key) (get_or_append_left found (r ∷ []) nothing k (omega arith))
+good_more found r good key above i lt = search (rules, cases_eq, length_push, get_or_append_left, get_or_push)
 
 -- a row that is read has a key, and a value of the setting's words
 row_given : (o : Option ℕ) (v : Option (List ℕ)) (r : Row) → Ok r ≡ or_cause o BadNumber (λ k. or_cause v BadNumber (λ w. if is_key k then Ok (pair_row k w) else Err BadKey)) → (is_key r.key ≡ true) × (v ≡ Some r.value)
-row_given None v r e = absurd (cc)
-row_given (Some k) None r e = absurd (cc)
-row_given (Some k) (Some w) r e = go (is_key k) refl e
-  where
-    go : (b : Bool) → is_key k ≡ b → (let given : Result Row RowCause = if b then Ok (pair_row k w) else Err BadKey in Ok r ≡ given) → (is_key r.key ≡ true) × (Some w ≡ Some r.value)
-    go true i e = let same : pair_row k w ≡ r = cc in (ap (λ (x : Row). is_key x.key) (sym same) ∙ i, ap (λ (x : Row). Some x.value) same)
-    go false i e = absurd (cc)
+row_given o v r e = search rules
 
 pub row_good : (p : ConfigParts) (fields : List (List ℕ)) (r : Row) → Ok r ≡ row_in p fields → (is_key r.key ≡ true) × (length r.value ≡ p.value_words)
-row_good p [] r e = absurd (cc)
-row_good p (a ∷ []) r e = absurd (cc)
-row_good p (a ∷ b ∷ []) r e = let given = row_given (number_of a) (value_in p.value_words b) r e in (given.0, length-value_in p.value_words b r.value given.1)
-row_good p (a ∷ b ∷ c ∷ more) r e = absurd (cc)
+row_good p fields r e = search (rules, row_given, length-value_in)
 
 -- a reader over the rows behind those that were found
 pub record IsGathering {R : Type 0} (left : R → Option (List ℕ)) (p : ConfigParts) (bytes : List ℕ) (found : List Row) (reader : Reader R) (turns : ℕ) : Type 0 where
@@ -87,6 +55,4 @@ pub gathering_ends : {R : Type 0} (left : R → Option (List ℕ)) (p : ConfigPa
 gathering_ends left p bytes found a b n row was none = was.whole ∙ ap (rows_from p found) (reading_end left a b n was.rows row was.reading none)
 
 pub fault_kept : {T : Type 0} (r : Result T RowsFault) (reading : Reading) (why : RowsFault) (P : T → Type 0) → IsErrAnd r (λ e. e ≡ why) → IsRowsFault reading why → MatchResult r P (IsRowsFault reading)
-fault_kept r reading why P is fault =
-    let failed = err_from_is_err_and r is in
-    subst (λ s. MatchResult s P (IsRowsFault reading)) (sym failed.1) (subst (IsRowsFault reading) (sym failed.2) fault)
+fault_kept r reading why h3 is fault = search (rules, err_from_is_err_and)

@@ -1,25 +1,17 @@
 -- What a building leaves.
-use Rattle.std.proofs.Common.{◌≡◌, ◌≤◌, ℕ, List, Option, length, refl, subst}
+use Rattle.std.proofs.Common.{rules, ◌≡◌, ◌≤◌, ℕ, List, Option, length}
 use Rattle.sh_base.specs.{declared.config.ConfigParts.{ConfigParts}, Setting.{nodes, IsSetting}}
 use Rattle.sh_map.specs.declared.book.Row.{Row}
 use Rattle.sh_port.specs.{Port.{AppendsFront}, Intake.{TookAll}}
-use Rattle.sh_text.specs.{Write.{CauseOf}, declared.write.WriteError.{WriteError, TheVariants.{Fault, NoMemory}}}
+use Rattle.sh_text.specs.{Write.{CauseOf}, declared.write.WriteError.{WriteError, TheVariants.{NoMemory}}}
 use Rattle.sh_bulk.{specs.{Fault.{AreGood}, Nodes.{HaveValues}, Shape.{need_of}, Sheet.{rows_of, Good}, Order.{Asked}, Top.{built_text, most_rows, unwritten, Built, HasBuilt}}, proofs.HoldLemmas.{holds}}
 
 -- what was read and built
 pub has_built : {left rest : Option (List ℕ)} {before now : ℕ} {bytes lent : List ℕ} {rows given : List Row} (p : ConfigParts) → IsSetting p → TookAll left rest before now bytes → lent ≡ bytes → rows_of p lent ≡ Good rows
     → AreGood rows → HaveValues p rows → length rows ≤ most_rows → given ≡ rows → need_of p (length given) ≤ nodes p → HasBuilt p left rest before now rows
-has_built {bytes = bytes} {rows = rows} p lawful took lent_is says good values few given_is room =
-    let has_room = subst (λ (rs : List Row). need_of p (length rs) ≤ nodes p) given_is room in
-    record {
-      read = record { bytes = bytes; took = took; says = subst (λ (xs : List ℕ). rows_of p xs ≡ Good rows) lent_is says };
-      few = few;
-      room = has_room;
-      holds = holds p lawful rows good values has_room;
-    }
+has_built h0 = search (rules, holds)
 
 -- how a building ends whose pool wasn't written whole
 pub ended_badly : (asked : Asked) (left rest : Option (List ℕ)) (before now : ℕ) (held after : Option (List ℕ)) (fell fallen : ℕ) (rows : List Row) (error : WriteError)
     → HasBuilt asked.parts left rest before now rows → AppendsFront held after (built_text asked rows) → (error ≡ NoMemory → after ≡ held) → CauseOf fell fallen error → Built asked left rest before now held after fell fallen (unwritten error)
-ended_badly asked left rest before now held after fell fallen rows Fault built front none cause = (rows, built, front, cause)
-ended_badly asked left rest before now held after fell fallen rows NoMemory built front none cause = (built.read.took.count, record { sink = none refl; count = cause })
+ended_badly asked left rest before now held after fell fallen rows error built front none cause = search rules

@@ -1,5 +1,5 @@
 -- The memory that is built holds a lawful tree, whose map is the rows.
-use Rattle.std.proofs.Common.{◌≡◌, ◌≢◌, ℕ, zero, suc, ◌+◌, ◌-◌, ◌*◌, ◌^◌, ◌<◌, ◌≤◌, List, [], ◌++◌, length, get_or, take, drop, map, replicate, refl, sym, ap, subst, ◌∙◌, inl, inr, arith}
+use Rattle.std.proofs.Common.{rules, ◌≡◌, ◌≢◌, ℕ, zero, suc, ◌+◌, ◌-◌, ◌*◌, ◌^◌, ◌<◌, ◌≤◌, List, [], ◌++◌, length, get_or, take, drop, map, replicate, refl, sym, ap, subst, ◌∙◌, inl, inr, arith}
 use Rattle.std.{specs.List.{AllByRecursion}, proofs.lemmas.Bool.{cases_eq, cases_lt}}
 use Rattle.std.proofs.lemmas.List.{length-map, length-replicate, length-take, length-drop, get_or-map, get_or-take, get_or-drop, take-map, drop-map}
 use Rattle.sh_logic.proofs.Lists.{all_at, all_drop, all_take, from_each}
@@ -23,31 +23,17 @@ module _ (p : ConfigParts) (lawful : IsSetting p) (rows : List Row) (good : AreG
 
   -- ---- fences of any node
   fences : (level j : ℕ) → j < count_in p n level → low_in p rows level j < high_in p rows level j
-  fences level j h = elim (cases_lt (j + 1) (count_in p n level)) [
-    | inl more ↦ omega (arith, high_more p rows level j more, lows_rise p lawful rows good level j (j + 1) (omega arith) more)
-    | inr last ↦ omega (arith, high_last p rows level j last, low_small p lawful rows good level j h)
-  ]
+  fences level j h = search (rules, cases_lt, high_more, lows_rise, high_last, low_small)
 
   next_node : (level j : ℕ) → level ≤ height_of p n → j < count_in p n level → next_in p rows level j ≤ nodes p
-  next_node level j le h = elim (cases_lt (j + 1) (count_in p n level)) [
-    | inl more ↦ omega (arith, next_more p rows level j more, within_need p lawful n level le, room)
-    | inr last ↦ omega (arith, next_last p rows level j last)
-  ]
+  next_node level j le h = search (rules, cases_lt, next_more, within_need, next_last)
 
   ends : (level j : ℕ) → j < count_in p n level → (next_in p rows level j ≡ 0 → high_in p rows level j ≡ 2 ^ 64 - 1) × (high_in p rows level j ≡ 2 ^ 64 - 1 → next_in p rows level j ≡ 0)
-  ends level j h = elim (cases_lt (j + 1) (count_in p n level)) [
-    | inl more ↦ (
-      (λ e. absurd (omega (arith, next_more p rows level j more, e))),
-      (λ e. absurd (omega (arith, high_more p rows level j more, low_small p lawful rows good level (j + 1) more, e))),
-    )
-    | inr last ↦ ((λ e. high_last p rows level j last), (λ e. next_last p rows level j last))
-  ]
+  ends level j h = search (rules, cases_lt, next_more, high_more, low_small, high_last, next_last)
 
   -- ---- leaves
   row_of : (j k : ℕ) → k < length (rows_at p rows j) → (k < leaf_fill p) × (j * leaf_fill p + k < n) × (get_or (rows_at p rows j) k nothing ≡ get_or rows (j * leaf_fill p + k) nothing)
-  row_of j k h =
-      let within : (k < leaf_fill p) × (j * leaf_fill p + k < n) = (omega (arith, length-take (leaf_fill p) (drop (j * leaf_fill p) rows), length-drop (j * leaf_fill p) rows, h), omega (arith, length-take (leaf_fill p) (drop (j * leaf_fill p) rows), length-drop (j * leaf_fill p) rows, h)) in
-      (within.0, within.1, get_or-take (leaf_fill p) (drop (j * leaf_fill p) rows) k nothing within.0 ∙ get_or-drop (j * leaf_fill p) rows k nothing)
+  row_of j k h = search (rules, length-take, length-drop, get_or-take, get_or-drop)
 
   leaf_pair : (j : ℕ) → j < count_in p n 0 → (k : ℕ) → k < length (rows_at p rows j) → IsPair p (low_in p rows 0 j) (high_in p rows 0 j) (row_pair (get_or (rows_at p rows j) k nothing))
   leaf_pair j h k lt =

@@ -1,20 +1,15 @@
 -- What is found after keeps and forgets was kept, and not forgotten or replaced since.
-use Rattle.std.proofs.Common.{◌≡◌, ◌≢◌, ℕ, Bool, true, false, List, [], ◌∷◌, ◌++◌, drop, length, refl, ap, sym, subst, ◌∙◌, append_assoc, append-nil, arith}
-use Rattle.std.{specs.{Prelude.{◌==◌, nat_lt, if◌then◌else◌, Some}, List.{AllByRecursion}}, proofs.lemmas.Bool.Decides.{nat_tests}}
+use Rattle.std.proofs.Common.{rules, ◌≡◌, ◌≢◌, ℕ, Bool, true, false, List, [], ◌∷◌, ◌++◌, refl, sym, subst, append_assoc, append-nil, arith}
+use Rattle.std.{specs.{Prelude.{◌==◌, if◌then◌else◌, Some}, List.{AllByRecursion}}, proofs.lemmas.Bool.Decides.{nat_tests}}
 use Rattle.sh_image.specs.Inner.{Inner}
-use Rattle.sh_cache.specs.{Cached.{added, covers, forgotten, found, has_low, kept, replaced, HaveOwnLows}, Acts.{Act, Keep, Forget, LeavesRow, StillKept, after_act, rows_after}}
+use Rattle.sh_cache.specs.{Cached.{covers, forgotten, found, has_low, kept, replaced, HaveOwnLows}, Acts.{Act, Keep, Forget, LeavesRow, StillKept, after_act, rows_after}}
 use Rattle.sh_cache.proofs.{FindLemmas.{found_has, found_covers}, RowLemmas.{apart_forgotten, apart_kept}}
 use Rattle.sh_logic.proofs.Lists.{all_join, all_drop}
 
 module _ (acts : List Act) where
   -- a row that was kept before stays so at an act that is about another low fence
   stays : (act : Act) (r : Inner) → LeavesRow r.low act → StillKept acts r → StillKept (acts ++ act ∷ []) r
-  stays act r other h = record {
-    before = h.before;
-    behind = h.behind ++ act ∷ [];
-    whole = ap (λ l. l ++ act ∷ []) h.whole ∙ append_assoc h.before (Keep r ∷ h.behind) (act ∷ []);
-    left = all_join (LeavesRow r.low) h.behind (act ∷ []) h.left (other, tt);
-  }
+  stays act r other h = search (rules, append_assoc, all_join)
 
   now_kept : (a : Inner) → StillKept (acts ++ Keep a ∷ []) a
   now_kept a = record { before = acts; behind = []; whole = refl; left = tt }
@@ -43,15 +38,7 @@ module _ (acts : List Act) (a : Inner) where
   kept_pushed rows none h = all_join (StillKept (acts ++ Keep a ∷ [])) rows (a ∷ []) (all_stay acts (Keep a) rows (others rows a.low none) h) (now_kept acts a, tt)
 
   kept_after : (room : ℕ) (rows : List Inner) → HaveOwnLows rows → AllByRecursion (StillKept acts) rows → AllByRecursion (StillKept (acts ++ Keep a ∷ [])) (kept room rows a)
-  kept_after room rows apart h = cases (has_low rows a.low) refl
-    where
-      place : (b : Bool) → AllByRecursion (StillKept (acts ++ Keep a ∷ [])) (rows ++ a ∷ []) → AllByRecursion (StillKept (acts ++ Keep a ∷ [])) (if b then rows ++ a ∷ [] else drop 1 (rows ++ a ∷ []))
-      place true all = all
-      place false all = all_drop (StillKept (acts ++ Keep a ∷ [])) 1 (rows ++ a ∷ []) all
-
-      cases : (b : Bool) → has_low rows a.low ≡ b → AllByRecursion (StillKept (acts ++ Keep a ∷ [])) (if b then replaced rows a else added room rows a)
-      cases true e = kept_replaced rows apart h
-      cases false e = place (nat_lt (length rows) room) (kept_pushed rows e h)
+  kept_after room rows apart h = search (rules, all_drop, kept_replaced, kept_pushed)
 
 forgot_after : (acts : List Act) (low : ℕ) (rows : List Inner) → HaveOwnLows rows → AllByRecursion (StillKept acts) rows → AllByRecursion (StillKept (acts ++ Forget low ∷ [])) (forgotten rows low)
 forgot_after acts low [] apart h = tt
@@ -65,12 +52,10 @@ forgot_after acts low (r ∷ rows) apart h = cases (r.low == low) refl (forgot_a
 
 module _ (room : ℕ) where
   apart_act : (rows : List Inner) (act : Act) → HaveOwnLows rows → HaveOwnLows (after_act room rows act)
-  apart_act rows (Keep a) h = apart_kept room rows a h
-  apart_act rows (Forget low) h = apart_forgotten rows low h
+  apart_act rows act h = search (rules, apart_kept, apart_forgotten)
 
   kept_act : (acts : List Act) (rows : List Inner) (act : Act) → HaveOwnLows rows → AllByRecursion (StillKept acts) rows → AllByRecursion (StillKept (acts ++ act ∷ [])) (after_act room rows act)
-  kept_act acts rows (Keep a) apart h = kept_after acts a room rows apart h
-  kept_act acts rows (Forget low) apart h = forgot_after acts low rows apart h
+  kept_act acts rows act apart h = search (rules, kept_after, forgot_after)
 
   pub apart_acts : (rows : List Inner) (acts : List Act) → HaveOwnLows rows → HaveOwnLows (rows_after room rows acts)
   apart_acts rows [] h = h

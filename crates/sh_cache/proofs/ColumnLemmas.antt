@@ -1,6 +1,6 @@
 -- A cache's columns after a row is replaced, put behind the others, or taken away.
-use Rattle.std.{proofs.Common.{◌≡◌, ℕ, suc, ◌-◌, ◌<◌, ◌≤◌, List, [], ◌∷◌, ◌++◌, map, length, get_or, set, take, drop, refl, sym, ap, ap₂, subst, ◌∙◌, length-append, arith}, specs.Prelude.{Some}}
-use Rattle.std.{specs.List.{remove}, proofs.{Math.Seq.{map-set_same}, lemmas.List.{get_or_default, map-set, map-append, take-map, drop-map, length-map, length-set, Edits.{length-remove}}}}
+use Rattle.std.{proofs.Common.{rules, ◌≡◌, ℕ, suc, ◌-◌, ◌<◌, ◌≤◌, List, [], ◌∷◌, ◌++◌, map, length, get_or, set, take, drop, sym, ap, ap₂, subst, ◌∙◌, length-append, arith}, specs.Prelude.{Some}}
+use Rattle.std.{specs.List.{remove}, proofs.{Math.Seq.{map-set_same}, lemmas.List.{get_or_default, map-set, map-append, take-map, drop-map, length-set, Edits.{length-remove}}}}
 use Rattle.sh_logic.proofs.Lists.{all_join, all_set, all_take, all_drop}
 use Rattle.sh_lanes.specs.Scans.{LacksWord, IsFirst}
 use Rattle.sh_image.specs.Inner.{Inner}
@@ -32,12 +32,7 @@ module _ (lows highs : List ℕ) (rows : List Inner) (h : AreColumns lows highs 
   }
 
   columns_remove : (at : ℕ) → AreColumns (remove lows at) (remove highs at) (remove rows at)
-  columns_remove at = record {
-    low_fences = ap (λ l. remove l at) h.low_fences ∙ sym (map-remove (λ (r : Inner). r.low) rows at);
-    high_fences = ap (λ l. remove l at) h.high_fences ∙ sym (map-remove (λ (r : Inner). r.high) rows at);
-    apart = apart_remove rows at h.apart;
-    levels = all_join HasLevel1 (take at rows) (drop (suc at) rows) (all_take HasLevel1 at rows h.levels) (all_drop HasLevel1 (suc at) rows h.levels);
-  }
+  columns_remove at = search (rules, map-remove, apart_remove, all_join, all_take, all_drop)
 
 module _ (room low_room high_room : ℕ) (lows highs slots : List ℕ) (images : List Inner) (h : IsCache room low_room high_room lows highs slots images) where
   abbrev rows : List Inner
@@ -59,10 +54,7 @@ module _ (room low_room high_room : ℕ) (lows highs slots : List ℕ) (images :
       ∙ f.row rows h.columns.low_fences h.columns.high_fences
 
   pub set_rows : (at slot : ℕ) (a b : Inner) → IsFirst (lows_of rows) a.low at → slot ≡ get_or slots at slot → b ≡ a → rows_in (set images slot b) slots (length lows) ≡ set rows at a
-  set_rows at slot a b first is same =
-      let here : at < length rows = omega (arith, first.in_range, length-map rows (λ (r : Inner). r.low)) in
-      ap₂ (λ s x. rows_in (set images s x) slots (length lows)) (slot_is at slot (omega (arith, here, as_many, h.within)) is) same
-      ∙ rows_set room images slots h.named h.filled (length lows) h.within at a (omega (arith, here, as_many))
+  set_rows at slot a b first is same = search (rules, slot_is, as_many, rows_set)
 
   pub cache_set : (at slot high : ℕ) (a b : Inner) → a.level ≡ 1 → IsFirst (lows_of rows) a.low at → slot ≡ get_or slots at slot → high ≡ a.high → b ≡ a → IsCache room low_room high_room lows (set highs at high) slots (set images slot b)
   cache_set at slot high a b level first is is_high same = record {
@@ -74,10 +66,7 @@ module _ (room low_room high_room : ℕ) (lows highs slots : List ℕ) (images :
   }
 
   pub push_rows : (at slot low : ℕ) (news : List ℕ) (a b : Inner) → length rows < room → at ≡ length lows → slot ≡ get_or slots at slot → news ≡ lows ++ low ∷ [] → b ≡ a → rows_in (set images slot b) slots (length news) ≡ rows ++ a ∷ []
-  push_rows at slot low news a b less last is now same =
-      ap₂ (λ s x. rows_in (set images s x) slots (length news)) (slot_is at slot (omega (arith, as_many)) is ∙ ap (λ i. get_or slots i 0) last) same
-      ∙ ap (rows_in (set images (get_or slots (length lows) 0) a) slots) (ap length now ∙ length-append lows (low ∷ []))
-      ∙ rows_push room images slots h.named h.filled (length lows) h.within a (omega (arith, as_many))
+  push_rows at slot low news a b less last is now same = search (rules, slot_is, as_many, length-append, rows_push)
 
   pub cache_push : (low_room2 high_room2 at slot : ℕ) (newl newh : List ℕ) (a b : Inner) → (room ≤ low_room2) × (room ≤ high_room2) → a.level ≡ 1 → LacksWord (lows_of rows) a.low → length rows < room → at ≡ length lows → slot ≡ get_or slots at slot → newl ≡ lows ++ a.low ∷ [] → newh ≡ highs ++ a.high ∷ [] → b ≡ a → IsCache room low_room2 high_room2 newl newh slots (set images slot b)
   cache_push low_room2 high_room2 at slot newl newh a b reserved level none less last is now_low now_high same = record {
@@ -105,10 +94,4 @@ module _ (room low_room high_room : ℕ) (lows highs slots : List ℕ) (images :
 
 -- a cache without rows
 pub cache_empty : (room low_room high_room : ℕ) (slots : List ℕ) (images : List Inner) → (room ≤ low_room) × (room ≤ high_room) → AreNumbers room slots → length images ≡ room → IsCache room low_room high_room [] [] slots images
-cache_empty room low_room high_room slots images reserved numbers filled = record {
-  reserved = reserved;
-  within = omega arith;
-  named = numbers_slots room slots numbers;
-  filled = filled;
-  columns = subst (AreColumns [] []) (sym (no_rows images slots)) (record { low_fences = refl; high_fences = refl; apart = tt; levels = tt });
-}
+cache_empty room low_room high_room slots images reserved numbers filled = search (rules, numbers_slots, no_rows)

@@ -1,5 +1,5 @@
 -- The row that is found, row by row.
-use Rattle.std.proofs.Common.{◌≡◌, ℕ, zero, suc, ◌+◌, ◌<◌, ◌≤◌, ◌⊎◌, Bool, true, false, List, [], ◌∷◌, length, drop, refl, ap, sym, subst, inl, inr, arith}
+use Rattle.std.proofs.Common.{rules, ◌≡◌, ℕ, zero, suc, ◌+◌, ◌<◌, ◌≤◌, ◌⊎◌, Bool, true, false, List, [], ◌∷◌, length, drop, refl, ap, sym, subst, inl, inr, arith}
 use Rattle.std.specs.{Prelude.{◌&&◌, nat_lt, if◌then◌else◌, slice_get, Option, Some, None}, List.{AllByRecursion}}
 use mathlib.Core.Bool.{false≢true}
 use Rattle.std.proofs.lemmas.{Bool.Decides.{nat_tests}, List.{drop_more}}
@@ -93,9 +93,7 @@ row_at P (r ∷ rows) (suc i) a h is = row_at P rows i a h.1 is
 
 -- what is found is a row, and covers the key
 pub found_has : (P : Inner → Type 0) (rows : List Inner) (key : ℕ) (a : Inner) → found rows key ≡ Some a → AllByRecursion P rows → P a
-found_has P rows key a is h =
-    let by = subst (FoundBy rows key) is (found_by rows key) in
-    row_at P rows by.index a h by.here
+found_has h0 rows key a is h = search (rules, found_by, row_at)
 
 pub found_covers : (rows : List Inner) (key : ℕ) (a : Inner) → found rows key ≡ Some a → covers a key ≡ true
 found_covers rows key a is = let by = subst (FoundBy rows key) is (found_by rows key) in by.covering

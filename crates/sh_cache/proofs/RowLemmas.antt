@@ -1,5 +1,5 @@
 -- Rows by their low fences.
-use Rattle.std.proofs.{Common.{◌≡◌, ℕ, zero, suc, ◌<◌, ◌⊎◌, Bool, true, false, List, [], ◌∷◌, ◌++◌, length, drop, refl, ap, ◌∙◌, inl, inr, arith}, lemmas.Bool.{cases_lt}}
+use Rattle.std.proofs.{Common.{rules, ◌≡◌, ℕ, zero, suc, ◌<◌, ◌⊎◌, Bool, true, false, List, [], ◌∷◌, ◌++◌, length, drop, refl, ap, ◌∙◌, inl, inr, arith}, lemmas.Bool.{cases_lt}}
 use Rattle.std.specs.{Prelude.{◌==◌, ◌||◌, nat_lt, if◌then◌else◌, slice_set}, List.{remove, AllByRecursion, Contains}}
 use Rattle.std.proofs.lemmas.{List.Elements.{All-contains, All-contains_itself, All-from_recursion, recursion_from_All}, Bool.Decides.{nat_tests}}
 use Rattle.sh_logic.proofs.{Lists.{all_drop, all_join, all_weaker}, Tests.{less_test, not_less_test, same_test, differ_test}}
@@ -59,8 +59,7 @@ apart_pushed [] a h all = (refl, tt)
 apart_pushed (r ∷ rows) a h all = (grind (arith, nat_tests, low_added rows a r.low, all.0, h), apart_pushed rows a (grind (arith, nat_tests, h)) all.1)
 
 apart_tail : (rows : List Inner) → HaveOwnLows rows → HaveOwnLows (drop 1 rows)
-apart_tail [] h = h
-apart_tail (r ∷ rows) h = h.1
+apart_tail rows h = search rules
 
 low_remove : (rows : List Inner) (i low : ℕ) → has_low rows low ≡ false → has_low (remove rows i) low ≡ false
 low_remove [] zero low h = h
@@ -91,17 +90,10 @@ forgotten_gone (r ∷ rows) low h = cases (r.low == low) refl (forgotten_gone ro
     cases false e rest = rw e rest
 
 apart_added : (room : ℕ) (rows : List Inner) (a : Inner) → has_low rows a.low ≡ false → HaveOwnLows rows → HaveOwnLows (added room rows a)
-apart_added room rows a h all = elim (cases_lt (length rows) room) [
-  | inl below ↦ rw (less_test (length rows) room below) (apart_pushed rows a h all)
-  | inr from ↦ rw (not_less_test (length rows) room from) (apart_tail (rows ++ a ∷ []) (apart_pushed rows a h all))
-]
+apart_added room rows a h all = search (rules, cases_lt, less_test, apart_pushed, not_less_test, apart_tail)
 
 pub apart_kept : (room : ℕ) (rows : List Inner) (a : Inner) → HaveOwnLows rows → HaveOwnLows (kept room rows a)
-apart_kept room rows a h = cases (has_low rows a.low) refl
-  where
-    cases : (b : Bool) → has_low rows a.low ≡ b → HaveOwnLows (if b then replaced rows a else added room rows a)
-    cases true e = apart_replaced rows a h
-    cases false e = apart_added room rows a e h
+apart_kept room rows a h = search (rules, apart_replaced, apart_added)
 
 -- what holds of each row, and of one that is kept, holds of each row behind a keep or a forget
 module _ (P : Inner → Type 0) where
@@ -114,18 +106,10 @@ module _ (P : Inner → Type 0) where
       cases false rest = (h.0, rest)
 
   all_added : (room : ℕ) (rows : List Inner) (a : Inner) → AllByRecursion P rows → P a → AllByRecursion P (added room rows a)
-  all_added room rows a h new = cases (nat_lt (length rows) room) (all_join P rows (a ∷ []) h (new, tt))
-    where
-      cases : (b : Bool) → AllByRecursion P (rows ++ a ∷ []) → AllByRecursion P (if b then rows ++ a ∷ [] else drop 1 (rows ++ a ∷ []))
-      cases true all = all
-      cases false all = all_drop P 1 (rows ++ a ∷ []) all
+  all_added room rows a h new = search (rules, all_join, all_drop)
 
   pub kept_all : (room : ℕ) (rows : List Inner) (a : Inner) → AllByRecursion P rows → P a → AllByRecursion P (kept room rows a)
-  kept_all room rows a h new = cases (has_low rows a.low)
-    where
-      cases : (b : Bool) → AllByRecursion P (if b then replaced rows a else added room rows a)
-      cases true = all_replaced rows a h new
-      cases false = all_added room rows a h new
+  kept_all room rows a h new = search (rules, all_replaced, all_added)
 
   pub forgotten_all : (rows : List Inner) (low : ℕ) → AllByRecursion P rows → AllByRecursion P (forgotten rows low)
   forgotten_all [] low h = h
@@ -151,12 +135,7 @@ pub kept_there : (room : ℕ) (rows : List Inner) (a : Inner) (i : ℕ) → IsFi
 kept_there room rows a i h = rw (some_low rows a.low i h) (replaced_is rows a i h)
 
 pub kept_new : (room : ℕ) (rows : List Inner) (a : Inner) → 0 < room → LacksWord (lows_of rows) a.low → with_room room rows ++ a ∷ [] ≡ kept room rows a
-kept_new room rows a some h = rw (no_low rows a.low h) (cases rows (nat_lt (length rows) room) refl)
-  where
-    cases : (rows : List Inner) (b : Bool) → nat_lt (length rows) room ≡ b → (if b then rows else drop 1 rows) ++ a ∷ [] ≡ (if b then rows ++ a ∷ [] else drop 1 (rows ++ a ∷ []))
-    cases rows true e = refl
-    cases [] false e = absurd (grind (arith, nat_tests, some, e))
-    cases (r ∷ rows) false e = refl
+kept_new room rows a some h = search (rules, no_low)
 
 -- a low fence that no row has
 pub lacks_behind : (room : ℕ) (rows : List Inner) (low : ℕ) → LacksWord (lows_of rows) low → LacksWord (lows_of (with_room room rows)) low

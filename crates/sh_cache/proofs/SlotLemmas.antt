@@ -1,5 +1,5 @@
 -- The rows whose images lie in slots, after a slot takes another image, and after a slot goes behind the others.
-use Rattle.std.{proofs.Common.{◌≡◌, ◌≢◌, ℕ, suc, ◌+◌, ◌-◌, ◌<◌, ◌≤◌, List, [], ◌∷◌, ◌++◌, length, get_or, set, take, refl, sym, ap, ◌∙◌, inl, inr, length-append, arith}, specs.List.{remove}}
+use Rattle.std.{proofs.Common.{rules, ◌≡◌, ◌≢◌, ℕ, suc, ◌+◌, ◌-◌, ◌<◌, ◌≤◌, List, [], ◌∷◌, ◌++◌, length, get_or, set, take, refl, sym, ap, ◌∙◌, inl, inr, length-append, arith}, specs.List.{remove}}
 use Rattle.std.proofs.lemmas.Bool.{cases_lt, cases_eq}
 use Rattle.std.proofs.lemmas.List.{same_lists, get_or-map, get_or-take, get_or-set_same, get_or-set_other, get_or_append_left, get_or_at, get_or_default, length-map, length-take-le, length-set}
 use Rattle.std.proofs.lemmas.List.{Edits.{get_or-remove_below, get_or-remove_above, length-remove}, Elements.{All-append, All-cons, All-nil, All-take, All-drop}}
@@ -24,10 +24,7 @@ no_rows images slots = refl
 
 -- two places of slots are one where they hold one slot
 pub one_slot : (room : ℕ) (slots : List ℕ) → AreSlots room slots → (i j : ℕ) → i < room → j < room → i ≢ j → get_or slots i 0 ≢ get_or slots j 0
-one_slot room slots h i j a b differ same = elim (cases_lt i j) [
-  | inl below ↦ h.apart i j 0 below (omega (arith, h.count)) same
-  | inr from ↦ h.apart j i 0 (omega arith) (omega (arith, h.count)) (sym same)
-]
+one_slot room slots h i j a b differ same = search (rules, cases_lt)
 
 module _ (room : ℕ) (images : List Inner) (slots : List ℕ) (own : AreSlots room slots) (filled : length images ≡ room) (count : ℕ) (few : count ≤ room) where
   image_at : (at : ℕ) (a : Inner) → at < room → row_in (set images (get_or slots at 0) a) (get_or slots at 0) ≡ a
@@ -99,10 +96,4 @@ slots_moved room slots at slot h here is =
     }
 
 pub numbers_slots : (room : ℕ) (slots : List ℕ) → AreNumbers room slots → AreSlots room slots
-numbers_slots room slots h =
-    let read : (i d : ℕ) → i < length slots → get_or slots i d ≡ i = λ i d lt. get_or_default slots i d 0 lt ∙ h.each i (omega (arith, h.length)) in
-    record {
-      count = h.length;
-      within = λ i d lt. omega (arith, read i d lt, h.length);
-      apart = λ i j d lt within same. absurd (omega (arith, read i d (omega arith), read j d within, same));
-    }
+numbers_slots room slots h = search (rules, get_or_default)

@@ -1,23 +1,14 @@
 -- The turns of a client under a lock that was fed senseless words.
-use Rattle.std.proofs.Common.{◌≡◌, ℕ, ◌+◌, Some, None, refl, sym, ap, subst, ◌∙◌}
+use Rattle.std.proofs.Common.{rules, ◌≡◌, ℕ, Some, sym, ap, subst, ◌∙◌}
 use Rattle.sh_image.specs.declared.inner.Image.{Image}
-use Rattle.sh_lock.specs.Locks.{release_of}
 use Rattle.sh_read.specs.{declared.state.Progress.TheVariants.{Accepted, Odd}, Reads.{accepted, progress_of, read_fed}}
 use Rattle.sh_decide.specs.{declared.state.{Aim.{Aim}, Decision.TheVariants.{Restart}}, Deciding.{decision_of}}
-use Rattle.sh_client.specs.{declared.state.{Phase.TheVariants.{ReadLocked, Waiting}, Then.TheVariants.{Starts}, Write.TheVariants.{Nothing}}, Courses.{node_read, wants_over, GivesBack}}
-use Rattle.sh_client.specs.{Cached.{settling}, Feeds.{did, fed_by, fed_in, held_by, hold_by, loaded}, Giving.{carried, released}, Machine.{Machine, to}, Splitting.{giving_of}}
+use Rattle.sh_client.specs.{declared.state.{Phase.TheVariants.{ReadLocked, Waiting}, Then.TheVariants.{Starts}, Write.TheVariants.{Nothing}}, Courses.{node_read, GivesBack}}
+use Rattle.sh_client.specs.{Cached.{settling}, Feeds.{did, fed_by, fed_in, held_by, hold_by, loaded}, Machine.{Machine, to}, Splitting.{giving_of}}
 use Rattle.sh_client.proofs.GiveLemmas.{freed}
 
 gives_back : (m : Machine) (node depth : ℕ) (aim : Aim) → GivesBack (to m (Waiting depth (giving_of node Nothing (Starts aim)))) node depth aim
-gives_back m node depth aim = record {
-  asks = refl;
-  frees = λ count free.
-      let none : carried depth (release_of count depth m.setting.bound) ≡ None = ap (carried depth) (freed count depth m.setting.bound free) in
-      ap (λ c. wants_over 3 (released (to m (Waiting depth (giving_of node Nothing (Starts aim)))) node c (Starts aim))) none;
-  hands = λ count handed.
-      let some : carried depth (release_of count depth m.setting.bound) ≡ Some (depth + 1) = ap (carried depth) handed in
-      ap (λ c. wants_over 2 (released (to m (Waiting depth (giving_of node Nothing (Starts aim)))) node c (Starts aim))) some;
-}
+gives_back m node depth aim = search (rules, freed)
 
 pub odd_gives_back : (m : Machine) (word depth : ℕ) (aim : Aim) → m.phase ≡ ReadLocked aim depth → progress_of m.setting m.registers.reads word ≡ Odd → GivesBack (fed_by m word) (node_read m word) depth aim
 odd_gives_back m word depth aim at odd =

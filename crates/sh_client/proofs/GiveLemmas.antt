@@ -4,10 +4,10 @@ use Rattle.std.{specs.Prelude.{slice_index}, proofs.lemmas.{Bool.Decides.{nat_te
 use Rattle.sh_logic.proofs.Tests.{same_test, differ_test}
 use Rattle.sh_base.specs.{declared.{event.Event.TheVariants.{Store}, config.ConfigParts.{ConfigParts}}, Layout.{entry_at, node_word}, Setting.{entry_size, node_size}}
 use Rattle.sh_image.{specs.{Leaf.{Leaf as LeafOf, IsLeaf, leaf_words}, Entries.{entry_words}, declared.inner.Image.TheVariants.{Leaf as OfLeaf}}, proofs.LeafLemmas.{length-leaf_words}}
-use Rattle.sh_map.specs.{declared.call.Call.{Call, TheVariants.{Get, Put, Del, Range}}, Calls.{IsInRange}}
+use Rattle.sh_map.specs.{declared.call.Call.{Call}, Calls.{IsInRange}}
 use Rattle.sh_client.{proofs.ImageLemmas.{entry_is_whole, rewritten_count, rewritten_words}, specs.declared.state.{Phase.TheVariants.{Waiting, Body}, Then.TheVariants.{Ends}, Write.{Write}}}
 use Rattle.sh_client.specs.{declared.state.Write.TheVariants.{Entry, Leaf}, Machine.{Machine, answering, storing, to}, Bodies.{answer_in, entry_left}}
-use Rattle.sh_client.specs.{Courses.{after_stores, node_read, stores_of, wants_over, Finds, StoresThenFrees}, Cached.{settling}, Feeds.{did, fed_by, fed_in, held_by, hold_by, loaded}}
+use Rattle.sh_client.specs.{Courses.{after_stores, node_read, stores_of, wants_over, Finds, StoresThenFrees}, Cached.{settling}, Feeds.{did, fed_by, loaded}}
 use Rattle.sh_client.specs.{Giving.{carried, counted, released, writes_nothing, write_begun}, Splitting.{giving_of}, declared.state.Giving.{Giving}, Wants.{lock_word_of, offset_of, want_of}}
 use Rattle.sh_edit.specs.Rewriting.{rewritten}
 use Rattle.sh_lock.specs.{declared.state.Release.TheVariants.{Free}, Locks.{release_of}}
@@ -98,11 +98,7 @@ module _ (m : Machine) (depth : ℕ) (giving : Giving) (some : writes_nothing gi
 
 -- what is found leads to what is decided of it
 decided : (m : Machine) (word depth : ℕ) (a : LeafOf) (d : Decision) → Finds m word depth a d → fed_by m word ≡ did (settling (loaded m word) Own (OfLeaf a)) Own depth (OfLeaf a) d
-decided m word depth a d h =
-    ap (fed_in m word) h.holds
-    ∙ ap (hold_by (loaded m word) Own depth) h.whole
-    ∙ ap (held_by (loaded m word) Own depth) h.leaf_is
-    ∙ ap (did (settling (loaded m word) Own (OfLeaf a)) Own depth (OfLeaf a)) h.decides
+decided m word depth a d h = search rules
 
 pub entry_stores : (m : Machine) (word depth index : ℕ) (a : LeafOf) → Finds m word depth a (decision.Entry index) → StoresThenFrees (fed_by m word) (node_read m word) depth (node_word m.setting (node_read m word) + entry_at m.setting index) (entry_words (entry_left m.setting m.registers.call a index))
 entry_stores m word depth index a h =
@@ -115,10 +111,7 @@ leaf_stores m word depth index a h =
     (gives (storing (answering (settling (loaded m word) Own (OfLeaf a)) (answer_in m.registers.call (OfLeaf a))) (leaf_words (rewritten a index (written_key m.registers.call) (written_value m.setting m.registers.call)))) depth (giving_of (node_read m word) Leaf Ends) refl (omega arith))
 
 value_size : (p : ConfigParts) (call : Call) → IsInRange p call → length (written_value p call) ≡ p.value_words
-value_size p (Get key) h = length-replicate p.value_words 0
-value_size p (Put key value) h = h.1
-value_size p (Del key) h = length-replicate p.value_words 0
-value_size p (Range low high) h = length-replicate p.value_words 0
+value_size p call h = search (rules, length-replicate)
 
 pub entry_words_are : (p : ConfigParts) (call : Call) (a : LeafOf) (index : ℕ) → IsInRange p call → length (entry_words (entry_left p call a index)) ≡ entry_size p
 entry_words_are p call a index h = entry_is_whole p _ (entry_left p call a index) refl (value_size p call h)

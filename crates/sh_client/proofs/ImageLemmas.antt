@@ -1,6 +1,6 @@
 -- What the rules of a node give the changes of it.
 use Rattle.std.proofs.Math.Nat.{mul-le-mul_right}
-use Rattle.std.proofs.Common.{◌≡◌, ◌≢◌, ℕ, zero, suc, ◌+◌, ◌-◌, ◌*◌, ◌<◌, ◌≤◌, Bool, true, false, cond, List, [], ◌∷◌, ◌++◌, length, map, take, drop, length-append, length-drop, Some, refl, ap, sym, subst, inl, inr, ◌∙◌, arith}
+use Rattle.std.proofs.Common.{rules, ◌≡◌, ◌≢◌, ℕ, zero, suc, ◌+◌, ◌-◌, ◌*◌, ◌<◌, ◌≤◌, Bool, false, cond, List, [], ◌∷◌, ◌++◌, length, map, take, drop, length-append, length-drop, Some, refl, ap, sym, subst, inl, inr, ◌∙◌, arith}
 use Rattle.std.{specs.{Prelude.{replicate, ◌==◌}, List.{AllByRecursion}}, proofs.lemmas.{List.{length-map, length-replicate, length-set, length-take-le}, Bool.{cases_lt}}}
 use Rattle.sh_logic.proofs.{Lists.{all_set, all_take, all_drop}, Tests.{less_test, not_less_test, differ_test}}
 use Rattle.sh_base.specs.{declared.config.ConfigParts.{ConfigParts}, Setting.{entry_size, node_size, nodes, IsNode, IsSetting}, Layout.{first_node, node_word}}
@@ -10,7 +10,7 @@ use Rattle.sh_image.{proofs.LeafLemmas.{values_of}, specs.{Entries.{entry_words}
 use Rattle.sh_edit.specs.{Held.{pairs_of}, Rewriting.{cleared, rewritten}, Splitting.{empty_like, entry_with, left_count, left_half, pairs_after, right_half, IsSplit}}
 use Rattle.sh_edit.{specs.Pairing.{pairs_with, right_inner}, proofs.SplitLemmas.{all_after, length-pairs_after}}
 use Rattle.sh_alloc.specs.{declared.state.NodeRange.{NodeRange}, Spares.{nodes_from, without_lowest}}
-use Rattle.sh_client.specs.{declared.state.Write.{Write, TheVariants.{Nothing, Entry}}, Giving.{writes_nothing}, Sound.{AreSpare, IsBody, IsFilled}}
+use Rattle.sh_client.specs.{declared.state.Write.{Write}, Giving.{writes_nothing}, Sound.{AreSpare, IsBody, IsFilled}}
 use Rattle.sh_read.{specs.Reads.{Reads, accepted}, proofs.CauseLemmas.{image_spelled}}
 
 pub one_pair_more : (xs : List Pair) (new : Pair) → length (pairs_with xs new) ≡ length xs + 1
@@ -36,8 +36,7 @@ module _ (p : ConfigParts) where
   IsWide x = length x.1 ≡ p.value_words
 
   wide_either : (b : Bool) (x : ℕ × List ℕ) (xs : List (ℕ × List ℕ)) → IsWide x → AllByRecursion IsWide xs → AllByRecursion IsWide (cond b xs (x ∷ xs))
-  wide_either true x xs h hs = hs
-  wide_either false x xs h hs = (h, hs)
+  wide_either b x xs h hs = search rules
 
   wide_pairs : (es : List LeafEntry) → HaveWords p es → AllByRecursion IsWide (pairs_of es)
   wide_pairs [] h = tt
@@ -115,17 +114,12 @@ chunk_is_in p setting server chunk first count server_is chunk_is first_is count
     (omega (arith, low, first_is), omega (arith, high, first_is, count_is), omega (arith, setting.ranged.chunk_nodes.0, count_is), (nodes_small p setting).1)
 
 pub spare_left : (p : ConfigParts) (first count : ℕ) (r : NodeRange) → 1 ≤ first → first + count ≤ nodes p + 1 → 1 ≤ count → r ≡ without_lowest (nodes_from first count) → AreSpare p r
-spare_left p first count r low high some is =
-    let rest : without_lowest (nodes_from first count) ≡ nodes_from (first + 1) (count - 1) = rw (differ_test count 0 (λ e. absurd (omega (arith, e, some)))) refl in
-    subst (AreSpare p) (sym (is ∙ rest)) (record { low = omega arith; high = omega (arith, high, some) })
+spare_left p first count r low high some is = search (rules, differ_test)
 
 -- some words are to be stored
 pub filled_some : (p : ConfigParts) (write : Write) (body : List ℕ) → IsFilled p write body → 0 < length body
-filled_some p Nothing body h = absurd h
-filled_some p (Entry index) body h = omega (arith, h.1, entry_size_is p)
-filled_some p write body h = omega (arith, h, node_size_is p)
+filled_some p write body h = search (rules, entry_size_is, node_size_is)
 
 -- where something is to be written, words are there for it
 pub filled_body : (p : ConfigParts) (write : Write) (body : List ℕ) → IsBody p write body → writes_nothing write ≡ false → IsFilled p write body
-filled_body p Nothing body h some = cc
-filled_body p write body h some = h
+filled_body p write body h some = search rules

@@ -1,6 +1,6 @@
 -- What a client was at is nothing to where an image leads it.
-use Rattle.std.proofs.Common.{◌≡◌, ℕ, Bool, true, false, cond, Option, Some, None, refl, sym, ap, ◌∙◌}
-use Rattle.sh_image.specs.declared.inner.Image.{Image, TheVariants.{Leaf as LeafImage, Inner as InnerImage}}
+use Rattle.std.proofs.Common.{rules, ◌≡◌, ℕ, Bool, false, cond, Option, Some, None, refl, sym, ap, ◌∙◌}
+use Rattle.sh_image.specs.declared.inner.Image.{Image}
 use Rattle.sh_alloc.specs.Spares.{lowest, without_lowest}
 use Rattle.sh_decide.specs.{Aims.{end_of, is_node}, declared.state.{Aim.{Aim, TheVariants.{Own, Gathers, Posts}}, Decision.{Decision}, Way.{Way}}, Deciding.{decision_of}, Ways.{way_of}}
 use Rattle.sh_read.specs.Reads.{accepted}
@@ -15,15 +15,10 @@ module _ (m : Machine) (phase : Phase) where
   m' = to m phase
 
   either : (b : Bool) (x y x' y' : Machine) → x' ≡ x → y' ≡ y → cond b x' y' ≡ cond b x y
-  either true x y x' y' e h = e
-  either false x y x' y' e h = h
+  either b x y x' y' e h = search rules
 
   halves : (aim : Aim) (depth fresh : ℕ) (image : Image) → halved m' aim depth fresh image ≡ halved m aim depth fresh image
-  halves Own depth fresh (LeafImage a) = refl
-  halves Own depth fresh (InnerImage a) = refl
-  halves (Gathers place) depth fresh image = refl
-  halves (Posts post) depth fresh (LeafImage a) = refl
-  halves (Posts post) depth fresh (InnerImage a) = refl
+  halves aim depth fresh image = search rules
 
   passes : (edge : Edge) → passing m' edge ≡ passing m edge
   passes edge = either (is_node m.setting edge.next) (reading m edge.next (Read (Gathers edge.high) false)) (to m (Root (Gathers edge.high))) (reading m edge.next (Read (Gathers edge.high) false)) (to m (Root (Gathers edge.high))) refl refl

@@ -1,9 +1,9 @@
 -- What a READ leaves behind a word.
-use Rattle.std.{proofs.Common.{rules, ◌≡◌, ◌≢◌, ℕ, ◌+◌, ◌-◌, Bool, true, false, ◌∷◌, length, Some, None, refl, arith}, specs.Prelude.{nat_lt}}
+use Rattle.std.{proofs.Common.{rules, ◌≡◌, ◌≢◌, ℕ, ◌+◌, ◌-◌, true, false, length, Some, None, arith}, specs.Prelude.{nat_lt}}
 use Rattle.sh_logic.proofs.Tests.{less_test}
 use Rattle.sh_base.{specs.{declared.config.ConfigParts.{ConfigParts}, Setting.{node_size}, Layout.{node_word}}, proofs.LayoutLemmas.{node_size_is}}
 use Rattle.sh_image.specs.declared.read.Seen.{Seen}
-use Rattle.sh_read.specs.{Judging.{seen_of}, Reads.{Reads, answer_to, read_fed, reads_left, progress_of, reads_with, reads_start}}
+use Rattle.sh_read.specs.{Judging.{seen_of}, Reads.{Reads, answer_to, read_fed, reads_left, progress_of, reads_start}}
 use Rattle.sh_client.specs.Sound.{IsLoading, Leaves}
 
 some_is : {X : Type 0} (x : X) → Some x ≢ None
@@ -20,11 +20,4 @@ module _ (p : ConfigParts) where
   whole r s e is = search (rules, start_loading, some_is)
 
   pub left_loading : (r : Reads) (word : ℕ) → Leaves p (read_fed p r word) (progress_of p r word)
-  left_loading r word = by (nat_lt (length (word ∷ r.loaded)) (node_size p)) refl
-    where
-      next : Reads
-      next = reads_with r.node (word ∷ r.loaded)
-
-      by : (b : Bool) → nat_lt (length (word ∷ r.loaded)) (node_size p) ≡ b → Leaves p (read_fed p r word) (progress_of p r word)
-      by true e = rw e (more next e)
-      by false e = rw e (whole next (seen_of p (word ∷ r.loaded)) e refl)
+  left_loading r word = search (rules, more, whole)

@@ -1,11 +1,11 @@
 -- What a client is at, by what it wants, by what it has answered, and by its short ways.
-use Rattle.std.proofs.Common.{◌≡◌, ◌≢◌, ℕ, Bool, true, false, [], Option, Some, None, refl, sym, ap, ◌∙◌, subst}
+use Rattle.std.proofs.Common.{rules, ◌≡◌, ◌≢◌, ℕ, true, false, [], Option, Some, None, refl, subst}
 use Rattle.sh_base.specs.Layout.{lock_of}
 use Rattle.sh_alloc.specs.Walks.{walk_wants}
 use Rattle.sh_map.specs.declared.call.Reply.{Reply}
 use Rattle.sh_read.specs.Reads.{wanted}
 use Rattle.sh_decide.specs.declared.state.Aim.{Aim}
-use Rattle.sh_client.specs.{declared.state.{Then.{Then}, Phase.{Phase, TheVariants.{Idle, Read, Look, ReadLocked, Seek, Body, Leave, Ended}}, Want.{Want}}, Feeds.{fed_in}, Giving.{made_in, makes}}
+use Rattle.sh_client.specs.{declared.state.{Then.{Then}, Phase.{Phase, TheVariants.{Look, Leave}}, Want.{Want}}, Feeds.{fed_in}, Giving.{made_in, makes}}
 use Rattle.sh_client.specs.{InLine.{Away, stand_in}, Machine.{Machine}, Rests.{has_ended, is_resting, reply_in, rests}, Steps.{looks_in}, Wants.{count_of, load_of, want_in, want_of}}
 use Rattle.sh_client.proofs.InLineLemmas.{load_is, count_is, not_elsewhere, Elsewhere}
 use Rattle.sh_client.specs.declared.state.Want.TheVariants as want
@@ -13,15 +13,10 @@ use Rattle.sh_client.specs.declared.state.Want.TheVariants as want
 -- ---- by what it wants
 
 rest_wants : (m : Machine) (ph : Phase) → rests ph ≡ true → want_in m ph ≡ want.Done
-rest_wants m Idle e = refl
-rest_wants m Ended e = refl
-rest_wants m ph e = cc
+rest_wants m ph e = search rules
 
 pub wants_busy : (m : Machine) (w : Want) → want_of m ≡ w → w ≢ want.Done → is_resting m ≡ false
-wants_busy m w e ne = by_rest (is_resting m) refl where
-  by_rest : (b : Bool) → is_resting m ≡ b → is_resting m ≡ false
-  by_rest true r = absurd (ne (sym e ∙ rest_wants m m.phase r))
-  by_rest false r = r
+wants_busy m w e ne = search (rules, rest_wants)
 
 -- a READ and a walk want an event, or nothing
 never_loads : (m : Machine) (w : Want) → (Elsewhere w → ⊥) → load_of (wanted m.setting m.registers.reads) ≡ w → ⊥
@@ -37,11 +32,7 @@ pub record IsLooking (m : Machine) (lock : ℕ) : Type 0 where
   pub lock_is : lock_of m.setting node ≡ lock
 
 looking_in : (m : Machine) (lock : ℕ) (ph : Phase) → m.phase ≡ ph → want_in m ph ≡ want.Look lock → IsLooking m lock
-looking_in m lock (Look aim node) is e = record { aim = aim; node = node; phase_is = is; lock_is = cc }
-looking_in m lock (Read aim top) is e = absurd (never_loads m (want.Look lock) (λ h. h) e)
-looking_in m lock (ReadLocked aim d) is e = absurd (never_loads m (want.Look lock) (λ h. h) e)
-looking_in m lock (Seek need) is e = absurd (never_counts m (want.Look lock) (λ h. h) e)
-looking_in m lock ph is e = cc
+looking_in m lock ph is e = search (rules, never_loads, never_counts)
 
 pub looking : (m : Machine) (lock : ℕ) → want_of m ≡ want.Look lock → IsLooking m lock
 looking m lock e = looking_in m lock m.phase refl e
@@ -53,19 +44,14 @@ pub record IsLeavingFor (m : Machine) (lock : ℕ) (carry : Option ℕ) : Type 0
   pub lock_is : lock_of m.setting node ≡ lock
 
 leaving_in : (m : Machine) (lock : ℕ) (carry : Option ℕ) (ph : Phase) → m.phase ≡ ph → want_in m ph ≡ want.Leave lock carry → IsLeavingFor m lock carry
-leaving_in m lock carry (Leave node c after) is e = record { node = node; after = after; phase_is = let k : c ≡ carry = cc in is ∙ ap (λ (o : Option ℕ). Leave node o after) k; lock_is = cc }
-leaving_in m lock carry (Read aim top) is e = absurd (never_loads m (want.Leave lock carry) (λ h. h) e)
-leaving_in m lock carry (ReadLocked aim d) is e = absurd (never_loads m (want.Leave lock carry) (λ h. h) e)
-leaving_in m lock carry (Seek need) is e = absurd (never_counts m (want.Leave lock carry) (λ h. h) e)
-leaving_in m lock carry ph is e = cc
+leaving_in m lock carry ph is e = search (rules, never_loads, never_counts)
 
 pub leaving : (m : Machine) (lock : ℕ) (carry : Option ℕ) → want_of m ≡ want.Leave lock carry → IsLeavingFor m lock carry
 leaving m lock carry e = leaving_in m lock carry m.phase refl e
 
 -- a turn of a line makes no entry
 no_makes : (m : Machine) (ph : Phase) → (Elsewhere (want_in m ph) → ⊥) → made_in m ph ≡ []
-no_makes m (Body carry done giving) h = absurd (h tt)
-no_makes m ph h = refl
+no_makes m ph h = search rules
 
 pub line_makes : (m : Machine) (w : Want) → want_of m ≡ w → (Elsewhere w → ⊥) → makes m ≡ []
 line_makes m w e h = no_makes m m.phase (λ x. h (subst Elsewhere e x))
@@ -74,33 +60,26 @@ line_makes m w e h = no_makes m m.phase (λ x. h (subst Elsewhere e x))
 
 -- a reply is there where the call has ended
 pub ended_in : (m : Machine) (r : Reply) (ph : Phase) → reply_in m ph ≡ Some r → (has_ended ph ≡ true) × (r ≡ m.registers.reply)
-ended_in m r Ended e = (refl, cc)
-ended_in m r ph e = cc
+ended_in m r ph e = search rules
 
 -- no reply is there while it goes on
 pub going_in : (m : Machine) (ph : Phase) → reply_in m ph ≡ None → has_ended ph ≡ false
-going_in m Ended e = cc
-going_in m ph e = refl
+going_in m ph e = search rules
 
 -- a client that isn't at rest has no ended call, and one whose call has ended stands in no line
 pub goes_on : (ph : Phase) → rests ph ≡ false → has_ended ph ≡ false
-goes_on Ended e = cc
-goes_on ph e = refl
+goes_on ph e = search rules
 
 pub stand_ended : (m : Machine) (ph : Phase) → has_ended ph ≡ true → stand_in m.setting m.registers ph ≡ Away
-stand_ended m Ended e = refl
-stand_ended m ph e = cc
+stand_ended m ph e = search rules
 
 -- ---- a look at a ticket that isn't served
 
 pub look_wants : (m : Machine) (ph : Phase) (lock : ℕ) → looks_in m ph ≡ Some lock → want_in m ph ≡ want.Look lock
-look_wants m (Look aim node) lock e = cc
-look_wants m ph lock e = cc
+look_wants m ph lock e = search rules
 
 pub look_stays : (m : Machine) (ph : Phase) (lock word : ℕ) → looks_in m ph ≡ Some lock → fed_in m word ph ≡ m
-look_stays m (Look aim node) lock word e = refl
-look_stays m ph lock word e = cc
+look_stays m ph lock word e = search rules
 
 pub look_busy : (m : Machine) (ph : Phase) (lock : ℕ) → looks_in m ph ≡ Some lock → has_ended ph ≡ false
-look_busy m (Look aim node) lock e = refl
-look_busy m ph lock e = cc
+look_busy m ph lock e = search rules

@@ -1,22 +1,15 @@
 -- The causes of refusals stay, as the log and the counters grow.
-use Rattle.std.proofs.{Common.{◌≡◌, ℕ, ◌+◌, ◌≤◌, ◌<◌, List, [], ◌∷◌, ◌++◌, length, sym, ap, ◌∙◌, subst, arith}, lemmas.{Bool.Decides.{nat_tests}, List.{take-append-le}}}
+use Rattle.std.proofs.{Common.{rules, ◌≡◌, ℕ, ◌+◌, ◌≤◌, ◌<◌, List, [], ◌∷◌, ◌++◌, length, sym, subst, arith}, lemmas.{Bool.Decides.{nat_tests}, List.{take-append-le}}}
 use Rattle.sh_base.specs.declared.config.ConfigParts.{ConfigParts}
-use Rattle.sh_map.specs.{declared.{call.{Call.{Call, TheVariants.{Put, Del, Range}}, Reply.{Reply}}, log.Entry.{Entry as LogEntry}, book.{Done.{Done}, Row.{Row}}}, Map.{get}, Log.{map_of}}
+use Rattle.sh_map.specs.{declared.{call.{Call.{Call}, Reply.{Reply}}, log.Entry.{Entry as LogEntry}, book.{Done.{Done}, Row.{Row}}}}
 use Rattle.sh_map.specs.Points.{point_of}
-use Rattle.sh_map.specs.declared.call.Reply.TheVariants as reply
 use Rattle.sh_state.specs.TreeState.{TreeState}
 use Rattle.sh_core.specs.{Actors.{Actor, AreAnswered}, Fits.{IsDecided}, Causes.{EndsByRows, HasCause, HaveCauses}}
 use Rattle.sh_edit.specs.Ranging.{last_key, upto_of}
 
 module _ (p : ConfigParts) (c now : ℕ → ℕ) (rise : (server : ℕ) → server < p.servers → c server ≤ now server) (log more : List LogEntry) where
   cause_longer : (first point : ℕ) (rows : List Row) (call : Call) (r : Reply) → point ≤ length log → HasCause p c log first point rows call r → HasCause p now (log ++ more) first point rows call r
-  cause_longer first point rows (Put key value) reply.Full le h =
-      let n = h.absent in
-      record { spent = λ server lt. omega (arith, h.spent server lt, rise server lt); absent = record { at = n.at; from = n.from; below = n.below; absent = ap (λ (es : List LogEntry). get (map_of es) key) (take-append-le n.at log more (omega (arith, n.below, le))) ∙ n.absent } }
-  cause_longer first point rows (Put key value) (reply.Worn version) le h = h
-  cause_longer first point rows (Del key) (reply.Worn version) le h = h
-  cause_longer first point rows (Range low high) (reply.Rows upto) le h = h
-  cause_longer first point rows call r le h = tt
+  cause_longer first point rows call r le h = search (rules, take-append-le)
 
   longer : (seat : ℕ) (ds : List Done) → AreAnswered log seat ds → HaveCauses p c log ds → HaveCauses p now (log ++ more) ds
   longer seat [] a h = tt
@@ -31,11 +24,7 @@ causes_snoc p c log (x ∷ ds) d h k = (h.0, causes_snoc p c log ds d h.1 k)
 
 -- a reply that was decided
 pub decided_cause : (p : ConfigParts) (s : TreeState) (sn : List LogEntry) (i : ℕ) (a : Actor) → a.seen ≤ length sn → (rows : List Row) (call : Call) (r : Reply) → IsDecided p s i a.first a.point a.seen call r → HasCause p s.counter s.log a.first (point_of sn a.first a.point call r) rows call r
-decided_cause p s sn i a more rows (Put key value) reply.Full h = let n = h.absent in record { spent = h.spent; absent = record { at = n.at; from = n.from; below = omega (arith, n.below, more); absent = n.absent } }
-decided_cause p s sn i a more rows (Put key value) (reply.Worn version) h = h
-decided_cause p s sn i a more rows (Del key) (reply.Worn version) h = h
-decided_cause p s sn i a more rows (Range low high) r h = absurd h
-decided_cause p s sn i a more rows call r h = tt
+decided_cause p s sn i a more rows call r h = search rules
 
 -- the bound that a range's rows give it
 module _ (p : ConfigParts) (high : ℕ) (rows : List Row) where

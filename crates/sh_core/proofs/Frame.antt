@@ -1,5 +1,5 @@
 -- How a turn's new invariant is put together: the actor goes on with its call, or its call has ended.
-use Rattle.std.proofs.Common.{◌≡◌, ◌≢◌, ℕ, ◌+◌, ◌<◌, ◌≤◌, false, true, List, [], ◌∷◌, ◌++◌, length, Option, Some, None, refl, sym, ap, ◌∙◌, subst, arith, append-nil, length-append}
+use Rattle.std.proofs.Common.{rules, ◌≡◌, ◌≢◌, ℕ, ◌+◌, ◌<◌, ◌≤◌, true, List, [], ◌∷◌, ◌++◌, length, Option, Some, None, refl, sym, ap, ◌∙◌, subst, arith, append-nil, length-append}
 use Rattle.std.proofs.lemmas.List.{take-append-le}
 use Rattle.sh_base.specs.{declared.{config.ConfigParts.{ConfigParts}, event.Event.{Event}}, Memory.{apply, found_by}, Setting.{all_seats, IsSetting}, Layout.{counter_word}}
 use Rattle.sh_base.specs.declared.event.Event.TheVariants as event
@@ -7,13 +7,12 @@ use Rattle.sh_map.specs.{declared.{call.{Call.{Call}, Reply.{Reply}}, log.Entry.
 use Rattle.sh_map.{specs.{Points.{IsLeastPoint, least_point, point_of}, Book.{made}}, proofs.{BookLemmas.{IsLeastPoint-push}, LeastLemmas.{least_is}}}
 use Rattle.sh_map.specs.declared.call.Call.TheVariants as call
 use Rattle.sh_map.specs.declared.call.Reply.TheVariants as reply
-use Rattle.sh_read.specs.Reads.{wanted}
 use Rattle.sh_state.{specs.{TreeState.{Pending, Skipped, Grant, Seat, LockState, Held, Owns, TreeState}, Ground.{Ground}, Change.{Change}}, proofs.{Joins.{nothing_done}, Puts.{put_else, put_case}}}
 use Rattle.sh_acts.specs.{Acts.{with_hold}, Counters.{Bounded}}
 use Rattle.sh_readers.{specs.Hand.{AreRowsOf}, proofs.RowLemmas.{rows_linked}}
 use Rattle.sh_decide.specs.declared.state.Posting.{Posting}
 use Rattle.sh_client.specs.declared.state.Want.TheVariants as want
-use Rattle.sh_client.specs.{declared.state.Phase.{Phase, TheVariants.{Idle, Read, ReadLocked, Seek, Ended}}, Giving.{makes}, Machine.{Machine, Registers}, Rests.{rests, rows_for}}
+use Rattle.sh_client.specs.{declared.state.Phase.{Phase, TheVariants.{Seek, Ended}}, Giving.{makes}, Machine.{Machine, Registers}, Rests.{rests, rows_for}}
 use Rattle.sh_client.specs.Wants.{want_in, load_of}
 use Rattle.sh_core.specs.{Actors.{Actor, ending, actor_stepped, done_of, IsAnswered, AreAnswered, made_by, updates}, Fits.{AreSpares, HadNone, IsDecided, Owes, Fits}, Causes.{HasCause}}
 use Rattle.sh_core.specs.{Keeps.{holding, Hands, Waits, pending, IsSeated, skips_counted, Skips, IsAtWork, KeepsActor}, Core.{WantsAdd, SomeAdds, Inv, Moves}}
@@ -89,21 +88,13 @@ module _ (p : ConfigParts) (s : TreeState) (sn rest : List LogEntry) (i : ℕ) (
 
   -- an update, or a node or a pool that is used up
   pub decided_ends : (c : Call) (r : Reply) → IsDecided p s i a.first a.point a.seen c r → IsEnding s.log i (length sn) (done c r)
-  decided_ends (call.Put key value) (reply.Some old) h = record { answered = record { seat_is = refl; answers = record { within = omega (arith, h.below, more, shorter); row = let e = h.stands in let q = h.is in cc }; least = tt; rows = refl }; from = h.from; past = omega (arith, h.below, more) }
-  decided_ends (call.Put key value) reply.None h = record { answered = record { seat_is = refl; answers = record { within = omega (arith, h.below, more, shorter); row = let e = h.stands in let q = h.is in cc }; least = tt; rows = refl }; from = h.from; past = omega (arith, h.below, more) }
-  decided_ends (call.Del key) (reply.Some old) h = record { answered = record { seat_is = refl; answers = record { within = omega (arith, h.below, more, shorter); row = let e = h.stands in let q = h.is in cc }; least = tt; rows = refl }; from = h.from; past = omega (arith, h.below, more) }
-  decided_ends (call.Del key) reply.None h = absent_ends key h
-  decided_ends (call.Put key value) reply.Full h = record { answered = record { seat_is = refl; answers = record { within = shorter; row = tt }; least = tt; rows = refl }; from = omega (arith, began, more); past = omega arith }
-  decided_ends (call.Put key value) (reply.Worn version) h = record { answered = record { seat_is = refl; answers = record { within = shorter; row = tt }; least = tt; rows = refl }; from = omega (arith, began, more); past = omega arith }
-  decided_ends (call.Del key) (reply.Worn version) h = record { answered = record { seat_is = refl; answers = record { within = shorter; row = tt }; least = tt; rows = refl }; from = omega (arith, began, more); past = omega arith }
-  decided_ends c r h = absurd h
+  decided_ends c r h = search (rules, shorter, absent_ends)
 
 -- ---- the client's part
 
 -- a duty is what it was, in a scene of the same posts
 pub waits_on : (s t : TreeState) (i : ℕ) → ((n : ℕ) → t.post n ≡ s.post n) → (duty : Option Posting) → Waits s i duty → Waits t i duty
-waits_on s t i e None w = λ n q. w n (sym (e n) ∙ q)
-waits_on s t i e (Some post) w = λ n ne q. w n ne (sym (e n) ∙ q)
+waits_on s t i e duty w = search rules
 
 pub skips_on : (s t : TreeState) (i count now : ℕ) → ((n : ℕ) → t.post n ≡ s.post n) → now ≡ count → Skips s i count → Skips t i now
 skips_on s t i count now e c h = record { nodes = h.nodes; once = h.once; are = λ n. let u = h.are n in ((λ q. e n ∙ u.0 q), (λ q. u.1 (sym (e n) ∙ q))); counted = h.counted ∙ sym c }
@@ -124,17 +115,7 @@ same_grows s t i e n h le = record { more = []; longer = h.log ∙ sym (append-n
 -- its duty stays: the seat has the same node to post
 pub work_anew : (p : ConfigParts) (s t : TreeState) (i f q e n : ℕ) (r : Registers) (ph : Phase) (w : IsAtWork p s i f q e (at p i r ph)) → ((k : ℕ) → t.post k ≡ s.post k) → (x : Registers) (to : Phase) → x.call ≡ r.call → skips_counted x.tally ≡ skips_counted r.tally
     → Fits p t i f q n x w.duty to → Owes t i f q n x.call x.reply w.duty → AreSpares t i x.spare → AreRowsOf t x.cached → Hands t i (holding p x to) → IsAtWork p t i f q n (at p i x to)
-work_anew p s t i f q e n r ph w post x to call sum fits owes spares cached hands = record {
-  seated = subst (IsSeated p i p i) (sym call) w.seated;
-  duty = w.duty;
-  fits = fits;
-  owes = owes;
-  hands = hands;
-  waits = waits_on s t i post w.duty w.waits;
-  spares = spares;
-  cached = cached;
-  skips = skips_on s t i (skips_counted r.tally) (skips_counted x.tally) post sum w.skips;
-}
+work_anew p s t i f q e n r ph w post x to call sum fits owes spares cached hands = search (rules, waits_on, skips_on)
 
 -- registers of the same call, with the same reply, spare nodes, skipped posts and cached nodes
 pub record SameCall (r x : Registers) : Type 0 where
@@ -149,8 +130,7 @@ same_call r = record { call_is = refl; reply_is = refl; spare_is = refl; skips_a
 
 -- so what the seat owes stays, and its spare nodes do
 pub owes_with : (s t : TreeState) (i f q e n : ℕ) (p : ConfigParts) (r x : Registers) (duty : Option Posting) → SameNodes s t → e ≤ n → SameCall r x → Owes s i f q e r.call r.reply duty → Owes t i f q n x.call x.reply duty
-owes_with s t i f q e n p r x duty same le with o =
-    subst (λ (c : Call). Owes t i f q n c x.reply duty) (sym with.call_is) (subst (λ (y : Reply). Owes t i f q n r.call y duty) (sym with.reply_is) (owes_on p s t i f q e n (same_grows s t i e n same le) r.call r.reply duty o))
+owes_with s t i f q e n p r x duty same le with o = search (rules, owes_on, same_grows)
 
 pub spares_with : (s t : TreeState) (i : ℕ) (r x : Registers) → SameNodes s t → x.spare ≡ r.spare → AreSpares s i r.spare → AreSpares t i x.spare
 spares_with s t i r x same is h = subst (AreSpares t i) (sym is) (λ k is. same.class k ∙ h k is)
@@ -182,14 +162,10 @@ IsCalm (Seek need) = ⊥
 IsCalm ph = Unit {0}
 
 load_no_add : (o : Option ℕ) (at : ℕ) → load_of o ≡ want.Event (event.Add at) → ⊥
-load_no_add None at e = cc
-load_no_add (Some x) at e = cc
+load_no_add o at e = search rules
 
 pub no_add : (p : ConfigParts) (server : ℕ) (m : Machine) (ph : Phase) → IsCalm ph → want_in m ph ≡ want.Event (event.Add (counter_word p server)) → ⊥
-no_add p server m (Read aim top) c e = load_no_add (wanted m.setting m.registers.reads) (counter_word p server) e
-no_add p server m (ReadLocked aim d) c e = load_no_add (wanted m.setting m.registers.reads) (counter_word p server) e
-no_add p server m (Seek need) c e = absurd c
-no_add p server m ph c e = cc
+no_add p server m ph c e = search (rules, load_no_add)
 
 -- a client at rest has nothing to post, holds no lock, and has no entry of a call under way
 pub record NothingLeft (p : ConfigParts) (i : ℕ) (r : Registers) (duty : Option Posting) (ph : Phase) : Type 0 where
@@ -198,12 +174,7 @@ pub record NothingLeft (p : ConfigParts) (i : ℕ) (r : Registers) (duty : Optio
   pub made : pending i r ph ≡ []
 
 pub nothing_left : (p : ConfigParts) (s : TreeState) (i f q e : ℕ) (r : Registers) (duty : Option Posting) (ph : Phase) → rests ph ≡ true → Fits p s i f q e r duty ph → NothingLeft p i r duty ph
-nothing_left p s i f q e r duty Idle t h = record { none = h; free = refl; made = refl }
-nothing_left p s i f q e r duty Ended t h = record { none = h; free = refl; made = refl }
-nothing_left p s i f q e r duty ph t h = absurd (busy t)
-  where
-    busy : false ≡ true → ⊥
-    busy z = cc
+nothing_left p s i f q e r duty ph t h = search rules
 
 -- ---- what the invariant says before a turn
 pub record Before (p : ConfigParts) (words : List ℕ) (Has : ℕ → Actor → Type 0) (Out : ℕ → ℕ → ℕ → Type 0) (s : TreeState) : Type 0 where

@@ -1,5 +1,5 @@
 -- The laws over a list of actors, and a list of rights.
-use Rattle.std.proofs.Common.{◌≡◌, ◌≢◌, ℕ, zero, suc, ◌<◌, Bool, true, false, List, [], ◌∷◌, ◌++◌, length, set, Some, refl, sym, ap, ◌∙◌, inl, inr, arith, eq-eqb, eqb-true}
+use Rattle.std.proofs.Common.{rules, ◌≡◌, ◌≢◌, ℕ, zero, suc, ◌<◌, Bool, true, false, List, [], ◌∷◌, ◌++◌, length, set, Some, refl, sym, ap, ◌∙◌, inl, inr, arith, eq-eqb, eqb-true}
 use Rattle.std.{specs.Prelude.{◌==◌, if◌then◌else◌, slice_get}, proofs.lemmas.Option.{slice_get_within}}
 use Rattle.sh_logic.proofs.Lists.{slice_get-append_left, slice_get-push_back, slice_get-push_end}
 use Rattle.sh_core.{specs.{Actors.{Actor}, Core.{Moves}, Opening.{IsFreeSeat}, Listed.{HasAt, RightOut, OutAt, without}}, proofs.Moves.{moves_from}}
@@ -31,20 +31,11 @@ none_at seat a h = cc
 
 -- one actor of a list changes
 pub list_moves : (actors : List Actor) (seat : ℕ) (a x : Actor) → slice_get actors seat ≡ Some a → Moves (HasAt actors) seat x (HasAt (set actors seat x))
-list_moves actors seat a x h =
-    let here = set_here actors seat x (slice_get_within actors seat a h) in
-    moves_from (HasAt actors) (HasAt (set actors seat x)) seat x here (λ b k. let q = sym k ∙ here in cc) (λ j b ne k. sym (set_else actors seat j x ne) ∙ k) (λ j b ne k. set_else actors seat j x ne ∙ k)
+list_moves actors seat a x h = search (rules, set_here, slice_get_within, moves_from, set_else)
 
 -- one joins them
 pub push_moves : (actors : List Actor) (x : Actor) → Moves (HasAt actors) (length actors) x (HasAt (actors ++ x ∷ []))
-push_moves actors x = record {
-  back = λ j b k. elim (slice_get-push_back actors x b j k) [
-    | inl old ↦ inr ((λ e. let lt = slice_get_within actors j b old in omega (arith, e, lt)), old)
-    | inr new ↦ inl (new.0, sym new.1)
-  ];
-  here = slice_get-push_end actors x;
-  on = λ j b ne k. slice_get-append_left actors (x ∷ []) j b k;
-}
+push_moves actors x = search (rules, slice_get-push_back, slice_get_within, slice_get-push_end, slice_get-append_left)
 
 pub end_is_free : (actors : List Actor) → IsFreeSeat (HasAt actors) (length actors)
 end_is_free actors a h = let lt = slice_get_within actors (length actors) a h in omega (arith, lt)

@@ -1,5 +1,5 @@
 -- Which seat has which actor: one seat's actor changes and the others stay, and what is said otherwise.
-use Rattle.std.proofs.{Common.{◌≡◌, ◌≢◌, ℕ, refl, subst, inl, inr}, lemmas.Bool.{cases_eq}}
+use Rattle.std.proofs.{Common.{rules, ◌≡◌, ◌≢◌, ℕ, refl, inl, inr}, lemmas.Bool.{cases_eq}}
 use Rattle.sh_base.specs.declared.config.ConfigParts.{ConfigParts}
 use Rattle.sh_core.{specs.{Actors.{Actor}, Core.{Instead, Moves, SameKeeps, SomeAdds}}, proofs.Others.{bounded_less}}
 
@@ -8,22 +8,11 @@ put_moves Has i a = record { back = λ j b h. h; here = inl (refl, refl); on = �
 
 -- the actor that was put there is changed again
 pub put_again : (Has Now : ℕ → Actor → Type 0) (i : ℕ) (a b : Actor) → Moves Has i b Now → Moves (Instead Has i a) i b Now
-put_again Has Now i a b mv = record {
-  back = λ j c h. elim (mv.back j c h) [ inl e ↦ inl e | inr o ↦ inr (o.0, inr o) ];
-  here = mv.here;
-  on = λ j c ne h. elim h [ inl e ↦ absurd (ne e.0) | inr o ↦ mv.on j c ne o.1 ];
-}
+put_again h0 h1 i a b mv = search rules
 
 -- the seat has this actor alone, and what the others have was there before and is there still
 pub moves_from : (Has Now : ℕ → Actor → Type 0) (i : ℕ) (a : Actor) → Now i a → ((b : Actor) → Now i b → b ≡ a) → ((j : ℕ) (b : Actor) → j ≢ i → Now j b → Has j b) → ((j : ℕ) (b : Actor) → j ≢ i → Has j b → Now j b) → Moves Has i a Now
-moves_from Has Now i a here only back on = record {
-  back = λ j b h. elim (cases_eq j i) [
-    | inl e ↦ inl (e, only b (subst (λ (k : ℕ). Now k b) e h))
-    | inr ne ↦ inr (ne, back j b ne h)
-  ];
-  here = here;
-  on = on;
-}
+moves_from h0 h1 i a here only back on = search (rules, cases_eq)
 
 pub same_keeps : (p : ConfigParts) → SameKeeps p
 same_keeps p words log Has Now Out After inv same rights = record {

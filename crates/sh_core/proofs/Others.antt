@@ -1,14 +1,12 @@
 -- What the actors that don't act keep, and the new invariant from its parts.
-use Rattle.std.proofs.Common.{◌≡◌, ◌≢◌, ℕ, zero, suc, ◌+◌, ◌<◌, ◌≤◌, Bool, List, [], ◌∷◌, ◌++◌, length, get_or, Option, Some, None, refl, sym, ap, ◌∙◌, subst, inl, inr, arith, append-nil, length-append}
+use Rattle.std.proofs.Common.{rules, ◌≡◌, ◌≢◌, ℕ, suc, ◌+◌, ◌<◌, ◌≤◌, Bool, List, [], ◌∷◌, ◌++◌, length, get_or, Option, Some, None, refl, sym, ap, ◌∙◌, subst, inl, inr, arith, append-nil, length-append}
 use Rattle.std.specs.Prelude.{slice_get, ◌%◌}
 use mathlib.Core.Logic.{dite}
 use native.Mathlib.Decide.{ℕ_discrete}
 use Rattle.std.proofs.lemmas.List.{take-append-le}
 use Rattle.sh_logic.proofs.Lists.{slice_get-append_left}
 use Rattle.sh_base.specs.{declared.config.ConfigParts.{ConfigParts}, Setting.{all_seats, node_size, IsSetting}, Layout.{lock_of}}
-use Rattle.sh_map.specs.{declared.{call.{Call.{Call}, Reply.{Reply}}, log.Entry.{Entry as LogEntry}}, Map.{get}, Log.{change_key, map_of, map_at}, Made.{entries_by}}
-use Rattle.sh_map.specs.declared.call.Call.TheVariants as call
-use Rattle.sh_map.specs.declared.call.Reply.TheVariants as reply
+use Rattle.sh_map.specs.{declared.{call.{Call.{Call}, Reply.{Reply}}, log.Entry.{Entry as LogEntry}}, Map.{get}, Log.{map_of, map_at}, Made.{entries_by}}
 use Rattle.sh_alloc.specs.declared.state.{NodeRange.{NodeRange}, Walk.{Walk}}
 use Rattle.sh_image.specs.declared.inner.Pair.{Pair}
 use Rattle.sh_read.specs.Reads.{Reads}
@@ -17,7 +15,7 @@ use Rattle.sh_state.specs.Change.{ChangeFor, Change}
 use Rattle.sh_acts.specs.{Counters.{Bounded}, Images.{IsEntryOf, IsPairOf}}
 use Rattle.sh_readers.{specs.{Knows.{fed_from, fed_words}, Hand.{IsNamed}, Ranges.{IsGathered}}, proofs.{RowLemmas.{rows_linked}, Gathering.{gathered_more}, Known.{known_on}}}
 use Rattle.sh_decide.specs.{declared.state.{Posting.{Posting}, Aim.{Aim, TheVariants.{Own, Gathers, Posts}}}, Aims.{aimed_key, target}}
-use Rattle.sh_client.specs.declared.state.{Then.{Then, TheVariants.{Ends, Starts, Takes}}, Write.{Write, TheVariants.{Nothing, Entry, Leaf as WholeLeaf, LeftLeaf, Inner as WholeInner, LeftInner}}}
+use Rattle.sh_client.specs.declared.state.{Then.{Then}, Write.{Write, TheVariants.{Nothing, Entry, Leaf as WholeLeaf, LeftLeaf, Inner as WholeInner, LeftInner}}}
 use Rattle.sh_client.specs.declared.state.{Phase.{Phase, TheVariants.{Root, Read, Draw, Look, Grab, ReadLocked, Seek, Fill, Waiting, Body, Unlock, Leave, Swap}}, Giving.{Giving}, Need.{Need}}
 use Rattle.sh_client.specs.{declared.state.{Need.TheVariants.{ToSplit, ToGrow}, Filling.{Filling, TheVariants.{RightHalf, NewRoot}}}, Machine.{Registers}}
 use Rattle.sh_core.specs.Actors.{Actor, AreAnswered, made_by}
@@ -48,29 +46,19 @@ module _ (p : ConfigParts) (s t : TreeState) (i f q e now : ℕ) (gr : Grows s t
   posting_on c r post h = record { below = h.below; level = h.level; linked = gr.linked post.node h.below post.separator h.linked; some = h.some; past = h.past; mine = gr.pending post.node h.mine; entry = entry_on c r h.entry }
 
   pub owes_on : (c : Call) (r : Reply) (duty : Option Posting) → Owes s i f q e c r duty → Owes t i f q now c r duty
-  owes_on c r None h = tt
-  owes_on c r (Some post) h = posting_on c r post h
+  owes_on c r duty h = search (rules, posting_on)
 
   pub none_on : (k : ℕ) → e ≤ length s.log → HadNone s.log f e k → HadNone t.log f now k
   none_on k le h = record { at = h.at; from = h.from; below = omega (arith, h.below, gr.later); absent = subst (λ (es : List LogEntry). get (map_at es h.at) k ≡ None) (sym gr.longer) (ap (λ (es : List LogEntry). get (map_of es) k) (take-append-le h.at s.log gr.more (omega (arith, h.below, le))) ∙ h.absent) }
 
   pub decided_on : (c : Call) (r : Reply) → e ≤ length s.log → IsDecided p s i f q e c r → IsDecided p t i f q now c r
-  decided_on (call.Put key value) (reply.Some old) le h = entry_on (call.Put key value) (reply.Some old) h
-  decided_on (call.Put key value) reply.None le h = entry_on (call.Put key value) reply.None h
-  decided_on (call.Del key) (reply.Some old) le h = entry_on (call.Del key) (reply.Some old) h
-  decided_on (call.Del key) reply.None le h = none_on key le h
-  decided_on (call.Put key value) reply.Full le h = record { spent = λ server lt. omega (arith, h.spent server lt, gr.counts server); absent = none_on key le h.absent }
-  decided_on (call.Put key value) (reply.Worn version) le h = h
-  decided_on (call.Del key) (reply.Worn version) le h = h
-  decided_on c r le h = absurd h
+  decided_on c r le h = search (rules, entry_on, none_on)
 
   pub at_on : (c : Call) (aim : Aim) (n : ℕ) (duty : Option Posting) → IsAtNode s c aim n duty → IsAtNode t c aim n duty
   at_on c aim n duty h = record { duty_is = h.duty_is; takes = h.takes; there = named_on (target aim) n (aimed_key c aim) h.there }
 
   pub follows_on : (c : Call) (r : Reply) (duty : Option Posting) (after : Then) → e ≤ length s.log → Follows p s i f q e c r duty after → Follows p t i f q now c r duty after
-  follows_on c r duty Ends le h = record { none = h.none; decided = decided_on c r le h.decided }
-  follows_on c r duty (Starts aim) le h = h
-  follows_on c r duty (Takes aim n) le h = at_on c aim n duty h
+  follows_on c r duty after le h = search (rules, decided_on, at_on)
 
   pub seeking_on : (walk : Walk) (spare : NodeRange) → IsSeeking p s walk spare → IsSeeking p t walk spare
   seeking_on walk spare h = record { walk_is = h.walk_is; wants = h.wants; passed = λ k lt. omega (arith, h.passed k lt, gr.counts ((walk.first + k) % p.servers)); none = h.none }
@@ -89,26 +77,10 @@ pub record StaysUnder (s t : TreeState) (i n : ℕ) : Type 0 where
 
 module _ (p : ConfigParts) (s t : TreeState) (j n : ℕ) (u : StaysUnder s t j n) where
   entry_fits : (a : ℕ) (x : LogEntry) → t.node n ≡ s.node n → IsEntryOf s j n a x → IsEntryOf t j n a x
-  entry_fits a x is h =
-      let k : ℕ = change_key x.change in
-      let nz : k ≢ 0 = λ z. omega (arith, z, h.key) in
-      record {
-        linked = u.linked n 0 a h.linked;
-        by = h.by;
-        fits = (h.fits.0 ∙ sym (u.map a k h.linked nz h.from h.below), h.fits.1);
-        key = h.key;
-        from = subst (λ (ws : List ℕ). low_in ws ≤ k) (sym is) h.from;
-        below = subst (λ (ws : List ℕ). k < high_in ws) (sym is) h.below;
-      }
+  entry_fits a x is h = search rules
 
   pair_fits : (l a : ℕ) (x : Pair) → t.node n ≡ s.node n → IsPairOf s j n l a x → IsPairOf t j n l a x
-  pair_fits l a x is h = record {
-    linked = u.linked n (suc l) a h.linked;
-    child = u.linked x.child l x.separator h.child;
-    mine = u.pends x.child h.mine;
-    from = subst (λ (ws : List ℕ). low_in ws ≤ x.separator) (sym is) h.from;
-    below = subst (λ (ws : List ℕ). x.separator < high_in ws) (sym is) h.below;
-  }
+  pair_fits l a x is h = search rules
 
   update_on : (made : List LogEntry) (duty : Option Posting) (h : IsUpdate s j made n duty) → t.node n ≡ s.node n → IsUpdate t j made n duty
   update_on made duty h is = record { none = h.none; low = h.low; entry = h.entry; made_is = h.made_is; fits = entry_fits h.low h.entry is h.fits }
@@ -153,8 +125,7 @@ held_owns : (h : LockState) (o : Owner) (d : ℕ) → h ≡ Held o d → Owns h 
 held_owns h o d e = subst (λ (x : LockState). Owns x o) (sym e) refl
 
 storing_owns : (h : LockState) (i d n : ℕ) (write : Write) (body : List ℕ) (done : ℕ) → h ≡ storing_hold i d n write body done → Owns h (Seat i)
-storing_owns h i d n write body zero e = subst (λ (x : LockState). Owns x (Seat i)) (sym e) refl
-storing_owns h i d n write body (suc done) e = subst (λ (x : LockState). Owns x (Seat i)) (sym e) refl
+storing_owns h i d n write body done e = search rules
 
 module _ (p : ConfigParts) (ok : IsSetting p) (Other : Owner → Type 0) (words now : List ℕ) (s t : TreeState) (g : Ground p words s) (g' : Ground p now t) (ch : ChangeFor p Other s t) (rise : (server : ℕ) → s.counter server ≤ t.counter server) (j : ℕ) (ne : Other (Seat j)) where
   grown : (e : ℕ) → Grows s t j e e
@@ -191,8 +162,7 @@ module _ (p : ConfigParts) (ok : IsSetting p) (Other : Owner → Type 0) (words 
   holding_on n carry h = record { real = h.real; depth = h.depth; held = still n (Held (Seat j) h.depth) (held_owns (s.hold (lock_of p n)) (Seat j) h.depth h.held) h.held; carries = h.carries }
 
   leaving_on : (n : ℕ) (carry : Option ℕ) → IsLeaving p s j n carry → IsLeaving p t j n carry
-  leaving_on n None h = tt
-  leaving_on n (Some depth) h = holding_on n (Some depth) h
+  leaving_on n carry h = search (rules, holding_on)
 
   at_node_on : (c : Call) (aim : Aim) (n : ℕ) (duty : Option Posting) → IsAtNode s c aim n duty → IsAtNode t c aim n duty
   at_node_on c aim n duty h = at_on p s t j 0 0 0 0 (grown 0) c aim n duty h
@@ -251,8 +221,7 @@ module _ (p : ConfigParts) (ok : IsSetting p) (Other : Owner → Type 0) (words 
   others_fit f q e r duty phase le h = h
 
   others_hands : (h : Option ℕ) → Hands s j h → Hands t j h
-  others_hands None f = λ l o. f l (ch.back (Seat j) l ne o)
-  others_hands (Some h) f = λ l nl o. f l nl (ch.back (Seat j) l ne o)
+  others_hands h f = search rules
 
   others_wait : (duty : Option Posting) → Waits s j duty → Waits t j duty
   others_wait None f = λ n e. f n ((ch.posts j n (Pending j) ne refl).1 e)
@@ -302,16 +271,10 @@ bounded_less limit seats counter Wants Now back b = record { late = b.late; boun
 module _ (p : ConfigParts) (Has Now : ℕ → Actor → Type 0) (i : ℕ) (a : Actor) (mv : Moves Has i a Now) where
   -- an actor of another seat was there before
   pub adds_before : (server : ℕ) → (WantsAdd p server a.client → ⊥) → (j : ℕ) → SomeAdds p Now server j → SomeAdds p Has server j
-  adds_before server calm j w = elim (mv.back j w.0 w.1) [
-    | inl e ↦ absurd (calm (subst (λ (b : Actor). WantsAdd p server b.client) e.1 w.2))
-    | inr h ↦ (w.0, h.1, w.2)
-  ]
+  adds_before server calm j w = search rules
 
   pub others_add : (server j : ℕ) → j ≢ i → SomeAdds p Now server j → SomeAdds p Has server j
-  others_add server j ne w = elim (mv.back j w.0 w.1) [
-    | inl e ↦ absurd (ne e.0)
-    | inr h ↦ (w.0, h.1, w.2)
-  ]
+  others_add server j ne w = search rules
 
   still_there : (j : ℕ) → (j ≢ i → (b : Actor) × Has j b) → (b : Actor) × Now j b
   still_there j h = dite (ℕ_discrete j i) (λ e. (a, subst (λ (k : ℕ). Now k a) (sym e) mv.here)) (λ n. let k = h n in (k.0, mv.on j k.0 n k.1))

@@ -1,24 +1,21 @@
 -- The entry of a call under way; the book of all calls; and the causes of refusals.
-use Rattle.std.proofs.Common.{◌≡◌, ◌⊎◌, ℕ, List, [], Option, Some, refl, subst, inl, inr, ◌≢◌, ◌+◌, ◌≤◌, Bool, true, false, cond, ◌∷◌, ◌++◌, length, get_or, None, sym, ap, ◌∙◌, arith, length-append}
+use Rattle.std.proofs.Common.{rules, ◌≡◌, ◌⊎◌, ℕ, List, [], Option, Some, refl, subst, inl, inr, ◌≢◌, ◌+◌, ◌≤◌, Bool, true, false, cond, ◌∷◌, ◌++◌, length, get_or, None, sym, ap, ◌∙◌, arith, length-append}
 use Rattle.std.{proofs.{Common.{eq-eqb, eqb-true, append-nil}, lemmas.{List.{Elements.{All-cons, All-weaker}, Kept.{AllPairs-cons}}, Option.{slice_get-get_or}}}, specs.List.{AllByRecursion}}
 use Rattle.std.specs.Prelude.{◌==◌, ◌↔◌, map, slice_get, All, AllPairs, Any}
 use Rattle.sh_base.specs.{declared.config.ConfigParts.{ConfigParts}, Places.{Counter}}
 use Rattle.sh_map.specs.{Book.{Answers, AnswersAt, IsLastOfSeat, IsLater, IsOwn, made_entry, made}, Laws.{places_of}, Made.{entries_by}, declared.{book.Done.{Done}, call.{Call.{Call}, Reply.{Reply}}}}
 use Rattle.sh_map.specs.declared.log.Entry.{Entry as LogEntry, Entry}
 use Rattle.sh_state.specs.TreeState.{TreeState}
-use Rattle.sh_decide.specs.declared.state.{Posting.{Posting}, Aim.{TheVariants.{Own, Gathers, Posts}, Aim}}
-use Rattle.sh_client.specs.{Machine.{Registers}, Rests.{is_resting}, declared.state.{Filling.TheVariants.{RightHalf, NewRoot}, Need.TheVariants.{ToSplit, ToGrow}, Phase.{Phase}, Then.{Then}}}
-use Rattle.sh_client.specs.declared.state.{Phase.TheVariants.{Root, Read, Draw, Look, Grab, ReadLocked, Seek, Fill, Waiting, Body, Unlock, Leave, Swap}, Then.TheVariants.{Ends, Starts, Takes}}
-use Rattle.sh_client.specs.declared.state.Write.{TheVariants.{Nothing, LeftLeaf, Inner as WholeInner, LeftInner}, Write}
-use Rattle.sh_core.{proofs.{Causes.{causes_on}, Frame.{nothing_left}}, specs.{Actors.{Actor, AreAnswered, AreInOrder, updates}, Causes.{HasCause, HaveCauses}, Core.{Inv}}}
+use Rattle.sh_decide.specs.declared.state.{Posting.{Posting}, Aim.{Aim}}
+use Rattle.sh_client.specs.{Machine.{Registers}, Rests.{is_resting}, declared.state.{Phase.{Phase}, Then.{Then}}}
+use Rattle.sh_client.specs.declared.state.Write.{Write}
+use Rattle.sh_core.{proofs.{Causes.{causes_on}, Frame.{nothing_left}}, specs.{Actors.{Actor, AreAnswered, AreInOrder}, Causes.{HasCause, HaveCauses}, Core.{Inv}}}
 use Rattle.sh_core.specs.{Fits.{HasEntry, IsDecided, Owes, duty_of, PlansHalf, Plans, Follows, Fits}, Keeps.{pending_aim, pending_then, pending_write, pending, KeepsActor}}
 use Rattle.sh_logic.proofs.Lists.{all_join}
 use Rattle.sh_tree.{specs.Lists.{is_in, AreDifferent}, proofs.ListLemmas.{in_cases, outside_all}}
 use Rattle.sh_core_says.proofs.Points.{points, points_numbered, points_long, points_in, points_differ, places_differ, places_long, place_in, points_stand, all_named, any_own}
 use Rattle.sh_core_says.proofs.Trees.{different_join, in_joined}
 use Rattle.sh_core_says.specs.Books.{calls_by, numbered, IsBookOf, IsOfCall, IsLawfulBook, BooksAreLawful, HasAnswers, CallsAreAnswered, counter_in, RefusalsHaveCauses}
-use Rattle.sh_map.specs.declared.call.Call.TheVariants as call
-use Rattle.sh_map.specs.declared.call.Reply.TheVariants as reply
 use Rattle.sh_map.specs.declared.log.Change.TheVariants as change
 
 module _ (p : ConfigParts) (s : TreeState) (i f q e : ℕ) (c : Call) (r : Reply) where
@@ -27,10 +24,7 @@ module _ (p : ConfigParts) (s : TreeState) (i f q e : ℕ) (c : Call) (r : Reply
   MayStand es = (es ≡ []) ⊎ ((es ≡ entries_by i c r) × HasEntry s.log i f q e c r)
 
 decided : (p : ConfigParts) (s : TreeState) (i f q e : ℕ) (c : Call) (r : Reply) → IsDecided p s i f q e c r → MayStand p s i f q e c r (entries_by i c r)
-decided p s i f q e (call.Put key value) (reply.Some old) h = inr (refl, h)
-decided p s i f q e (call.Put key value) reply.None h = inr (refl, h)
-decided p s i f q e (call.Del key) (reply.Some old) h = inr (refl, h)
-decided p s i f q e c r h = inl refl
+decided p s i f q e c r h = search rules
 
 module _ (p : ConfigParts) (s : TreeState) (i f q e : ℕ) (r : Registers) (duty : Option Posting) (o : Owes s i f q e r.call r.reply duty) where
   abbrev May : List LogEntry → Type 0
@@ -40,43 +34,19 @@ module _ (p : ConfigParts) (s : TreeState) (i f q e : ℕ) (r : Registers) (duty
   posted post is = let k = subst (Owes s i f q e r.call r.reply) is o in inr (refl, k.entry)
 
   aimed : (aim : Aim) → duty ≡ duty_of aim → May (pending_aim i r.call r.reply aim)
-  aimed Own is = inl refl
-  aimed (Gathers place) is = inl refl
-  aimed (Posts post) is = posted post is
+  aimed aim is = search (rules, posted)
 
   followed : (after : Then) → Follows p s i f q e r.call r.reply duty after → May (pending_then i r.call r.reply after)
-  followed Ends h = decided p s i f q e r.call r.reply h.decided
-  followed (Starts aim) h = aimed aim h.duty_is
-  followed (Takes aim n) h = aimed aim h.duty_is
+  followed after h = search (rules, decided, aimed)
 
   halves : (n fresh : ℕ) (write : Write) (after : Then) → PlansHalf p s i r fresh n write after duty → May (pending_write i r.call r.reply write after)
-  halves n fresh LeftLeaf after h = inl refl
-  halves n fresh LeftInner after h = posted _ h.plan.duty_is
-  halves n fresh write after h = absurd h
+  halves n fresh write after h = search (rules, posted)
 
   plans : (n : ℕ) (write : Write) (after : Then) → Plans p s i f q e r n write after duty → May (pending_write i r.call r.reply write after)
-  plans n Nothing after h = followed after h
-  plans n WholeInner after h = posted _ h.plan.duty_is
-  plans n LeftInner after h = posted _ h.half.plan.duty_is
-  plans n write after h = inl refl
+  plans n write after h = search (rules, followed, posted)
 
   pub pending_stands : (ph : Phase) → Fits p s i f q e r duty ph → May (pending i r ph)
-  pending_stands (Root aim) h = aimed aim h.duty_is
-  pending_stands (Read aim top) h = aimed aim h.duty_is
-  pending_stands (Draw aim n) h = aimed aim h.duty_is
-  pending_stands (Look aim n) h = aimed aim h.duty_is
-  pending_stands (Grab aim n) h = aimed aim h.duty_is
-  pending_stands (ReadLocked aim d) h = aimed aim h.holds.at.duty_is
-  pending_stands (Seek (ToSplit aim d)) h = aimed aim h.needs.holds.at.duty_is
-  pending_stands (Seek (ToGrow post root)) h = posted post h.needs.duty_is
-  pending_stands (Fill fresh done (RightHalf d giving)) h = halves giving.node fresh giving.write giving.after h.fills.half
-  pending_stands (Fill fresh done (NewRoot post root)) h = posted post h.fills.below.duty_is
-  pending_stands (Waiting d giving) h = plans giving.node giving.write giving.after h.plans
-  pending_stands (Body carry done giving) h = plans giving.node giving.write giving.after h.plans
-  pending_stands (Unlock n after) h = followed after h.follows
-  pending_stands (Leave n carry after) h = followed after h.follows
-  pending_stands (Swap post root fresh) h = posted post h.below.duty_is
-  pending_stands ph h = inl refl
+  pending_stands ph h = search (rules, aimed, posted, halves, plans, followed)
 
 -- ---- the book of the actors' calls is lawful
 
@@ -96,8 +66,7 @@ all_numbered P keeps (x ∷ xs) (y ∷ ys) e h =
 
 module _ (log : List Entry) where
   row_numbered : (n : ℕ) (d : Done) (c : Call) (r : Reply) → AnswersAt log d c r → AnswersAt log (numbered n d) c r
-  row_numbered n d (call.Get key) (reply.Some value) h = h
-  row_numbered n d c r h = h
+  row_numbered n d c r h = search rules
 
   answers_numbered : (n : ℕ) (d : Done) → Answers log d → Answers log (numbered n d)
   answers_numbered n d h = record { within = h.within; row = row_numbered n d d.call d.reply h.row }
@@ -160,10 +129,7 @@ first_seat [] = 0
 first_seat (e ∷ es) = e.seat
 
 made_seat : (i : ℕ) (c : Call) (r : Reply) (e : Entry) → entries_by i c r ≡ e ∷ [] → e.seat ≡ i
-made_seat i (call.Put key value) (reply.Some old) e q = sym (ap first_seat q)
-made_seat i (call.Put key value) reply.None e q = sym (ap first_seat q)
-made_seat i (call.Del key) (reply.Some old) e q = sym (ap first_seat q)
-made_seat i c r e q = absurd (cc)
+made_seat i c r e q = search rules
 
 -- the entry at place j is that of the call under way
 pub record IsPendingAt (p : ConfigParts) (s : TreeState) (i : ℕ) (a : Actor) (j : ℕ) : Type 0 where
@@ -182,9 +148,7 @@ module _ (p : ConfigParts) (s : TreeState) (i : ℕ) (a : Actor) (k : KeepsActor
   differ = points_differ 0 a.dones a.first k.ordered
 
   long : length (places_of i 0 s.log) ≡ length (points a.dones) + length (pending i a.client.registers a.client.phase)
-  long =
-      let es : List Entry = pending i a.client.registers a.client.phase in
-      omega (arith, places_long i 0 s.log, ap length k.mine, points_long a.dones, length-append (updates a.dones) es)
+  long = search (rules, places_long, points_long, length-append)
 
   with_own : (j : ℕ) → Here j → pending i a.client.registers a.client.phase ≡ entries_by i a.client.registers.call a.client.registers.reply → HasEntry s.log i a.first a.point a.seen a.client.registers.call a.client.registers.reply → (is_in (points a.dones) j ≡ true) ⊎ IsPendingAt p s i a j
   with_own j w made h =
@@ -219,11 +183,7 @@ module _ (p : ConfigParts) (s : TreeState) (i : ℕ) (a : Actor) (k : KeepsActor
       ]
 
   pub busy : (j : ℕ) → IsPendingAt p s i a j → is_resting a.client ≡ false
-  busy j h = by (is_resting a.client) refl
-    where
-      by : (t : Bool) → is_resting a.client ≡ t → is_resting a.client ≡ false
-      by true e = absurd (let q = sym (h.made ∙ h.stands.is) ∙ (nothing_left p s i a.first a.point a.seen a.client.registers k.work.duty a.client.phase e k.work.fits).made in cc)
-      by false e = e
+  busy j h = search (rules, nothing_left)
 
 none_in : (ns : List ℕ) (j : ℕ) → length ns ≡ 0 → is_in ns j ≡ true → ⊥
 none_in [] j e w = cc

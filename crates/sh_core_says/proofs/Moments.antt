@@ -1,18 +1,16 @@
 -- Who has a lock; the standing words at each moment, and the lock words.
-use Rattle.std.proofs.Common.{◌≡◌, ◌≤◌, ◌≢◌, ℕ, zero, suc, Option, Some, None, refl, sym, ap, ◌∙◌, subst, ◌⊎◌, ◌+◌, ◌<◌, List, length, get_or, set, inl, inr, arith, get_or-set_same}
+use Rattle.std.proofs.Common.{rules, ◌≡◌, ◌≤◌, ◌≢◌, ℕ, zero, suc, Option, Some, None, refl, sym, ap, ◌∙◌, subst, ◌⊎◌, ◌+◌, ◌<◌, List, length, get_or, set, inl, inr, arith, get_or-set_same}
 use Rattle.std.proofs.lemmas.{Bool.{cases_eq}, List.{length-set}}
-use mathlib.Core.Logic.{dite}
-use native.Mathlib.Decide.{ℕ_discrete}
 use Rattle.sh_base.{proofs.{LayoutLemmas.{node_word_high}, PlacesLemmas.{stores_keep_apart}}, specs.{Layout.{lock_of, node_word}, Places.{Site, Lock, Node, address, IsSite}}}
 use Rattle.sh_base.specs.{Setting.{node_size, nodes, pool_words, IsNode}, declared.config.ConfigParts.{ConfigParts}}
-use Rattle.sh_read.specs.Moments.{Writing, Idle, word}
+use Rattle.sh_read.specs.Moments.{Writing, Idle}
 use Rattle.sh_state.{proofs.Scenes.{is_linked, writes_else}, specs.{Ground.{Ground}, Nodes.{Orderly, IsLinked}}}
 use Rattle.sh_state.specs.TreeState.{Seat, LockState, Held, Writes, Owns, TreeState, Owner, Grant, Nobody, owner_word, hold_word, writing, writing_of, shown}
 use Rattle.sh_decide.specs.declared.state.Posting.{Posting}
 use Rattle.sh_client.specs.{Machine.{Registers}, declared.state.{Filling.TheVariants.{RightHalf}, Need.TheVariants.{ToSplit}, Phase.{Phase}, Write.{Write}}}
-use Rattle.sh_client.specs.declared.state.Phase.TheVariants.{ReadLocked, Seek, Fill, Waiting, Body, Unlock, Leave}
+use Rattle.sh_client.specs.declared.state.Phase.TheVariants.{ReadLocked, Seek, Fill, Waiting, Body, Leave}
 use Rattle.sh_acts.proofs.Holds.{held_ground}
-use Rattle.sh_core.specs.{Actors.{Actor}, Fits.{Carries, Fits, storing_hold, write_of}, Keeps.{holding, Hands, KeepsActor}, Core.{Inv}}
+use Rattle.sh_core.specs.{Actors.{Actor}, Fits.{Carries, Fits, storing_hold}, Keeps.{holding, Hands, KeepsActor}, Core.{Inv}}
 use Rattle.sh_core_says.{specs.{Moments.{handed_to, writes_from, written_node, IsWritten, IsStill, HoldsLock, IsStanding, AreLocks, EachMoment}, Quiescent.{IsAtRest}}, proofs.Trees.{holds_tree}}
 use Rattle.sh_map.specs.{declared.log.Entry.{Entry as LogEntry}, Log.{map_of}}
 
@@ -33,27 +31,17 @@ IsBounded p (Some d) = d ≤ p.bound
 
 module _ (p : ConfigParts) (s : TreeState) (i f q e : ℕ) (r : Registers) (duty : Option Posting) where
   storing : (d n done : ℕ) (write : Write) → s.hold (lock_of p n) ≡ storing_hold i d n write r.body done → HeldBy s i (lock_of p n) (writes_from n done)
-  storing d n zero write h = (d, h)
-  storing d n (suc done) write h = (d, write_of write r.body (suc done), h)
+  storing d n done write h = search rules
 
   holds_so : (ph : Phase) → Fits p s i f q e r duty ph → HoldsSo s i (holding p r ph) (written_node ph)
-  holds_so (ReadLocked aim d) h = (d, h.holds.held)
-  holds_so (Seek (ToSplit aim d)) h = (d, h.needs.holds.held)
-  holds_so (Fill fresh done (RightHalf d giving)) h = (d, h.fills.held)
-  holds_so (Waiting d giving) h = (d, h.held)
-  holds_so (Body carry done giving) h = storing h.storing.depth giving.node done giving.write h.storing.held
-  holds_so (Unlock n after) h = (h.holding.depth, h.holding.held)
-  holds_so (Leave n (Some d) after) h = (h.leaving.depth, h.leaving.held)
-  holds_so ph h = tt
+  holds_so ph h = search (rules, storing)
 
   -- a client that writes a node holds its lock
   writes_held : (n k done : ℕ) → writes_from n done ≡ Some k → Some (lock_of p n) ≡ Some (lock_of p k)
-  writes_held n k zero at = absurd (cc)
-  writes_held n k (suc done) at = let same : n ≡ k = cc in ap (λ (z : ℕ). Some (lock_of p z)) same
+  writes_held n k done at = search rules
 
   pub written_held : (ph : Phase) (k : ℕ) → written_node ph ≡ Some k → holding p r ph ≡ Some (lock_of p k)
-  written_held (Body carry done giving) k at = writes_held giving.node k done at
-  written_held ph k at = absurd (cc)
+  written_held ph k at = search (rules, writes_held)
 
   -- a lock is handed over within the bound
   module _ (orderly : (lock : ℕ) → Orderly p s lock (s.hold lock)) where
@@ -75,12 +63,10 @@ module _ (p : ConfigParts) (s : TreeState) (i f q e : ℕ) (r : Registers) (duty
 
 -- a seat holds the lock of its client, and no other
 held_is : (s : TreeState) (i : ℕ) (h : Option ℕ) → Hands s i h → (l : ℕ) → Owns (s.hold l) (Seat i) → h ≡ Some l
-held_is s i None hands l o = absurd (hands l o)
-held_is s i (Some k) hands l o = dite (ℕ_discrete l k) (λ (e : l ≡ k). ap Some (sym e)) (λ (ne : l ≢ k). absurd (hands l ne o))
+held_is s i h hands l o = search rules
 
 owns_by : (s : TreeState) (i l : ℕ) (o : Option ℕ) → HeldBy s i l o → Owns (s.hold l) (Seat i)
-owns_by s i l None h = subst (λ (x : LockState). Owns x (Seat i)) (sym h.1) refl
-owns_by s i l (Some n) h = subst (λ (x : LockState). Owns x (Seat i)) (sym h.2) refl
+owns_by s i l o h = search rules
 
 module _ (p : ConfigParts) (s : TreeState) (i : ℕ) (a : Actor) (k : KeepsActor p s i a) where
   pub by_client : (l : ℕ) → holding p a.client.registers a.client.phase ≡ Some l → HeldBy s i l (written_node a.client.phase)
@@ -97,11 +83,7 @@ module _ (p : ConfigParts) (s : TreeState) (i : ℕ) (a : Actor) (k : KeepsActor
   written_is n at = subst (HeldBy s i (lock_of p n)) at (by_client (lock_of p n) (written_held p s i a.first a.point a.seen a.client.registers k.work.duty a.client.phase n at))
 
   pub is_written : (l d n : ℕ) (w : Writing) → s.hold l ≡ Writes i d n w → written_node a.client.phase ≡ Some n
-  is_written l d n w e = by (written_node a.client.phase) (by_client l (holds l (subst (λ (x : LockState). Owns x (Seat i)) (sym e) refl)))
-    where
-      by : (o : Option ℕ) → HeldBy s i l o → o ≡ Some n
-      by None h = absurd (let q = sym h.1 ∙ e in cc)
-      by (Some y) h = let q = sym h.2 ∙ e in cc
+  is_written l d n w e = search (rules, by_client, holds)
 
 -- ---- the standing words at each moment, and the lock words
 
@@ -129,11 +111,7 @@ module _ (p : ConfigParts) (t : TreeState) where
   filled_long words (suc k) = fill_long (filled words k) (suc k) (node_size p) ∙ filled_long words k
 
   same_site : (n k : ℕ) (b : Site) → (Node n k ≡ b) ⊎ (Node n k ≢ b)
-  same_site n k (Node m o) = elim (cases_eq n m) [
-    | inl e ↦ elim (cases_eq k o) [ inl f ↦ inl (λ z. Node (e z) (f z)) | inr ne ↦ inr (λ q. ne (cc)) ]
-    | inr ne ↦ inr (λ q. ne (cc))
-  ]
-  same_site n k b = inr (λ q. cc)
+  same_site n k b = search (rules, cases_eq)
 
   -- a word is shown that was shown before, or is one of these
   fill_shows : (words : List ℕ) (n k : ℕ) → length words ≡ pool_words p → IsNode p n → k ≤ node_size p → (b : Site) → IsSite p b → (((o : ℕ) → o < k → Node n o ≢ b) → Shown words b) → Shown (fill words n k) b
@@ -160,28 +138,20 @@ abbrev pub calm : TreeState → TreeState
 calm s = record s { hold = λ l. calm_hold (s.hold l) }
 
 calm_word : (p : ConfigParts) (h : LockState) → hold_word p h ≡ hold_word p (calm_hold h)
-calm_word p Nobody = refl
-calm_word p (Held o d) = refl
-calm_word p (Writes i d n w) = refl
+calm_word p h = search rules
 
 calm_idle : (n : ℕ) (h : LockState) → writing_of n (calm_hold h) ≡ Idle
-calm_idle n Nobody = refl
-calm_idle n (Held o d) = refl
-calm_idle n (Writes i d m w) = refl
+calm_idle n h = search rules
 
 calm_orderly : (p : ConfigParts) (s : TreeState) (l : ℕ) (h : LockState) → Orderly p s l h → Orderly p (calm s) l (calm_hold h)
-calm_orderly p s l Nobody o = tt
-calm_orderly p s l (Held owner d) o = o
-calm_orderly p s l (Writes i d n w) o = o.0
+calm_orderly p s l h o = search rules
 
 module _ (p : ConfigParts) (words : List ℕ) (s : TreeState) (g : Ground p words s) where
   abbrev pub W : List ℕ
   W = filled p (calm s) words (nodes p)
 
   before : (a : Site) → IsSite p a → ((n o : ℕ) → IsNode p n → n ≤ nodes p → o < node_size p → Node n o ≢ a) → Shown p (calm s) words a
-  before (Node n o) ia away = absurd (away n o ia.0 ia.0.last ia.1 refl)
-  before (Lock l) ia away = g.shows.each (Lock l) ia ∙ calm_word p (s.hold l)
-  before a ia away = g.shows.each a ia
+  before a ia away = search (rules, calm_word)
 
   places : (a : Site) → IsSite p a → Shown p (calm s) W a
   places a ia = filled_shows p (calm s) words (nodes p) g.shows.size (omega arith) a ia (before a ia)
@@ -212,9 +182,7 @@ module _ (p : ConfigParts) (words : List ℕ) (log : List LogEntry) (Has : ℕ �
       ]
 
   still : (a : Site) → IsStill Has a → shown p (calm S) a ≡ shown p S a
-  still (Node n o) off = ap (λ (w : Writing). word p (S.node n) w o) (calm_idle n (S.hold (lock_of p n)) ∙ sym (idle n off))
-  still (Lock l) off = sym (calm_word p (S.hold l))
-  still a off = refl
+  still a off = search (rules, calm_idle, idle, calm_word)
 
   linked : (n : ℕ) → IsWritten Has n → IsLinked (S.class n)
   linked n w =
@@ -238,18 +206,13 @@ module _ (p : ConfigParts) (words : List ℕ) (log : List LogEntry) (Has : ℕ �
 
   -- a holder has the lock in the scene
   pub owner : (l : ℕ) (o : Owner) → HoldsLock p Has Out l o → Owns (S.hold l) o
-  owner l (Seat i) h = owns p S i h.0 (inv.kept i h.0 h.1) l h.2
-  owner l (Grant c) h = subst (λ (x : LockState). Owns x (Grant c)) (sym (inv.out l c h.0 h.1)) refl
+  owner l o h = search (rules, owns)
 
   one_owner : (h : LockState) (o u : Owner) → Owns h o → Owns h u → o ≡ u
-  one_owner Nobody o u a b = absurd a
-  one_owner (Held x d) o u a b = sym a ∙ b
-  one_owner (Writes i d n w) o u a b = sym a ∙ b
+  one_owner h o u a b = search rules
 
   word_of : (h : LockState) (o : Owner) → Owns h o → hold_word p h ≡ owner_word p o
-  word_of Nobody o a = absurd a
-  word_of (Held x d) o a = ap (owner_word p) a
-  word_of (Writes i d n w) o a = ap (owner_word p) a
+  word_of h o a = search rules
 
   by_seat : (l i : ℕ) → Owns (S.hold l) (Seat i) → (o : Owner) × HoldsLock p Has Out l o
   by_seat l i o = let h = inv.held i l o in (Seat i, (h.0, h.1, holds p S i h.0 (inv.kept i h.0 h.1) l o))

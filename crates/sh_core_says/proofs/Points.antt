@@ -1,5 +1,5 @@
 -- The points of a seat's updates, and the places of its entries.
-use Rattle.std.proofs.Common.{◌≡◌, ℕ, zero, suc, ◌+◌, ◌<◌, ◌≤◌, Bool, true, false, cond, List, [], ◌∷◌, ◌++◌, length, Some, refl, sym, ap, ◌∙◌, subst, inl, inr, arith, length-append, eq-eqb}
+use Rattle.std.proofs.Common.{rules, ◌≡◌, ℕ, zero, suc, ◌+◌, ◌<◌, ◌≤◌, Bool, true, false, cond, List, [], ◌∷◌, ◌++◌, length, Some, refl, sym, ap, ◌∙◌, subst, inl, inr, arith, length-append, eq-eqb}
 use Rattle.std.specs.{Prelude.{◌==◌, if◌then◌else◌, map, slice_get, Any}, List.{AllByRecursion}}
 use Rattle.sh_map.specs.{declared.{call.{Call.{Call}, Reply.{Reply}}, log.Entry.{Entry}, book.Done.{Done}}, Made.{entries_by}, Book.{AnswersAt, IsOwn, made}, Laws.{places_of}}
 use Rattle.sh_map.specs.declared.call.Call.TheVariants as call
@@ -23,16 +23,10 @@ points_numbered [] = refl
 points_numbered (d ∷ ds) = ap (point_where (made d.call d.reply) d.point) (points_numbered ds)
 
 made_small : (c : Call) (r : Reply) → made c r ≤ 1
-made_small (call.Put key value) (reply.Some old) = omega arith
-made_small (call.Put key value) reply.None = omega arith
-made_small (call.Del key) (reply.Some old) = omega arith
-made_small c r = omega arith
+made_small c r = search rules
 
 pub made_entries : (seat : ℕ) (c : Call) (r : Reply) → length (entries_by seat c r) ≡ made c r
-made_entries seat (call.Put key value) (reply.Some old) = refl
-made_entries seat (call.Put key value) reply.None = refl
-made_entries seat (call.Del key) (reply.Some old) = refl
-made_entries seat c r = refl
+made_entries seat c r = search rules
 
 pub points_long : (ds : List Done) → length (points ds) ≡ length (updates ds)
 points_long [] = refl

@@ -1,5 +1,5 @@
 -- The levels of a tree at rest, and the tree that its words hold.
-use Rattle.std.proofs.Common.{◌≡◌, ◌≢◌, ◌⊎◌, ℕ, zero, suc, ◌+◌, ◌<◌, ◌≤◌, Bool, true, false, List, [], ◌∷◌, ◌++◌, length, map, refl, ap, sym, ◌∙◌, subst, ⊎_elim, inl, inr, arith, None}
+use Rattle.std.proofs.Common.{rules, ◌≡◌, ◌≢◌, ◌⊎◌, ℕ, zero, suc, ◌+◌, ◌<◌, ◌≤◌, Bool, true, false, List, [], ◌∷◌, ◌++◌, length, map, refl, ap, sym, ◌∙◌, subst, ⊎_elim, inl, inr, arith, None}
 use Rattle.std.{proofs.lemmas.{Bool.{cases_eq, cases_lt}, Grind.{same_number_lists}}, specs.{Cmp.{nat_cmp_total}, FinMap.{find, from_entries, get-from_entries}, List.{AllByRecursion, concat}}}
 use Rattle.std.specs.{Ordering.{nat_cmp}, Prelude.{◌-◌, ◌^◌, ◌↔◌, if◌then◌else◌}}
 use mathlib.Core.Logic.{dite}
@@ -10,7 +10,7 @@ use Rattle.sh_edit.{specs.Held.{HasKeysOnce, pairs_of}, proofs.HeldLemmas.{find-
 use Rattle.sh_tree.{proofs.ListLemmas.{in_head, in_more, in_cases, in_front}, specs.{Lists.{first_of, is_in, outside, AreDifferent}, Nodes.{inner_at, leaf_at, high_at}}}
 use Rattle.sh_tree.specs.Tree.{IsChain, IsLeafOf, IsInnerOf, IsChildIn, children_of, AreLevels, leaves_of, pairs_along, unnamed_from}
 use Rattle.sh_read.specs.Moments.{Writing, word}
-use Rattle.sh_state.{proofs.Scenes.{linked_is, is_linked}, specs.{Ground.{Ground, HasParent}, TreeState.{Linked, ParentLink, Posted, Pending, Skipped, TreeState, Class, Undrawn, Reserved, Fresh}}}
+use Rattle.sh_state.{proofs.Scenes.{linked_is, is_linked}, specs.{Ground.{Ground, HasParent}, TreeState.{Linked, ParentLink, Posted, TreeState, Class}}}
 use Rattle.sh_state.specs.Nodes.{low_in, high_in, next_in, level_in, LeadsTo, LeadDown, standing_pairs, IsLinked, standing_entries}
 use Rattle.sh_acts.proofs.Holds.{first_at}
 use Rattle.sh_core_says.specs.Quiescent.{IsAtRest, is_posted, unposted, HoldsTree}
@@ -26,11 +26,7 @@ unfolding many
 many_is = refl
 
 pub not_in : (n : ℕ) (ns : List ℕ) → (is_in ns n ≡ true → ⊥) → is_in ns n ≡ false
-not_in n ns h = go (is_in ns n) refl
-  where
-    go : (b : Bool) → is_in ns n ≡ b → is_in ns n ≡ false
-    go true e = absurd (h e)
-    go false e = e
+not_in n ns h = search rules
 
 pub in_behind : (xs ys : List ℕ) (n : ℕ) → is_in ys n ≡ true → is_in (xs ++ ys) n ≡ true
 in_behind [] ys n h = h
@@ -171,17 +167,7 @@ module _ (p : ConfigParts) (words : List ℕ) (s : TreeState) (g : Ground p word
   )
 
   posted_test : (x : ParentLink) (b : Bool) → ((b ≡ true) ↔ (x ≡ Posted)) → b ≡ is_posted x
-  posted_test Posted b h = h.1 refl
-  posted_test (Pending i) b h = go b h
-    where
-      go : (b : Bool) → ((b ≡ true) ↔ (Pending i ≡ Posted)) → b ≡ false
-      go true h = absurd (let q = h.0 refl in cc)
-      go false h = refl
-  posted_test (Skipped i) b h = go b h
-    where
-      go : (b : Bool) → ((b ≡ true) ↔ (Skipped i ≡ Posted)) → b ≡ false
-      go true h = absurd (let q = h.0 refl in cc)
-      go false h = refl
+  posted_test x b h = search rules
 
   pub counted : (l : ℕ) (names ns : List ℕ) → NamesLevel l names → ((n : ℕ) → is_in ns n ≡ true → (b : ℕ) × (s.class n ≡ Linked l b) × (b ≢ 0)) → outside names ns ≡ unposted s ns
   counted l names [] h members = refl
@@ -211,10 +197,7 @@ posted_first s n ns e = ap (λ (x : ParentLink). if is_posted x then unposted s 
 module _ (p : ConfigParts) (words : List ℕ) (s : TreeState) (g : Ground p words s) where
   -- a level and a low fence name one node
   pub only : (m n l a : ℕ) → s.class m ≡ Linked l a → s.class n ≡ Linked l a → m ≡ n
-  only m n l a e f = dite (ℕ_discrete m n) (λ q. q) (λ ne.
-      let y = g.sits m l a e in
-      let z = g.sits n l a f in
-      absurd (⊎_elim (λ (le : high_in (s.node m) ≤ a). omega (arith, le, y.fences)) (λ (le : high_in (s.node n) ≤ a). omega (arith, le, z.fences)) (g.apart m n l a a e f ne)))
+  only m n l a e f = search rules
 
 module _ (p : ConfigParts) (words : List ℕ) (s : TreeState) (g : Ground p words s) (rest : IsAtRest p s) where
   -- ---- the levels from one down
@@ -230,14 +213,7 @@ module _ (p : ConfigParts) (words : List ℕ) (s : TreeState) (g : Ground p word
 
   -- but for its first, the nodes of a level aren't its first
   later : (l n : ℕ) (ns : List ℕ) → IsLevel p words s g rest l 0 (n ∷ ns) → (m : ℕ) → is_in ns m ≡ true → (b : ℕ) × (s.class m ≡ Linked l b) × (b ≢ 0)
-  later l n ns h m k =
-      let u = h.members m (in_more n m ns k) in (
-        u.0,
-        u.1,
-        λ z.
-            let e : s.class m ≡ Linked l 0 = u.1 ∙ ap (λ (y : ℕ). Linked l y) z in
-            let q = sym h.different.0 ∙ ap (is_in ns) (only p words s g n m l 0 h.first e) ∙ k in cc,
-      )
+  later l n ns h m k = search (rules, in_more, only)
 
   count_level : (l n : ℕ) (ns : List ℕ) (below : List (List ℕ)) (names : List ℕ) → IsLevel p words s g rest l 0 (n ∷ ns) → NamesLevel p words s g rest l names → unnamed_from p words (children_of p words (n ∷ ns)) below ≡ unposted s (concat below) → unnamed_from p words names ((n ∷ ns) ∷ below) ≡ unposted s (concat ((n ∷ ns) ∷ below))
   count_level l n ns below names h named more =
@@ -294,10 +270,7 @@ module _ (p : ConfigParts) (words : List ℕ) (s : TreeState) (g : Ground p word
 
   -- ---- the map
   leaf_none : (n b q : ℕ) → s.class n ≡ Linked 0 b → q ≢ 0 → (q < b) ⊎ (high_in (s.node n) ≤ q) → find nat_cmp q (pairs_of (standing_entries p (s.node n))) ≡ None
-  leaf_none n b q e nz out =
-      let z = g.sits n 0 b e in
-      find-pairs_of (standing_entries p (s.node n)) q nz ∙ held_outside (standing_entries p (s.node n)) b (high_in (s.node n)) q nz out
-      (subst (λ (y : ℕ). AllByRecursion (λ e. (e.key ≡ 0) ⊎ ((y ≤ e.key) × (e.key < high_in (s.node n)))) (standing_entries p (s.node n))) z.low_is (within p (low_in (s.node n)) (high_in (s.node n)) (standing_entries p (s.node n)) z.body.spells.lawful.entries))
+  leaf_none n b q e nz out = search (rules, find-pairs_of, held_outside, within)
 
   along : (q : ℕ) → q ≢ 0 → (a : ℕ) (ns : List ℕ) → IsChain p words a ns → ((m : ℕ) → is_in ns m ≡ true → (b : ℕ) × (s.class m ≡ Linked 0 b))
       → ((q < a) ⊎ (2 ^ 64 - 1 ≤ q) → find nat_cmp q (pairs_along p words ns) ≡ None) × (a ≤ q → q < 2 ^ 64 - 1 → find nat_cmp q (pairs_along p words ns) ≡ get (map_of s.log) q)
@@ -336,10 +309,7 @@ module _ (p : ConfigParts) (words : List ℕ) (s : TreeState) (g : Ground p word
   ])
 
   of_class : (n : ℕ) (c : Class) → s.class n ≡ c → IsLinked c → (l : ℕ) × (a : ℕ) × (s.class n ≡ Linked l a)
-  of_class n Undrawn e h = absurd h
-  of_class n Reserved e h = absurd h
-  of_class n (Fresh i) e h = absurd h
-  of_class n (Linked l a) e h = (l, a, e)
+  of_class n c e h = search rules
 
   pub holds_tree : HoldsTree p words s
   holds_tree =

@@ -1,5 +1,5 @@
 -- The stores of a WRITE, one by one, and the last one.
-use Rattle.std.proofs.Common.{◌≡◌, ◌≢◌, ℕ, zero, suc, ◌+◌, ◌<◌, ◌≤◌, List, [], ◌∷◌, ◌++◌, length, get_or, set, Option, refl, sym, ap, ◌∙◌, subst, arith, length-append, Bool, true, false, Some, None}
+use Rattle.std.proofs.Common.{rules, ◌≡◌, ◌≢◌, ℕ, zero, suc, ◌+◌, ◌<◌, ◌≤◌, List, [], ◌∷◌, ◌++◌, length, get_or, set, Option, refl, sym, ap, ◌∙◌, subst, arith, length-append, Bool, true, false, Some, None}
 use Rattle.std.proofs.{Common.{⊎_elim, append-nil, eqb-true}, Math.Seq.{get_or-append_seam}, lemmas.{Bool.Decides.{nat_tests}, List.{ext_get_or}, Option.{slice_get-get_or}}}
 use Rattle.std.specs.Prelude.{◌^◌, ◌-◌, ◌==◌, if◌then◌else◌, slice_get}
 use Rattle.sh_base.{proofs.LayoutLemmas.{node_size_is, rear_at_low}, specs.{Layout.{lock_of, node_word, entry_at, rear_at}, Setting.{node_size, IsSetting}, declared.config.ConfigParts.{ConfigParts}}}
@@ -109,16 +109,10 @@ module _ (p : ConfigParts) (ok : IsSetting p) (s : TreeState) (n : ℕ) (body : 
 
   -- what an image's rules and its greater version give
   leaf_storable : (low : ℕ) → s.class n ≡ Linked 0 low → (x : Leaf) → IsLeaf p x → body ≡ leaf_words x → get_or (s.node n) 0 0 < x.version → IsStorable p s n 0 (λ done. Whole body done) body
-  leaf_storable low linked x h is rises =
-      let u = untorn_spelled p (leaf_words x) x record { words = refl; lawful = h } in
-      let v : IsVersioned p 0 (leaf_words x) = record { node = sym u.node; entries = λ e index lt. sym (u.entries refl index lt) } in
-      whole_storable 0 low linked (subst (IsVersioned p 0) (sym is) v) (subst (λ (ws : List ℕ). get_or (s.node n) 0 0 < get_or ws 0 0) (sym is) rises) (ap length is ∙ leaf_long p x h)
+  leaf_storable low linked x h is rises = search (rules, untorn_spelled, whole_storable, leaf_long)
 
   inner_storable : (level low : ℕ) → s.class n ≡ Linked (suc level) low → (x : Inner) → IsInner p x → body ≡ inner_words p x → get_or (s.node n) 0 0 < x.version → IsStorable p s n 0 (λ done. Whole body done) body
-  inner_storable level low linked x h is rises =
-      let u = untorn_inner p (inner_words p x) x ok.ranged.value_words.0 record { words = refl; lawful = h } in
-      let v : IsVersioned p (suc level) (inner_words p x) = record { node = sym u.node; entries = λ e. absurd (omega (arith, e)) } in
-      whole_storable (suc level) low linked (subst (IsVersioned p (suc level)) (sym is) v) (subst (λ (ws : List ℕ). get_or (s.node n) 0 0 < get_or ws 0 0) (sym is) rises) (ap length is ∙ inner_long p x ok.ranged.value_words.0 h)
+  inner_storable level low linked x h is rises = search (rules, untorn_inner, whole_storable, inner_long)
 
   entry_storable : (low : ℕ) → s.class n ≡ Linked 0 low → (index : ℕ) → index < p.leaf → (x : LeafEntry) → length x.value ≡ p.value_words → body ≡ entry_words x → get_or (s.node n) (entry_at p index) 0 < x.version → IsStorable p s n (entry_at p index) (λ done. One index body done) body
   entry_storable low linked index below x long is rises =
@@ -153,8 +147,7 @@ module _ (p : ConfigParts) (ok : IsSetting p) (words : List ℕ) (s : TreeState)
 
 -- behind the first store a WRITE is under way
 pub storing_at : (seat d n : ℕ) (write : Write) (body : List ℕ) (done k : ℕ) → done ≡ k → 0 < k → storing_hold seat d n write body done ≡ Writes seat d n (write_of write body k)
-storing_at seat d n write body zero k e lt = absurd (omega (arith, e, lt))
-storing_at seat d n write body (suc done) k e lt = ap (λ (z : ℕ). Writes seat d n (write_of write body z)) e
+storing_at seat d n write body done k e lt = search rules
 
 module _ (p : ConfigParts) (words : List ℕ) (s : TreeState) (g : Ground p words s) (seat n d : ℕ) (write : Write) (body : List ℕ) (st : IsStorable p s n (offset_of p write) (λ done. write_of write body done) body) where
   store_act : (done : ℕ) → s.hold (lock_of p n) ≡ storing_hold seat d n write body done → done + 1 < length body
@@ -200,20 +193,16 @@ release n None after = Unlock n after
 release n (Some depth) after = Leave n (Some depth) after
 
 release_holding : (p : ConfigParts) (r : Registers) (n : ℕ) (carry : Option ℕ) (after : Then) → holding p r (release n carry after) ≡ Some (lock_of p n)
-release_holding p r n None after = refl
-release_holding p r n (Some d) after = refl
+release_holding p r n carry after = search rules
 
 release_pending : (seat : ℕ) (r : Registers) (n : ℕ) (carry : Option ℕ) (after : Then) → pending seat r (release n carry after) ≡ pending_then seat r.call r.reply after
-release_pending seat r n None after = refl
-release_pending seat r n (Some d) after = refl
+release_pending seat r n carry after = search rules
 
 release_calm : (n : ℕ) (carry : Option ℕ) (after : Then) → IsCalm (release n carry after)
-release_calm n None after = tt
-release_calm n (Some d) after = tt
+release_calm n carry after = search rules
 
 release_fits : (p : ConfigParts) (t : TreeState) (seat f q e : ℕ) (r : Registers) (duty : Option Posting) (n : ℕ) (carry : Option ℕ) (after : Then) → IsHolding p t seat n carry → Follows p t seat f q e r.call r.reply duty after → Fits p t seat f q e r duty (release n carry after)
-release_fits p t seat f q e r duty n None after h w = record { holding = h; follows = w }
-release_fits p t seat f q e r duty n (Some d) after h w = record { leaving = h; follows = w }
+release_fits p t seat f q e r duty n carry after h w = search rules
 
 -- the entry that came last
 at_last : (log : List LogEntry) (e : LogEntry) → slice_get (log ++ e ∷ []) (length log) ≡ Some e
@@ -224,10 +213,7 @@ module _ (p : ConfigParts) (words : List ℕ) (s : TreeState) (g : Ground p word
   last_act : (write : Write) (last place : ℕ) (body ws : List ℕ) (done : ℕ) (t : TreeState) → done + 1 ≡ length body → body ≡ ws → length ws ≡ last + 1 → 0 < last → offset_of p write + last ≡ place → s.hold (lock_of p n) ≡ storing_hold seat d n write body done
       → (s.hold (lock_of p n) ≡ Writes seat d n (write_of write ws last) → d ≤ p.bound → Change p seat s t × Ground p (set words (node_word p n + place) (get_or ws last 0)) t)
       → Change p seat s t × Ground p (set words (node_word p n + (offset_of p write + done)) (get_or body done 0)) t
-  last_act write last place body ws done t all is long some at held act =
-      let e : done ≡ last = omega (arith, all, ap length is, long) in
-      let hold = held ∙ storing_at seat d n write body done last e some ∙ ap (λ (ws : List ℕ). Writes seat d n (write_of write ws last)) is in
-      subst (λ (v : ℕ × ℕ × List ℕ). Change p seat s t × Ground p (set words (node_word p n + v.0) (get_or v.2 v.1 0)) t) (λ j. (sym (ap (λ (z : ℕ). offset_of p write + z) e ∙ at) j, sym e j, sym is j)) (act hold (bound_of p words s g seat d n (write_of write ws last) hold))
+  last_act write last place body ws done t all is long some at held act = search (rules, storing_at, bound_of)
 
   -- of a whole node
   whole_act : (write : Write) (body ws : List ℕ) (done : ℕ) (t : TreeState) → offset_of p write ≡ 0 → done + 1 ≡ length body → body ≡ ws → length ws ≡ node_size p → s.hold (lock_of p n) ≡ storing_hold seat d n write body done
@@ -475,12 +461,10 @@ module _ (p : ConfigParts) (ok : IsSetting p) (words : List ℕ) (Has Now : ℕ 
   -- ---- each store of a body
 
   made_moves : (write : Write) (ph : Phase) (n : ℕ) (carry : Option ℕ) (after : Then) (entry : LogEntry) (es : List LogEntry) → let m : Machine = counted (at p seat r ph) write in es ≡ entry ∷ [] → Moves Has seat (becomes seat (actor_in p seat a r ph) s.log es (released m n carry after)) Now → Moves Has seat (maker (to m (release n carry after))) Now
-  made_moves write ph n None after entry es is mv = subst (λ (es : List LogEntry). Moves Has seat (becomes seat (actor_in p seat a r ph) s.log es (released (counted (at p seat r ph) write) n None after)) Now) is mv
-  made_moves write ph n (Some d) after entry es is mv = subst (λ (es : List LogEntry). Moves Has seat (becomes seat (actor_in p seat a r ph) s.log es (released (counted (at p seat r ph) write) n (Some d) after)) Now) is mv
+  made_moves write ph n carry after entry es is mv = search (rules, actor_in)
 
   next_moves : (write : Write) (ph : Phase) (n : ℕ) (carry : Option ℕ) (after : Then) → let m : Machine = counted (at p seat r ph) write in Moves Has seat (becomes seat (actor_in p seat a r ph) s.log [] (released m n carry after)) Now → Moves Has seat (next a N (to m (release n carry after))) Now
-  next_moves write ph n None after mv = mv
-  next_moves write ph n (Some d) after mv = mv
+  next_moves write ph n carry after mv = search rules
 
   bodies : (n : ℕ) (carry : Option ℕ) (done : ℕ) (write : Write) (after : Then) (t : Bool) → (done + 1 == length r.body) ≡ t → let ph : Phase = Body carry done (giving_of n write after) in let m : Machine = at p seat r ph in Has seat (actor_in p seat a r ph)
       → Moves Has seat (becomes seat (actor_in p seat a r ph) s.log (if t then entries_made m write else []) (if t then released (counted m write) n carry after else to m (Body carry (done + 1) (giving_of n write after)))) Now

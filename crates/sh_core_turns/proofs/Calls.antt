@@ -1,17 +1,16 @@
 -- A call begins, or is taken away when it has ended.
-use Rattle.std.{proofs.Common.{◌≡◌, ◌≢◌, ℕ, ◌<◌, ◌≤◌, Bool, true, false, List, [], ◌++◌, length, Option, Some, None, refl, sym, ap, ◌∙◌, subst, arith}, specs.Prelude.{if◌then◌else◌}}
-use Rattle.std.{specs.Option.{option_map}, proofs.lemmas.Bool.Decides.{nat_tests}}
+use Rattle.std.{proofs.Common.{rules, ◌≡◌, ◌≢◌, ℕ, ◌<◌, ◌≤◌, true, List, [], ◌++◌, length, Some, None, refl, sym, ap, ◌∙◌, subst, arith}}
+use Rattle.std.{proofs.lemmas.Bool.Decides.{nat_tests}}
 use Rattle.sh_base.{specs.{declared.config.ConfigParts.{ConfigParts}, Setting.{IsSetting}}, proofs.LayoutLemmas.{node_size_is}}
 use Rattle.sh_map.specs.{declared.{call.{Call.{Call}, Reply.{Reply}}, log.Entry.{Entry as LogEntry}}, Calls.{IsInRange}}
-use Rattle.sh_map.specs.declared.call.Call.TheVariants as call
 use Rattle.sh_image.specs.{Inner.{Inner}, declared.inner.Image.TheVariants.{Inner as InnerImage}}
 use Rattle.sh_descend.specs.{Descent.{child_of, hop_of}, declared.Hop.TheVariants.{Down}}
 use Rattle.sh_cache.{specs.Cached.{found, FoundBy}, proofs.FindLemmas.{found_by}}
 use Rattle.sh_state.{specs.TreeState.{Seat, TreeState}, proofs.Joins.{nothing_done}}
 use Rattle.sh_readers.{specs.Hand.{AreRowsOf, IsNamed}, proofs.{HandLemmas.{down_named}, RowLemmas.{row_found}, Gathering.{gathered_begin}}}
 use Rattle.sh_decide.specs.{declared.state.Aim.TheVariants.{Own}, Aims.{aim_of, aimed_key, call_key, takes_lock, target}}
-use Rattle.sh_client.specs.{declared.state.{Origin.{Origin}, Phase.TheVariants.{Read, Draw}}, Machine.{Machine, began_cached, reading, to}, Cached.{origin_in}}
-use Rattle.sh_client.specs.{Feeds.{began_at, begun, calling, from_cached, rows_before}, Rests.{rests}}
+use Rattle.sh_client.specs.{Machine.{Machine}}
+use Rattle.sh_client.specs.{Feeds.{begun, rows_before}, Rests.{rests}}
 use Rattle.sh_core.specs.{Actors.{actor_begun, made_by, rested, updates}, Fits.{AreSpares, Fits, Gathered, duty_of}, Keeps.{Hands, IsAtWork, Skips, Waits, holding, pending, pending_aim, skips_counted}}
 use Rattle.sh_core.{specs.Core.{Inv, BeginKeeps, RestKeeps}, proofs.{Logs.{in_order_later}, Frame.{IsCalm, nothing_left, before, moves_to}}}
 
@@ -30,40 +29,22 @@ record Begun (p : ConfigParts) (s : TreeState) (i n : ℕ) (old m : Machine) (ca
 module _ (p : ConfigParts) (ok : IsSetting p) (s : TreeState) (i n : ℕ) (old : Machine) where
   -- a range has gathered nothing
   gathers_none : (call : Call) → IsInRange p call → Gathered p s.log n call (rows_before call old.registers.rows) (aim_of call)
-  gathers_none (call.Get key) h = refl
-  gathers_none (call.Put key value) h = refl
-  gathers_none (call.Del key) h = refl
-  gathers_none (call.Range low high) h = record { low = low; high = high; call_is = refl; place_is = h.0; within = h.1; left = omega (arith, ok.ranged.rows.0); gathered = gathered_begin s.log n low }
+  gathers_none call h = search (rules, gathered_begin)
 
   no_duty : (call : Call) → None ≡ duty_of (aim_of call)
-  no_duty (call.Get key) = refl
-  no_duty (call.Put key value) = refl
-  no_duty (call.Del key) = refl
-  no_duty (call.Range low high) = refl
+  no_duty call = search rules
 
   none_made : (call : Call) (r : Reply) → pending_aim i call r (aim_of call) ≡ []
-  none_made (call.Get key) r = refl
-  none_made (call.Put key value) r = refl
-  none_made (call.Del key) r = refl
-  none_made (call.Range low high) r = refl
+  none_made call r = search rules
 
   at_leaf : (call : Call) → target (aim_of call) ≡ 0
-  at_leaf (call.Get key) = refl
-  at_leaf (call.Put key value) = refl
-  at_leaf (call.Del key) = refl
-  at_leaf (call.Range low high) = refl
+  at_leaf call = search rules
 
   for_key : (call : Call) → aimed_key call (aim_of call) ≡ call_key call
-  for_key (call.Get key) = refl
-  for_key (call.Put key value) = refl
-  for_key (call.Del key) = refl
-  for_key (call.Range low high) = refl
+  for_key call = search rules
 
   takes_own : (call : Call) → takes_lock call Own ≡ true → takes_lock call (aim_of call) ≡ true
-  takes_own (call.Get key) e = cc
-  takes_own (call.Put key value) e = refl
-  takes_own (call.Del key) e = refl
-  takes_own (call.Range low high) e = cc
+  takes_own call e = search rules
 
   goes_down : (row : Inner) (key : ℕ) → row.level ≡ 1 → row.low ≤ key → key < row.high → hop_of (InnerImage row) key 0 ≡ Down (child_of row.pairs key)
   goes_down row key level from below = grind (arith, nat_tests, level, from, below)
@@ -77,28 +58,7 @@ module _ (p : ConfigParts) (ok : IsSetting p) (s : TreeState) (i n : ℕ) (old :
       subst (λ (z : ℕ × ℕ). IsNamed s z.0 (child_of row.pairs (call_key call)) z.1) (λ j. (sym (at_leaf call) j, sym (for_key call) j)) named
 
   begins : (call : Call) → IsInRange p call → AreRowsOf s old.registers.cached → Begun p s i n old (begun old call) call
-  begins call lawful rows = by (found old.registers.cached (call_key call)) refl
-    where
-      C : Machine
-      C = calling old call
-
-      at_child_of : (o : Origin) (t : Bool) → takes_lock call Own ≡ t → IsNamed s (target (aim_of call)) o.child (aimed_key call (aim_of call)) → let m : Machine = began_cached (from_cached C o.low) in Begun p s i n old (if t then to m (Draw (aim_of call) o.child) else reading m o.child (Read (aim_of call) false)) call
-      at_child_of o true e named = record { seated = (refl, refl); call_is = refl; spare_is = refl; cached_is = refl; skips_are = refl; fits = record { duty_is = no_duty call; takes = takes_own call e; there = named }; free = refl; made = none_made call old.registers.reply; calm = tt }
-      at_child_of o false e named = record {
-        seated = (refl, refl);
-        call_is = refl;
-        spare_is = refl;
-        cached_is = refl;
-        skips_are = refl;
-        fits = record { duty_is = no_duty call; rows = gathers_none call lawful; on_way = record { level = target (aim_of call); named = named; reach = omega arith; left = omega (arith, node_size_is p); known = tt } };
-        free = refl;
-        made = none_made call old.registers.reply;
-        calm = tt;
-      }
-
-      by : (o : Option Inner) → found old.registers.cached (call_key call) ≡ o → Begun p s i n old (began_at C call (option_map (origin_in (call_key call)) o)) call
-      by None e = record { seated = (refl, refl); call_is = refl; spare_is = refl; cached_is = refl; skips_are = refl; fits = record { duty_is = no_duty call; rows = gathers_none call lawful }; free = refl; made = none_made call old.registers.reply; calm = tt }
-      by (Some row) e = at_child_of (origin_in (call_key call) row) (takes_lock call Own) refl (named_child call row rows e)
+  begins call lawful rows = search (rules, no_duty, takes_own, none_made, gathers_none, node_size_is, named_child)
 
 module _ (p : ConfigParts) (ok : IsSetting p) where
   pub begin_keeps : BeginKeeps p

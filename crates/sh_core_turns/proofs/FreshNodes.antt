@@ -1,12 +1,12 @@
 -- Spare nodes, the halves of a split, and what a client stores in nodes of its own.
-use Rattle.std.proofs.Common.{◌≡◌, ◌≢◌, ℕ, ◌+◌, ◌-◌, Bool, true, false, List, Some, None, refl, sym, ap, ◌∙◌, arith, suc, ◌*◌, ◌<◌, ◌≤◌, length, subst, zero, [], ◌∷◌, get_or, set, Option, inl, inr}
+use Rattle.std.proofs.Common.{rules, ◌≡◌, ◌≢◌, ℕ, ◌+◌, Bool, true, false, List, Some, None, refl, sym, ap, ◌∙◌, arith, suc, ◌*◌, ◌<◌, ◌≤◌, length, subst, zero, [], ◌∷◌, get_or, set, Option, inl, inr}
 use Rattle.std.proofs.{Common.{◌++◌, eqb-true, get_or-set_same, get_or-set_other}, Math.{Nat.{mod-lt}, Seq.{take-length}}, lemmas.{Bool.{Decides.{nat_tests}, cases_eq}, List.{length-replicate}}}
 use Rattle.std.specs.Prelude.{◌==◌, if◌then◌else◌, nat_lt, ◌⊎◌, replicate}
 use Rattle.sh_base.{proofs.LayoutLemmas.{node_size_is}, specs.{Layout.{entry_at, lock_of, node_word}, Setting.{IsSetting, last_version, last_entry_version, node_size}}}
 use Rattle.sh_base.specs.declared.{config.ConfigParts.{ConfigParts}, event.Event.TheVariants.{Store}}
-use Rattle.sh_alloc.specs.{declared.state.{NodeRange.{NodeRange}, Walk.{Walk}}, Spares.{lowest, nodes_from, without_lowest, IsSpare}, Walks.{walk_start}}
+use Rattle.sh_alloc.specs.{declared.state.{NodeRange.{NodeRange}, Walk.{Walk}}, Spares.{lowest, without_lowest, IsSpare}, Walks.{walk_start}}
 use Rattle.sh_state.{proofs.{Puts.{put_here, put_else}, Scenes.{fresh_linked}}, specs.{Ground.{Ground}, Nodes.{Sits, low_in, high_in, standing_entries, IsStandingLeaf}}}
-use Rattle.sh_state.specs.TreeState.{Fresh, TreeState, Linked, LockState, Owns, Seat}
+use Rattle.sh_state.specs.TreeState.{Fresh, TreeState, Linked, LockState}
 use Rattle.sh_core.{proofs.Frame.{Before, actor_in, at, quiet_by, quiet_with, same_grows, same_here, next, SameNodes, same_call, IsCalm, Claim, advance}, specs.Actors.{Actor, becomes}}
 use Rattle.sh_core.{proofs.Others.{Grows, below_on, named_on, owes_on, StaysUnder, half_on}, specs.Core.{Inv, Moves}}
 use Rattle.sh_core.specs.Fits.{AreSpares, FillsFresh, IsSeeking, IsPosting, IsToSplit, PlansPair, PlansInner, PlansLeftInner, EndsDecided, HadNone, IsThere, IsUpdate, PlansEntry, PlansLeaf}
@@ -24,15 +24,13 @@ use Rattle.sh_read.specs.Reads.{Reads, accepted}
 use Rattle.sh_descend.specs.{declared.Hop.TheVariants.{Here}, Descent.{hop_of}}
 use Rattle.sh_readers.{specs.Hand.{IsNamed, AreRowsOf}, proofs.HandLemmas.{here_is}}
 use Rattle.sh_decide.{proofs.IndexLemmas.{first_index, no_index}, specs.{Aims.{post_of, call_key, written_key, written_value, aimed_key, target}, declared.state.Aim.TheVariants.{Posts, Own, Gathers}}}
-use Rattle.sh_decide.specs.{Deciding.{decided_by, decided_here, decision_of, has_separator, change_at, del_in, put_in, put_into, unless_worn, update_in}, declared.state.Decision.{Decision}}
+use Rattle.sh_decide.specs.{Deciding.{decided_by, decided_here, decision_of, change_at, del_in, put_in, put_into, unless_worn, update_in}, declared.state.Decision.{Decision}}
 use Rattle.sh_decide.specs.{Leaves.{leaf_answer, are_keys_once, index_of, reply_with, version_at}, declared.state.Posting.{Posting}}
 use Rattle.sh_client.specs.{Bodies.{pair_of, entry_left}, Machine.{Machine, Registers}, Splitting.{giving_of, halved_by, needing, needs, with_fresh, fill_done}, declared.state.Filling.{Filling}}
 use Rattle.sh_client.specs.declared.state.{Filling.TheVariants.{RightHalf, NewRoot}, Need.{TheVariants.{ToSplit, ToGrow}, Need}, Phase.{TheVariants.{Fill, Seek, Waiting, Swap}, Phase}, Then.{Then}}
 use Rattle.sh_client.specs.declared.state.{Then.TheVariants.{Ends, Starts}, Write.{TheVariants.{LeftLeaf, LeftInner}, Write}}
 use Rattle.sh_core_turns.proofs.Standing.{StandsWell, is_lt, not_lt, some_image, split_here, standing_accepted, stands_well}
 use Rattle.sh_acts.{specs.{Images.{IsEntryOf}, Acts.{filled}}, proofs.Own.{fresh_act}}
-use mathlib.Core.Logic.{dite}
-use native.Mathlib.Decide.{ℕ_discrete}
 use Rattle.sh_decide.specs.declared.state.Decision.TheVariants as decision
 use Rattle.sh_map.specs.declared.call.Reply.TheVariants as reply
 use Rattle.sh_map.specs.declared.log.Change.TheVariants as change
@@ -48,21 +46,10 @@ some_is x y e = cc
 
 module _ (s : TreeState) (seat : ℕ) (r : NodeRange) (all : AreSpares s seat r) where
   pub takes_lowest : (fresh : ℕ) → lowest r ≡ Some fresh → IsTaken s seat fresh (without_lowest r)
-  takes_lowest fresh e = by (r.count == 0) refl e
-    where
-      by : (t : Bool) → (r.count == 0) ≡ t → (if t then None else Some r.first) ≡ Some fresh → IsTaken s seat fresh (if t then r else nodes_from (r.first + 1) (r.count - 1))
-      by true q e = cc
-      by false q e =
-          let at : r.first ≡ fresh = some_is r.first fresh e in
-          let ne : r.count ≢ 0 = grind (arith, nat_tests) in
-          record { own = ap s.class (sym at) ∙ all r.first (omega arith, omega (arith, ne)); follows = omega (arith, at); spares = λ n is. all n (omega (arith, is.0), omega (arith, is.1, ne)) }
+  takes_lowest fresh e = search (rules, some_is)
 
   pub none_spare : lowest r ≡ None → r.count ≡ 0
-  none_spare e = by (r.count == 0) refl e
-    where
-      by : (t : Bool) → (r.count == 0) ≡ t → (if t then None else Some r.first) ≡ None → r.count ≡ 0
-      by true q e = grind (arith, nat_tests)
-      by false q e = cc
+  none_spare e = search rules
 
 -- no word of it is stored yet
 pub none_filled : (s : TreeState) (seat fresh : ℕ) (rest : NodeRange) (ready : List ℕ) → IsTaken s seat fresh rest → FillsFresh s seat rest ready fresh 0
@@ -100,13 +87,7 @@ module _ (p : ConfigParts) (ok : IsSetting p) (words : List ℕ) (s : TreeState)
   inner_stands = stands_well p ok words s g seat first point seen n call reply (Posts post) (Some post) refl tt posting there
 
   pub decides : IsFor p inner_node (decided_here p call (Posts post) (InnerImage inner_node))
-  decides = by (has_separator inner_node.pairs post.separator) (nat_lt inner_node.version (last_version p)) (nat_lt (length inner_node.pairs) (2 * p.leaf)) inner_stands.right refl refl
-    where
-      by : (has room space : Bool) → has ≡ false → nat_lt inner_node.version (last_version p) ≡ room → nat_lt (length inner_node.pairs) (2 * p.leaf) ≡ space → IsFor p inner_node (if has then decision.Restart else (if room then (if space then decision.Add else decision.Split) else decision.Skip))
-      by true room space none r z = cc
-      by false false space none r z = tt
-      by false true true none r z = (is_lt (length inner_node.pairs) (2 * p.leaf) z, is_lt inner_node.version (last_version p) r)
-      by false true false none r z = (not_lt (length inner_node.pairs) (2 * p.leaf) z, is_lt inner_node.version (last_version p) r)
+  decides = search (rules, inner_stands, is_lt, not_lt)
 
   linked : s.class n ≡ Linked (suc posting.below) there.low
   linked = there.linked ∙ ap (λ (l : ℕ). Linked l there.low) posting.level
@@ -148,16 +129,10 @@ module _ (p : ConfigParts) (ok : IsSetting p) (words : List ℕ) (s : TreeState)
 
   -- what the decision to split it says
   inner_splits : decision_of p call (Posts post) (InnerImage inner_node) ≡ decision.Split → (post.separator < inner_node.high) × IsFor p inner_node decision.Split
-  inner_splits d =
-      let here = split_here p call (Posts post) (InnerImage inner_node) (hop_of (InnerImage inner_node) post.separator post.level) d in
-      (post_below here, subst (IsFor p inner_node) (sym (ap (decided_by p call (Posts post) (InnerImage inner_node)) here) ∙ d) decides)
+  inner_splits d = search (rules, split_here, post_below, decides)
 
   pub inner_to_split : (reads : Reads) → reads.node ≡ n → (h : IsToSplit p s call reads (Posts post)) → (accepted p reads ≡ Some (InnerImage inner_node)) × (post.separator < inner_node.high) × IsFor p inner_node decision.Split
-  inner_to_split reads at h =
-      let acc = standing_accepted p ok words s g n (InnerImage inner_node) reads.loaded inner_stands.seen (h.standing ∙ ap s.node at) in
-      let is = some_image h.image (InnerImage inner_node) (sym h.accepted_is ∙ acc) in
-      let z = inner_splits (subst (λ (z : Image). decision_of p call (Posts post) z ≡ decision.Split) is h.split) in
-      (acc, z.0, z.1)
+  inner_to_split reads at h = search (rules, standing_accepted, inner_stands, some_image, inner_splits)
 
 -- ---- what the decision on a standing leaf says, where the leaf covers the key of its update, and the leaf's halves
 
@@ -195,8 +170,7 @@ found es key = elim (first_or_none es key) [
 -- ---- the entry that an update makes
 
 put_made : (seat key : ℕ) (value : List ℕ) (o : Option (List ℕ)) → entries_by seat (Put key value) (reply_with o) ≡ made_entry seat (change.Put key value) o ∷ []
-put_made seat key value None = refl
-put_made seat key value (Some old) = refl
+put_made seat key value o = search rules
 
 -- ---- the decision
 
@@ -566,12 +540,10 @@ needs_on p s t seat r v duty gr nodes holds (ToGrow post root) h = below_on p s 
 
 -- so do the locks that a seat holds
 pub hands_same : (s t : TreeState) (seat : ℕ) → t.hold ≡ s.hold → (held : Option ℕ) → Hands s seat held → Hands t seat held
-hands_same s t seat is None h = λ lock o. h lock (subst (λ (f : ℕ → LockState). Owns (f lock) (Seat seat)) is o)
-hands_same s t seat is (Some l) h = λ lock ne o. h lock ne (subst (λ (f : ℕ → LockState). Owns (f lock) (Seat seat)) is o)
+hands_same s t seat is held h = search rules
 
 pub need_lock_is : (p : ConfigParts) (r : Registers) (v : Walk) (need : Need) → need_lock p (record r { walk = v }) need ≡ need_lock p r need
-need_lock_is p r v (ToSplit aim depth) = refl
-need_lock_is p r v (ToGrow post root) = refl
+need_lock_is p r v need = search rules
 
 -- the turn of a client that comes to need a fresh node, by the READ that it has in hand
 module _ (p : ConfigParts) (ok : IsSetting p) (words : List ℕ) (Has Now : ℕ → Actor → Type 0) (Out : ℕ → ℕ → ℕ → Type 0) (seat : ℕ) (s : TreeState) (b : Before p words Has Out s) (a : Actor) (r : Registers) (ph : Phase) (k : KeepsActor p s seat (actor_in p seat a r ph)) where
@@ -598,26 +570,15 @@ module _ (p : ConfigParts) (ok : IsSetting p) (words : List ℕ) (Has Now : ℕ 
 
 -- the words of a fresh node that are stored already
 filling_in : (p : ConfigParts) (s : TreeState) (seat : ℕ) (r : Registers) (fresh done : ℕ) (duty : Option Posting) (filling : Filling) → FillsWith p s seat r fresh done duty filling → FillsFresh s seat r.spare r.fresh_words fresh done
-filling_in p s seat r fresh done duty (RightHalf depth giving) h = h.filling
-filling_in p s seat r fresh done duty (NewRoot post root) h = h.filling
+filling_in p s seat r fresh done duty filling h = search rules
 
 -- one word more
 fills_more : (s : TreeState) (seat : ℕ) (spare : NodeRange) (ready : List ℕ) (fresh done : ℕ) → done < length (s.node fresh) → FillsFresh s seat spare ready fresh done → FillsFresh (filled s fresh done (get_or ready done 0)) seat spare ready fresh (done + 1)
-fills_more s seat spare ready fresh done lt f =
-    let ys : List ℕ = set (s.node fresh) done (get_or ready done 0) in
-    record {
-      own = f.own;
-      under = f.under;
-      words = λ o lo. ap (λ (zs : List ℕ). get_or zs o 0) (put_here s.node fresh ys) ∙ dite (ℕ_discrete o done)
-          (λ (e : o ≡ done). ap (λ (z : ℕ). get_or ys z 0) e ∙ get_or-set_same (s.node fresh) done (get_or ready done 0) 0 lt ∙ ap (λ (z : ℕ). get_or ready z 0) (sym e))
-          (λ (ne : o ≢ done). get_or-set_other (s.node fresh) done o (get_or ready done 0) 0 ne ∙ f.words o (omega (arith, lo, ne)));
-    }
+fills_more s seat spare ready fresh done lt f = search (rules, put_here, get_or-set_same, get_or-set_other)
 
 -- the right half is stored, and the left one is planned
 half_planned : (p : ConfigParts) (s : TreeState) (seat f q e : ℕ) (r : Registers) (fresh n : ℕ) (write : Write) (after : Then) (duty : Option Posting) → PlansHalf p s seat r fresh n write after duty → FillsFresh s seat r.spare r.fresh_words fresh (node_size p) → Plans p s seat f q e r n write after duty
-half_planned p s seat f q e r fresh n LeftLeaf after duty h full = record { fresh = fresh; half = h; filled = full }
-half_planned p s seat f q e r fresh n LeftInner after duty h full = record { fresh = fresh; half = h; filled = full }
-half_planned p s seat f q e r fresh n write after duty h full = absurd h
+half_planned p s seat f q e r fresh n write after duty h full = search rules
 
 module _ (p : ConfigParts) (ok : IsSetting p) (words : List ℕ) (Has Now : ℕ → Actor → Type 0) (Out : ℕ → ℕ → ℕ → Type 0) (seat : ℕ) (s : TreeState) (b : Before p words Has Out s) (a : Actor) (r : Registers) (fresh done : ℕ) where
   abbrev T : TreeState
@@ -631,12 +592,7 @@ module _ (p : ConfigParts) (ok : IsSetting p) (words : List ℕ) (Has Now : ℕ 
 
   -- a linked node isn't it
   stays : (n : ℕ) → FillsFresh s seat r.spare r.fresh_words fresh done → StaysUnder s T seat n
-  stays n f = record {
-    linked = λ x l c q. q;
-    pends = λ x q. q;
-    node = λ l c e. put_else s.node fresh (set (s.node fresh) done (get_or r.fresh_words done 0)) n (λ q. fresh_linked seat l c (sym f.own ∙ ap s.class (sym q) ∙ e));
-    map = λ c key q nz lo hi. refl;
-  }
+  stays n f = search (rules, linked, put_else, fresh_linked)
 
   fills_next : (duty : Option Posting) (filling : Filling) → done < node_size p → FillsWith p s seat r fresh done duty filling → FillsWith p T seat r fresh (done + 1) duty filling
   fills_next duty (RightHalf depth giving) lt h = record {

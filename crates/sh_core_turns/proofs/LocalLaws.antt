@@ -1,6 +1,6 @@
 -- Turns without an event: they change no word, and rights go from one to another.
-use Rattle.std.proofs.Common.{◌≡◌, ◌≢◌, ℕ, ◌+◌, ◌<◌, ◌≤◌, Bool, true, false, List, [], ◌++◌, length, Option, Some, None, refl, sym, ap, subst, arith, length-append, ◌⊎◌, ◌-◌, ◌∙◌, inl, inr}
-use Rattle.std.{proofs.{Common.{drop_of_length-le}, lemmas.Bool.Decides.{nat_tests}}, specs.Prelude.{◌==◌, ◌||◌, if◌then◌else◌}}
+use Rattle.std.proofs.Common.{rules, ◌≡◌, ◌≢◌, ℕ, ◌+◌, ◌<◌, ◌≤◌, Bool, true, false, List, [], ◌++◌, length, Option, Some, None, refl, sym, ap, subst, arith, length-append, ◌⊎◌, ◌-◌, ◌∙◌, inl, inr}
+use Rattle.std.{proofs.{Common.{drop_of_length-le}}, specs.Prelude.{if◌then◌else◌}}
 use Rattle.sh_base.{specs.{declared.config.ConfigParts.{ConfigParts}, Setting.{IsSetting, all_seats, node_size}, Layout.{lock_of, compute_of}}, proofs.LayoutLemmas.{node_size_is}}
 use Rattle.sh_map.specs.declared.log.Entry.{Entry as LogEntry}
 use Rattle.sh_lock.specs.{declared.state.Release.{TheVariants.{Hand, Free}, Release}, Locks.{release_of}}
@@ -8,7 +8,7 @@ use Rattle.sh_state.{specs.{TreeState.{Seat, LockState, Held, TreeState, Owner, 
 use Rattle.sh_decide.specs.declared.state.{Posting.{Posting}, Aim.{Aim}}
 use Rattle.sh_client.specs.{Giving.{carried, released, writes_nothing}, Machine.{Machine, Registers, handed_over}, Rests.{rows_for}, Wants.{count_of, load_of, want_in, want_of}}
 use Rattle.sh_client.specs.declared.state.{Giving.{Giving}, Phase.{TheVariants.{Root, Draw, Look, Grab, Waiting, Body, Unlock, Leave, Ended, ReadLocked, Read, Seek}, Phase}, Then.{Then}}
-use Rattle.sh_client.specs.declared.state.{Then.TheVariants.{Ends, Starts, Takes}, Write.{TheVariants.{Nothing, Entry, Leaf as WholeLeaf, LeftLeaf, Inner as WholeInner, LeftInner}, Write}}
+use Rattle.sh_client.specs.declared.state.{Then.TheVariants.{Ends, Starts, Takes}, Write.{TheVariants.{Nothing}, Write}}
 use Rattle.sh_core.{proofs.{Causes.{decided_cause}, Others.{follows_on, at_on, seat_apart, adds_before, bounded_less, step_to}}, specs.Actors.{Actor, becomes, ending, actor_stepped, actor_turned}}
 use Rattle.sh_core.proofs.Frame.{next, actor_in, at, goes_on, ends_now, decided_ends, same_call, work_with, work_ended, same_here, same_grows, IsCalm, Before, stays, no_add, same_hold, hands_take}
 use Rattle.sh_core.{proofs.Frame.{hands_drop, actor_is, before}, specs.Core.{Inv, Moves, SomeAdds, IsLocal, HasSeen, LocalKeeps, LookKeeps, TakeKeeps, PartKeeps}}
@@ -17,27 +17,19 @@ use Rattle.sh_core_turns.proofs.Standing.{to_root}
 use Rattle.sh_read.specs.Reads.{reads_start, wanted}
 use Rattle.sh_acts.{specs.Acts.{with_hold}, proofs.Holds.{hand_act}}
 use Rattle.sh_alloc.specs.{declared.state.ChunkWant.{ChunkWant}, Walks.{walk_wants}}
-use Rattle.sh_alloc.specs.declared.state.ChunkWant.TheVariants as chunk
 
 -- a lock that is handed over isn't at the bound
 hand_below : (count depth bound : ℕ) → release_of count depth bound ≡ Hand → depth ≤ bound → depth + 1 ≤ bound
-hand_below count depth bound e le = by ((count == 0) || (depth == bound)) refl e
-  where
-    by : (t : Bool) → ((count == 0) || (depth == bound)) ≡ t → (if t then Free else Hand) ≡ Hand → depth + 1 ≤ bound
-    by true q r = cc
-    by false q r = grind (arith, nat_tests)
+hand_below count depth bound e le = search rules
 
 carries_on : (p : ConfigParts) (count depth : ℕ) (r : Release) → release_of count depth p.bound ≡ r → depth ≤ p.bound → Carries p depth (carried depth r)
-carries_on p count depth Free e le = tt
-carries_on p count depth Hand e le = record { one_more = refl; within = hand_below count depth p.bound e le }
+carries_on p count depth r e le = search (rules, hand_below)
 
 writes_some : (write : Write) → writes_nothing write ≡ false → write ≢ Nothing
-writes_some Nothing e = cc
-writes_some write e = λ z. cc
+writes_some write e = search rules
 
 writes_none : (write : Write) → writes_nothing write ≡ true → write ≡ Nothing
-writes_none Nothing e = refl
-writes_none write e = cc
+writes_none write e = search rules
 
 module _ (p : ConfigParts) (ok : IsSetting p) (words : List ℕ) (Has Now : ℕ → Actor → Type 0) (Out : ℕ → ℕ → ℕ → Type 0) (i : ℕ) (s : TreeState) (b : Before p words Has Out s)
     (a : Actor) (r : Registers) (sn rest : List LogEntry) (whole : s.log ≡ sn ++ rest) (more : a.seen ≤ length sn) where
@@ -75,17 +67,11 @@ module _ (p : ConfigParts) (ok : IsSetting p) (words : List ℕ) (Has Now : ℕ 
   bound_is n d e = subst (λ (x : LockState). Orderly p s (lock_of p n) x) e (b.ground.orderly (lock_of p n))
 
   some_body : (write : Write) (duty : Option Posting) (after : Then) (n : ℕ) → write ≢ Nothing → Plans p s i a.first a.point a.seen r n write after duty → 0 < length r.body
-  some_body Nothing duty after n ne h = absurd (ne refl)
-  some_body (Entry index) duty after n ne h = rw h.change.body_is (omega arith)
-  some_body WholeLeaf duty after n ne h = rw h.change.body_is (omega arith)
-  some_body LeftLeaf duty after n ne h = rw h.half.cut.body_is (omega arith)
-  some_body WholeInner duty after n ne h = rw h.add.body_is (omega arith)
-  some_body LeftInner duty after n ne h = rw h.half.cut.body_is (omega arith)
+  some_body write duty after n ne h = search rules
 
   -- what is planned to be stored doesn't lean on what was seen
   plans_later : (write : Write) (duty : Option Posting) (after : Then) (n : ℕ) → a.seen ≤ length s.log → Plans p s i a.first a.point a.seen r n write after duty → Plans p s i a.first a.point N r n write after duty
-  plans_later Nothing duty after n le h = later duty after le h
-  plans_later write duty after n le h = h
+  plans_later write duty after n le h = search (rules, later)
 
   -- nothing is written: what follows is known, and so are the entries of the call
   unwritten : (d : ℕ) (giving : Giving) (k : KeepsActor p s i (actor_in p i a r (Waiting d giving))) → writes_nothing giving.write ≡ true → Follows p s i a.first a.point N r.call r.reply k.work.duty giving.after
@@ -225,13 +211,10 @@ module _ (p : ConfigParts) (ok : IsSetting p) (words : List ℕ) (Has Now : ℕ 
 -- ---- the laws of the turns that a compute server answers, and of rights
 
 not_local_load : (o : Option ℕ) → IsLocal (load_of o) → ⊥
-not_local_load None h = h
-not_local_load (Some x) h = h
+not_local_load o h = search rules
 
 not_local_count : (w : ChunkWant) → IsLocal (count_of w) → ⊥
-not_local_count (chunk.Event e) h = h
-not_local_count (chunk.Got server c) h = h
-not_local_count chunk.AllSpent h = h
+not_local_count w h = search rules
 
 module _ (p : ConfigParts) (ok : IsSetting p) (words : List ℕ) (log seen : List LogEntry) (Has Now : ℕ → Actor → Type 0) (Out : ℕ → ℕ → ℕ → Type 0) (i : ℕ) (a : Actor) (inv : Inv p words log Has Out) (h : Has i a) (saw : HasSeen log seen a) where
   abbrev R : Registers

@@ -1,9 +1,9 @@
 -- A walk over the counters for a fresh node, by what it comes to: it goes on, it got a chunk, or all chunks are spent.
-use Rattle.std.proofs.{Common.{◌≡◌, ℕ, ◌+◌, ◌≤◌, List, [], length, Some, refl, sym, ap, ◌∙◌, subst, arith, append-nil}, lemmas.Bool.Decides.{nat_tests}}
+use Rattle.std.proofs.{Common.{rules, ◌≡◌, ℕ, ◌+◌, ◌≤◌, List, [], length, Some, refl, sym, ap, ◌∙◌, subst, arith, append-nil}, lemmas.Bool.Decides.{nat_tests}}
 use Rattle.sh_base.specs.{declared.{config.ConfigParts.{ConfigParts}, event.Event.{Event, TheVariants.{Add}}}, Setting.{IsSetting}, Layout.{counter_word, first_node}}
 use Rattle.sh_base.proofs.LayoutLemmas.{node_size_is}
 use Rattle.sh_readers.{specs.Hand.{AreRowsOf}, proofs.RowLemmas.{rows_linked}}
-use Rattle.sh_map.specs.{declared.call.Call.{Call, TheVariants.{Put}}, Made.{entries_by}}
+use Rattle.sh_map.specs.{declared.call.Call.{Call}, Made.{entries_by}}
 use Rattle.sh_map.specs.declared.call.Reply.TheVariants as reply
 use Rattle.sh_alloc.specs.{declared.state.{NodeRange.{NodeRange}, Walk.{Walk}, ChunkWant.{ChunkWant}}, Spares.{lowest, nodes_from, without_lowest}, Walks.{walk_wants}}
 use Rattle.sh_alloc.specs.declared.state.ChunkWant.TheVariants as chunk
@@ -61,9 +61,7 @@ some_lowest first count le = grind (arith, nat_tests)
 
 -- its lowest node is taken, and the others are spare
 takes_chunk : (p : ConfigParts) (ok : IsSetting p) (s : TreeState) (seat server : ℕ) → let fresh : ℕ = first_node p server (s.counter server) in IsTaken (drawn p s server seat) seat fresh (without_lowest (nodes_from fresh p.chunk_nodes))
-takes_chunk p ok s seat server =
-    let fresh : ℕ = first_node p server (s.counter server) in
-    takes_lowest (drawn p s server seat) seat (nodes_from fresh p.chunk_nodes) (λ n is. drawn_mine p s seat server n record { from = is.0; below = is.1 }) fresh (some_lowest fresh p.chunk_nodes ok.ranged.chunk_nodes.0)
+takes_chunk p ok s seat server = search (rules, takes_lowest, drawn_mine, some_lowest)
 
 module _ (p : ConfigParts) (ok : IsSetting p) (words : List ℕ) (Has : ℕ → Actor → Type 0) (Out : ℕ → ℕ → ℕ → Type 0) (seat : ℕ) (s : TreeState) (b : Before p words Has Out s) (a : Actor) (r : Registers) where
   abbrev N : ℕ
@@ -117,8 +115,7 @@ module _ (p : ConfigParts) (ok : IsSetting p) (words : List ℕ) (Has : ℕ → 
 
   -- a put is full
   full : (n : ℕ) (low : ℕ) → s.class n ≡ Linked 0 low → (f : ℕ → ℕ) → AreSpent p f → a.first ≤ N → (c : Call) → SplitsFor p (s.node n) c → IsDecided p (with_counters s f) seat a.first a.point N c reply.Full × (entries_by seat c reply.Full ≡ [])
-  full n low linked f all began (Put key value) k = (record { spent = all; absent = put_misses p ok words s b.ground seat n low linked a.first key value began k }, refl)
-  full n low linked f all began c k = absurd k
+  full n low linked f all began c k = search (rules, put_misses)
 
   pub spent : (need : Need) (h : Has seat (actor_in p seat a r (Seek need))) (now : List ℕ) (v : Walk) (f : ℕ → ℕ) → Counts p seat s now f → AreSpent p f → Reached p seat s now f chunk.AllSpent (walked_to need h v chunk.AllSpent)
   spent (ToSplit Own depth) h now v f c all =

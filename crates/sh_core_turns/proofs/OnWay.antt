@@ -1,5 +1,5 @@
 -- READs without a lock: each leads on, and finds nothing senseless.
-use Rattle.std.proofs.Common.{◌≡◌, ◌≢◌, ◌⊎◌, ℕ, suc, ◌+◌, ◌-◌, ◌^◌, ◌<◌, ◌≤◌, Bool, true, false, List, [], ◌∷◌, ◌++◌, length, get_or, Option, Some, None, refl, sym, ap, ◌∙◌, subst, inl, inr, arith, eqb-true}
+use Rattle.std.proofs.Common.{rules, ◌≡◌, ◌≢◌, ◌⊎◌, ℕ, suc, ◌+◌, ◌-◌, ◌^◌, ◌<◌, ◌≤◌, Bool, true, false, List, [], ◌∷◌, ◌++◌, length, get_or, Option, Some, None, refl, sym, ap, ◌∙◌, subst, inl, inr, arith, eqb-true}
 use Rattle.std.{specs.Prelude.{◌==◌, ◌&&◌, not, if◌then◌else◌, nat_lt}, proofs.lemmas.Bool.{cases_lt, Decides.{nat_tests}}}
 use Rattle.sh_base.{specs.{declared.{config.ConfigParts.{ConfigParts}, event.Event.TheVariants.{Load}}, Setting.{node_size, IsSetting}, Layout.{node_word}}, proofs.LayoutLemmas.{node_size_is}}
 use Rattle.sh_map.specs.{declared.{book.{Done.{Done}, Row.{Row}}, call.Call.{Call}}, Book.{AnswersRange}, Calls.{IsInRange, IsKey}, Made.{entries_by}, Points.{point_of}}
@@ -30,10 +30,7 @@ differ a b e = grind (arith, nat_tests)
 
 -- where no new root goes over it, a node isn't below the wanted level
 not_below : (top : Bool) (aim : Aim) (image : Image) (level : ℕ) → Reaches top (target aim) level → level_of image ≡ level → (top && is_below aim image) ≡ false → target aim ≤ level
-not_below false aim image level r e q = r
-not_below true Own image level r e q = omega arith
-not_below true (Gathers place) image level r e q = omega arith
-not_below true (Posts post) image level r e q = let ne = differ post.level (level_of image + 1) q in omega (arith, ne, r, e)
+not_below top aim image level r e q = search (rules, differ)
 
 module _ (p : ConfigParts) (ok : IsSetting p) (words : List ℕ) (Has Now : ℕ → Actor → Type 0) (Out : ℕ → ℕ → ℕ → Type 0) (i : ℕ) (s : TreeState) (b : Before p words Has Out s) (a : Actor) (r : Registers) (aim : Aim) (top : Bool)
     (k : KeepsActor p s i (actor_in p i a r (Read aim top))) where

@@ -1,5 +1,5 @@
 -- Posts that a client owes: they're skipped, or a new root makes them.
-use Rattle.std.proofs.Common.{◌≡◌, ◌≢◌, ℕ, ◌+◌, Bool, true, false, List, [], ◌∷◌, Some, refl, sym, ap, ◌∙◌, subst, inl, inr, arith, ◌<◌, length, None, append-nil, suc, ◌≤◌, ◌++◌, get_or, set}
+use Rattle.std.proofs.Common.{rules, ◌≡◌, ◌≢◌, ℕ, ◌+◌, Bool, true, false, List, [], ◌∷◌, Some, refl, sym, ap, ◌∙◌, subst, inl, inr, arith, ◌<◌, length, None, append-nil, suc, ◌≤◌, ◌++◌, get_or, set}
 use Rattle.std.{proofs.{Common.{eqb-true}, lemmas.{Bool.Decides.{nat_tests}, List.{ext_get_or}}}, specs.{List.{AllByRecursion}, Prelude.{◌-◌, ◌^◌, ◌==◌, ◌*◌, if◌then◌else◌}}}
 use Rattle.sh_base.{proofs.LayoutLemmas.{nodes_small}, specs.{Layout.{lock_of, root_word}, Places.{Root as RootSite}, Setting.{IsNode, IsSetting, node_size}}}
 use Rattle.sh_base.specs.declared.{config.ConfigParts.{ConfigParts}, event.Event.TheVariants.{Exchange}}
@@ -21,34 +21,20 @@ use mathlib.Core.Logic.{dite}
 use native.Mathlib.Decide.{ℕ_discrete}
 use Rattle.sh_image.{specs.Inner.{inner_words}, proofs.InnerLemmas.{length-inner_words}}
 use Rattle.sh_edit.specs.Pairing.{root_over}
-use Rattle.sh_map.specs.declared.call.Call.TheVariants as call
-use Rattle.sh_map.specs.declared.call.Reply.TheVariants as reply
 
 no_entry : (e : LogEntry) → [] ≡ e ∷ [] → ⊥
 no_entry e q = cc
 
 -- a call that has made its entry is answered by it
 pub decided_by_entry : (p : ConfigParts) (s : TreeState) (seat f q e : ℕ) (c : Call) (r : Reply) → HasEntry s.log seat f q e c r → IsDecided p s seat f q e c r
-decided_by_entry p s seat f q e (call.Put key value) (reply.Some old) h = h
-decided_by_entry p s seat f q e (call.Put key value) reply.None h = h
-decided_by_entry p s seat f q e (call.Del key) (reply.Some old) h = h
-decided_by_entry p s seat f q e c r h = absurd (no_entry h.entry h.is)
+decided_by_entry p s seat f q e c r h = search (rules, no_entry)
 
 -- the post of one node changes, which wasn't skipped and isn't now
 pub skips_kept : (s t : TreeState) (seat count c : ℕ) (x : ParentLink) → ((n : ℕ) → t.post n ≡ put s.post c x n) → s.post c ≢ Skipped seat → x ≢ Skipped seat → Skips s seat count → Skips t seat count
-skips_kept s t seat count c x is was now h = record {
-  nodes = h.nodes;
-  once = h.once;
-  are = λ n. let u = h.are n in (
-    λ e. is n ∙ put_else s.post c x n (λ q. was (ap s.post (sym q) ∙ u.0 e)) ∙ u.0 e,
-    λ e. u.1 (put_case (λ z. z ≡ Skipped seat → s.post n ≡ Skipped seat) s.post c x n (λ q w. absurd (now w)) (λ ne w. w) (sym (is n) ∙ e)),
-  );
-  counted = h.counted;
-}
+skips_kept s t seat count c x is was now h = search (rules, put_else, put_case)
 
 off_list : (ns : List ℕ) (n : ℕ) (b : Bool) → is_in ns n ≡ b → (is_in ns n ≡ true → ⊥) → is_in ns n ≡ false
-off_list ns n true e off = absurd (off e)
-off_list ns n false e off = e
+off_list ns n b e off = search rules
 
 -- one more is skipped
 pub skips_more : (s : TreeState) (seat count c : ℕ) → s.post c ≢ Skipped seat → Skips s seat count → Skips (skipped s c seat) seat (count + 1)

@@ -1,49 +1,37 @@
 -- No client comes to a senseless case.
-use Rattle.std.{proofs.Common.{◌≡◌, ℕ, Bool, false, List, Option, refl, sym, ap, ◌∙◌, subst, ◌+◌, true, ◌∷◌, length, Some, None}, specs.Prelude.{not, ◌==◌, ◌&&◌, ◌*◌, if◌then◌else◌, nat_lt}}
-use Rattle.sh_base.specs.{declared.{config.ConfigParts.{ConfigParts}, event.Event.{Event}}, Setting.{IsSetting, node_size, last_version, last_entry_version}, Memory.{found_by}, Layout.{first_node}}
+use Rattle.std.{proofs.Common.{rules, ◌≡◌, ℕ, Bool, false, List, Option, refl, sym, ap, ◌∙◌, subst, true, ◌∷◌, length, Some, None}, specs.Prelude.{not, ◌&&◌, if◌then◌else◌, nat_lt}}
+use Rattle.sh_base.specs.{declared.{config.ConfigParts.{ConfigParts}, event.Event.{Event}}, Setting.{IsSetting, node_size, last_version, last_entry_version}, Memory.{found_by}}
 use Rattle.sh_map.specs.declared.call.Call.{Call}
-use Rattle.sh_image.specs.{Inner.{Inner}, Leaf.{Leaf}, declared.{inner.Image.{TheVariants.{Leaf as LeafImage, Inner as InnerImage}, Image}, read.Seen.{Seen}}}
-use Rattle.sh_image.specs.declared.read.Seen.TheVariants.{Leaf as LeafSeen, Inner as InnerSeen, Torn, TornEntry, Odd as OddSeen}
-use Rattle.sh_alloc.specs.{declared.state.ChunkWant.{ChunkWant}, Walks.{walk_fed, walk_wants}, Spares.{lowest, without_lowest}}
-use Rattle.sh_descend.specs.{declared.Hop.{TheVariants.{Here, Right, Down, Restart}, Hop}, Descent.{hop_of, level_of}}
+use Rattle.sh_image.specs.{Inner.{Inner}, Leaf.{Leaf}, declared.{inner.Image.{Image}, read.Seen.{Seen}}}
+use Rattle.sh_alloc.specs.{declared.state.ChunkWant.{ChunkWant}, Walks.{walk_fed, walk_wants}}
+use Rattle.sh_descend.specs.{declared.Hop.{Hop}, Descent.{hop_of}}
 use Rattle.sh_state.specs.TreeState.{TreeState}
-use Rattle.sh_decide.specs.{Aims.{aimed_key, target, end_of, is_node, takes_lock}, Leaves.{are_keys_once, index_of, version_at}, Ways.{is_below, way_by, way_here, way_of}, declared.state.Aim.{Aim}}
-use Rattle.sh_decide.specs.Deciding.{decided_by, decided_here, change_at, has_separator, post_in, put_in, put_into, del_in, unless_worn, update_in}
-use Rattle.sh_decide.specs.declared.state.{Aim.TheVariants.{Own, Gathers, Posts}, Decision.{Decision}, Posting.{Posting}, Way.{Way}}
-use Rattle.sh_client.specs.{Cached.{learning, settling}, Feeds.{arrived, did, fed_in, from_root, held_by, hold_by, loaded, read_by, went}, Machine.{Registers, Machine, reading, sparing, to}}
-use Rattle.sh_client.specs.{Ranges.{gathering, is_whole, range_ended}, Splitting.{chunk_taken, root_grown, halved_by, needing, sought_by, walked}, Wants.{want_in, want_of}, declared.state.Edge.{Edge}}
+use Rattle.sh_decide.specs.{Aims.{aimed_key, target, is_node, takes_lock}, Leaves.{version_at}, Ways.{is_below, way_by, way_here, way_of}, declared.state.Aim.{Aim}}
+use Rattle.sh_decide.specs.Deciding.{decided_by, decided_here, change_at, post_in, put_in, put_into, del_in, unless_worn, update_in}
+use Rattle.sh_decide.specs.declared.state.{Aim.TheVariants.{Own, Gathers}, Decision.{Decision}, Posting.{Posting}, Way.{Way}}
+use Rattle.sh_client.specs.{Cached.{learning, settling}, Feeds.{arrived, did, fed_in, from_root, held_by, hold_by, loaded, read_by, went}, Machine.{Registers, Machine, reading, to}}
+use Rattle.sh_client.specs.{Ranges.{range_ended}, Splitting.{root_grown, halved_by, needing, sought_by, walked}, Wants.{want_in, want_of}, declared.state.Edge.{Edge}}
 use Rattle.sh_client.specs.declared.state.{Need.{TheVariants.{ToSplit, ToGrow}, Need}, Phase.{TheVariants.{Root, Read, ReadLocked, Seek}, Phase}}
 use Rattle.sh_core.{specs.{Actors.{Actor}, Fits.{Needs}}, proofs.Frame.{actor_is, Before, actor_in, at, before}}
 use Rattle.sh_core_turns.proofs.{InnerDecisions.{locked_reads}, Needs.{event_is}, OnWay.{way_read}, Standing.{root_named, load_is, split_here}}
 use Rattle.sh_core_turns.specs.Senses.{NeverSenseless, is_other_kind, is_senseless, is_senseless_in, of_image, of_walk, splits_other_kind, is_wrong, is_wrong_by, is_wrong_here, lacks_answer, of_read}
 use Rattle.sh_core_turns.specs.Senses.{strays, strays_by, is_at_root, gives_back, leaves_off, starts_again, IsMade, AreAllCases}
 use Rattle.sh_read.specs.{declared.state.Progress.{TheVariants.{More, Accepted, Again, Odd}, Progress}, Judging.{seen_of}, Reads.{Reads, accepted, answer_to, reads_left, progress_of, reads_with}}
-use Rattle.sh_alloc.specs.declared.state.ChunkWant.TheVariants as chunk
 use Rattle.sh_decide.specs.declared.state.Decision.TheVariants as decision
 use Rattle.sh_client.specs.declared.state.Want.TheVariants as want
-use Rattle.sh_map.specs.declared.call.Call.TheVariants as call
 use Rattle.sh_decide.specs.declared.state.Way.TheVariants as way
 
 -- ---- a chunk is found
 
 -- no node of the other kind is to be split
 pub split_kind : (p : ConfigParts) (c : Call) (aim : Aim) (image : Image) (hop : Hop) → decided_by p c aim image hop ≡ decision.Split → is_other_kind aim image ≡ false
-split_kind p c aim image hop e = kind aim image (sym (ap (decided_by p c aim image) (split_here p c aim image hop e)) ∙ e)
-  where
-    kind : (aim : Aim) (image : Image) → decided_here p c aim image ≡ decision.Split → is_other_kind aim image ≡ false
-    kind Own (LeafImage a) e = refl
-    kind Own (InnerImage a) e = cc
-    kind (Gathers place) image e = cc
-    kind (Posts post) (LeafImage a) e = cc
-    kind (Posts post) (InnerImage a) e = refl
+split_kind p c aim image hop e = search (rules, split_here)
 
 no_other_kind : (p : ConfigParts) (s : TreeState) (i : ℕ) (r : Registers) (duty : Option Posting) (ph : Phase) (need : Need) → Needs p s i r duty need → splits_other_kind (at p i r ph) need ≡ false
-no_other_kind p s i r duty ph (ToSplit aim depth) h = let z = h.to_split in ap (of_image (λ (x : Image). is_other_kind aim x)) z.accepted_is ∙ split_kind p r.call aim z.image (hop_of z.image (aimed_key r.call aim) (target aim)) z.split
-no_other_kind p s i r duty ph (ToGrow post root) h = refl
+no_other_kind p s i r duty ph need h = search (rules, split_kind)
 
 walks_well : (split : Bool) (wants : ChunkWant) → split ≡ false → of_walk split wants ≡ false
-walks_well split (chunk.Got server chunk) h = h
-walks_well split wants h = refl
+walks_well split wants h = search rules
 
 -- ---- each phase
 module _ (p : ConfigParts) (ok : IsSetting p) (words : List ℕ) (Has : ℕ → Actor → Type 0) (Out : ℕ → ℕ → ℕ → Type 0) (i : ℕ) (s : TreeState) (b : Before p words Has Out s) (a : Actor) (r : Registers) where
@@ -70,57 +58,25 @@ never_senseless p ok words log Has Out i a e inv h q =
 -- ---- READs without a lock
 module _ (m : Machine) where
   grows : (post : Posting) (root : ℕ) (o : Option ℕ) → false ≡ is_at_root (needing m (ToGrow post root) o).phase
-  grows post root (Some fresh) = refl
-  grows post root None = refl
+  grows post root o = search rules
 
   grows_over : (top : Bool) (aim : Aim) (image : Image) → (top && is_below aim image) ≡ true → false ≡ is_at_root (root_grown m aim m.registers.reads.node).phase
-  grows_over true Own image e = cc
-  grows_over false Own image e = cc
-  grows_over true (Gathers place) image e = cc
-  grows_over false (Gathers place) image e = cc
-  grows_over top (Posts post) image e = grows post m.registers.reads.node (lowest m.registers.spare)
+  grows_over top aim image e = search (rules, grows)
 
   ranges : (place : ℕ) (a : Leaf) (whole real : Bool) (edge : Edge) (x : Machine) → (if whole then false else not real) ≡ is_at_root (if whole then range_ended x else (if real then reading x edge.next (Read (Gathers edge.high) false) else to x (Root (Gathers edge.high)))).phase
-  ranges place a true real edge x = refl
-  ranges place a false true edge x = refl
-  ranges place a false false edge x = refl
+  ranges place a whole real edge x = search rules
 
   covers : (aim : Aim) (image : Image) → let c : Call = m.registers.call in lacks_answer m.setting c m.registers.rows aim image ≡ is_at_root (went m aim image (way_here c aim m.registers.reads.node image)).phase
-  covers (Posts post) (LeafImage a) = refl
-  covers (Posts post) (InnerImage a) = refl
-  covers (Gathers place) (InnerImage a) = refl
-  covers (Gathers place) (LeafImage a) =
-      let x : Machine = gathering m place (LeafImage a) in
-      ranges place a (is_whole m.setting.rows (end_of m.registers.call) a.high x.registers.rows) (is_node m.setting a.next) record { high = a.high; next = a.next } x
-  covers Own image = owns m.registers.call image
-    where
-      owns : (c : Call) (image : Image) → lacks_answer m.setting c m.registers.rows Own image ≡ is_at_root (went m Own image (way_here c Own m.registers.reads.node image)).phase
-      owns (call.Get key) (LeafImage a) = refl
-      owns (call.Get key) (InnerImage a) = refl
-      owns (call.Put key value) (LeafImage a) = refl
-      owns (call.Put key value) (InnerImage a) = refl
-      owns (call.Del key) (LeafImage a) = refl
-      owns (call.Del key) (InnerImage a) = refl
-      owns (call.Range low high) (LeafImage a) = refl
-      owns (call.Range low high) (InnerImage a) = refl
+  covers aim image = search (rules, ranges)
 
   off_root : (aim : Aim) (image : Image) (n t : Bool) (v w : Way) → is_at_root (went m aim image v).phase ≡ false → is_at_root (went m aim image w).phase ≡ false → not n ≡ is_at_root (went m aim image (if n then (if t then v else w) else way.Root)).phase
-  off_root aim image true true v w h k = sym h
-  off_root aim image true false v w h k = sym k
-  off_root aim image false t v w h k = refl
+  off_root aim image n t v w h k = search rules
 
   leads : (aim : Aim) (image : Image) (hop : Hop) → let c : Call = m.registers.call in strays_by m.setting c m.registers.rows aim image hop ≡ is_at_root (went m aim image (way_by m.setting c aim m.registers.reads.node image hop)).phase
-  leads aim image Here = covers aim image
-  leads aim image (Right r) = off_root aim image (is_node m.setting r) (takes_lock m.registers.call aim && (level_of image == target aim)) (way.LockRight r) (way.Right r) refl refl
-  leads aim image (Down r) = off_root aim image (is_node m.setting r) (takes_lock m.registers.call aim && (level_of image == target aim + 1)) (way.Lock r) (way.Read r) refl refl
-  leads aim image Restart = refl
+  leads aim image hop = search (rules, covers, off_root)
 
   goes : (aim : Aim) (top : Bool) (image : Image) → strays m.setting m.registers.call m.registers.rows aim top image ≡ is_at_root (went m aim image (way_of m.setting m.registers.call aim top m.registers.reads.node image)).phase
-  goes aim top image = by (top && is_below aim image) refl
-    where
-      by : (t : Bool) → (top && is_below aim image) ≡ t → (if t then false else strays_by m.setting m.registers.call m.registers.rows aim image (hop_of image (aimed_key m.registers.call aim) (target aim))) ≡ is_at_root (went m aim image (if t then way.Grow else way_by m.setting m.registers.call aim m.registers.reads.node image (hop_of image (aimed_key m.registers.call aim) (target aim)))).phase
-      by true e = grows_over top aim image e
-      by false e = leads aim image (hop_of image (aimed_key m.registers.call aim) (target aim))
+  goes aim top image = search (rules, grows_over, leads)
 
 -- what was learnt of the image is nothing to that
 module _ (m : Machine) where
@@ -141,60 +97,32 @@ is_restart decision.Restart = true
 is_restart d = false
 
 chosen : (t : Bool) (d other : Decision) → is_restart d ≡ false → is_restart other ≡ false → is_restart (if t then d else other) ≡ false
-chosen true d other h k = h
-chosen false d other h k = k
+chosen t d other h k = search rules
 
 changes : (p : ConfigParts) (a : Leaf) (i : ℕ) → is_restart (change_at p a i) ≡ false
 changes p a i = chosen (nat_lt (version_at a.entries i) last_entry_version) (decision.Entry i) (unless_worn p a.version (decision.Rewrite i)) refl (chosen (nat_lt a.version (last_version p)) (decision.Rewrite i) (decision.Worn a.version) refl refl)
 
 puts_into : (p : ConfigParts) (a : Leaf) (o : Option ℕ) → is_restart (put_into p a o) ≡ false
-puts_into p a (Some i) = changes p a i
-puts_into p a None = chosen (nat_lt a.version (last_version p)) decision.Split (decision.Worn a.version) refl refl
+puts_into p a o = search (rules, changes, chosen)
 
 puts : (p : ConfigParts) (a : Leaf) (o : Option ℕ) → is_restart (put_in p a o) ≡ false
-puts p a (Some i) = changes p a i
-puts p a None = puts_into p a (index_of a.entries 0)
+puts p a o = search (rules, changes, puts_into)
 
 deletes : (p : ConfigParts) (a : Leaf) (o : Option ℕ) → is_restart (del_in p a o) ≡ false
-deletes p a (Some i) = changes p a i
-deletes p a None = refl
+deletes p a o = search (rules, changes)
 
 updates : (p : ConfigParts) (a : Leaf) (c : Call) → takes_lock c Own ≡ true → is_restart (update_in p a c) ≡ false
-updates p a (call.Put key value) h = puts p a (index_of a.entries key)
-updates p a (call.Del key) h = deletes p a (index_of a.entries key)
-updates p a (call.Get key) h = cc
-updates p a (call.Range low high) h = cc
+updates p a c h = search (rules, puts, deletes)
 
 posts : (p : ConfigParts) (a : Inner) → is_restart (post_in p a) ≡ false
-posts p a =
-    let space : Bool = nat_lt (length a.pairs) (2 * p.leaf) in
-    chosen (nat_lt a.version (last_version p)) (if space then decision.Add else decision.Split) decision.Skip (chosen space decision.Add decision.Split refl refl) refl
+posts p a = search (rules, chosen)
 
 -- the decision to start again is the senseless one
 decides_here : (p : ConfigParts) (c : Call) (aim : Aim) (image : Image) → takes_lock c aim ≡ true → is_wrong_here aim image ≡ is_restart (decided_here p c aim image)
-decides_here p c Own (LeafImage a) h = by (are_keys_once a.entries)
-  where
-    by : (t : Bool) → not t ≡ is_restart (if t then update_in p a c else decision.Restart)
-    by true = sym (updates p a c h)
-    by false = refl
-decides_here p c Own (InnerImage a) h = refl
-decides_here p c (Gathers place) image h = cc
-decides_here p c (Posts post) (LeafImage a) h = refl
-decides_here p c (Posts post) (InnerImage a) h = by (has_separator a.pairs post.separator)
-  where
-    by : (t : Bool) → t ≡ is_restart (if t then decision.Restart else post_in p a)
-    by true = refl
-    by false = sym (posts p a)
+decides_here p c aim image h = search (rules, updates, posts)
 
 decides : (p : ConfigParts) (c : Call) (aim : Aim) (image : Image) (hop : Hop) → takes_lock c aim ≡ true → is_wrong_by p aim image hop ≡ is_restart (decided_by p c aim image hop)
-decides p c aim image Here h = decides_here p c aim image h
-decides p c aim image (Right r) h = by (is_node p r)
-  where
-    by : (t : Bool) → not t ≡ is_restart (if t then decision.Right r else decision.Restart)
-    by true = refl
-    by false = refl
-decides p c aim image (Down n) h = refl
-decides p c aim image Restart h = refl
+decides p c aim image hop h = search (rules, decides_here)
 
 abbrev is_off : Machine → Bool
 is_off m = leaves_off m.phase m.registers.reads.loaded
@@ -202,23 +130,16 @@ is_off m = leaves_off m.phase m.registers.reads.loaded
 module _ (m : Machine) where
   -- a split never gives the lock back, where the image that was accepted is of the kind
   halves : (x : Machine) (aim : Aim) (depth fresh : ℕ) (o : Option Image) → (of_image (λ (image : Image). is_other_kind aim image) o ≡ gives_back (halved_by x aim depth fresh o).phase) × ((loaded : List ℕ) → of_image (λ (image : Image). is_other_kind aim image) o ≡ leaves_off (halved_by x aim depth fresh o).phase loaded)
-  halves x aim depth fresh None = (refl, λ loaded. refl)
-  halves x Own depth fresh (Some (LeafImage a)) = (refl, λ loaded. refl)
-  halves x Own depth fresh (Some (InnerImage a)) = (refl, λ loaded. refl)
-  halves x (Gathers place) depth fresh (Some image) = (refl, λ loaded. refl)
-  halves x (Posts post) depth fresh (Some (LeafImage a)) = (refl, λ loaded. refl)
-  halves x (Posts post) depth fresh (Some (InnerImage a)) = (refl, λ loaded. refl)
+  halves x aim depth fresh o = search rules
 
   abbrev seen : Option Image
   seen = accepted m.setting m.registers.reads
 
   splits : (aim : Aim) (depth : ℕ) (o : Option ℕ) → of_image (λ (image : Image). is_other_kind aim image) seen ≡ false → false ≡ is_off (needing m (ToSplit aim depth) o)
-  splits aim depth None e = refl
-  splits aim depth (Some fresh) e = sym e ∙ (halves (sparing m (without_lowest m.registers.spare)) aim depth fresh seen).1 (halved_by (sparing m (without_lowest m.registers.spare)) aim depth fresh seen).registers.reads.loaded
+  splits aim depth o e = search (rules, halves, reads)
 
   does : (aim : Aim) (depth : ℕ) (image : Image) (d : Decision) → (d ≡ decision.Split → of_image (λ (x : Image). is_other_kind aim x) seen ≡ false) → is_restart d ≡ is_off (did m aim depth image d)
-  does aim depth image decision.Split h = splits aim depth (lowest m.registers.spare) (h refl)
-  does aim depth image d h = refl
+  does aim depth image d h = search (rules, splits)
 
 module _ (m : Machine) where
   abbrev read : Option Image
@@ -231,13 +152,7 @@ module _ (m : Machine) where
       decides m.setting m.registers.call aim image hop h ∙ does (settling m aim image) aim depth image (decided_by m.setting m.registers.call aim image hop) (λ d. ap (of_image (λ (x : Image). is_other_kind aim x)) is ∙ split_kind m.setting m.registers.call aim image hop d)
 
   seeks : (need : Need) (w : ChunkWant) → of_walk (splits_other_kind m need) w ≡ gives_back (sought_by m need w).phase
-  seeks need (chunk.Event e) = refl
-  seeks (ToSplit aim depth) (chunk.Got server number) = (halves m (chunk_taken m server number) aim depth (first_node m.setting server number) read).0
-  seeks (ToSplit Own depth) chunk.AllSpent = refl
-  seeks (ToSplit (Gathers place) depth) chunk.AllSpent = refl
-  seeks (ToSplit (Posts post) depth) chunk.AllSpent = refl
-  seeks (ToGrow post root) (chunk.Got server number) = refl
-  seeks (ToGrow post root) chunk.AllSpent = refl
+  seeks need w = search (rules, halves)
 
 -- the READ under the lock is fed the word
 module _ (m : Machine) (word : ℕ) where
@@ -251,19 +166,13 @@ module _ (m : Machine) (word : ℕ) where
   Case aim depth left v = of_read true (of_image (λ (x : Image). is_wrong m.setting m.registers.call aim x) (accepted m.setting left)) v ≡ is_off (hold_by (with left) aim depth v)
 
   sees : (aim : Aim) (depth : ℕ) (v : Seen) → takes_lock m.registers.call aim ≡ true → Case aim depth (reads_left v r) (answer_to v)
-  sees aim depth (LeafSeen a) h = holds (with r) aim depth (accepted m.setting r) refl h
-  sees aim depth (InnerSeen a) h = holds (with r) aim depth (accepted m.setting r) refl h
-  sees aim depth (Torn rear front) h = refl
-  sees aim depth (TornEntry i rear front) h = refl
-  sees aim depth OddSeen h = refl
+  sees aim depth v h = search (rules, holds)
 
   feeds : (aim : Aim) (depth : ℕ) (t : Bool) → takes_lock m.registers.call aim ≡ true → Case aim depth (if t then r else reads_left (seen_of m.setting (word ∷ m.registers.reads.loaded)) r) (if t then More else answer_to (seen_of m.setting (word ∷ m.registers.reads.loaded)))
-  feeds aim depth true h = refl
-  feeds aim depth false h = sees aim depth (seen_of m.setting (word ∷ m.registers.reads.loaded)) h
+  feeds aim depth t h = search (rules, sees, reads)
 
   roots : (aim : Aim) (t : Bool) → not t ≡ is_at_root (if t then reading (from_root m) word (Read aim true) else to m (Root aim)).phase
-  roots aim true = refl
-  roots aim false = refl
+  roots aim t = search rules
 
   in_phase : (ph : Phase) → IsMade m.registers.call ph → is_senseless_in m word ph ≡ starts_again ph (fed_in m word ph)
   in_phase (Root aim) h = roots aim (is_node m.setting word)

@@ -1,17 +1,17 @@
 -- What the standing words of nodes are seen as, and what a client learns of them; and its turns on a lock.
-use Rattle.std.proofs.Common.{◌≡◌, ℕ, Bool, true, false, List, Option, Some, None, refl, sym, subst, ◌∙◌, eqb-true, ◌≢◌, zero, suc, ◌+◌, ◌-◌, ◌<◌, ◌≤◌, [], ◌∷◌, length, get_or, ap, arith, ◌++◌, set}
+use Rattle.std.proofs.Common.{rules, ◌≡◌, ℕ, Bool, true, false, List, Option, Some, None, refl, sym, subst, ◌∙◌, eqb-true, ◌≢◌, zero, suc, ◌+◌, ◌-◌, ◌<◌, ◌≤◌, [], ◌∷◌, length, get_or, ap, arith, ◌++◌, set}
 use Rattle.std.{proofs.{Common.{drop_of_length-le}, lemmas.Bool.Decides.{nat_tests}}, specs.Prelude.{◌==◌, ◌&&◌, if◌then◌else◌, ◌^◌, not, nat_le, nat_lt}}
 use Rattle.sh_base.{proofs.{LayoutLemmas.{node_size_is}, PlanLemmas.{lock_below}}, specs.{Layout.{node_word, rear_at, lock_of, lock_word, root_word, compute_of}, Places.{Root as RootSite}}}
 use Rattle.sh_base.specs.{Setting.{node_size, IsSetting, nodes, IsNode}, declared.{config.ConfigParts.{ConfigParts}, event.Event.{TheVariants.{Load, Store, Exchange}, Event}}}
 use Rattle.sh_image.{proofs.UntornLemmas.{untorn_spelled, untorn_inner}, specs.{Inner.{Inner, inner_in, SpellsInner}, Leaf.{Leaf, leaf_in, Spells}, Node.{seen_as}, Seen.{SeenBy}}}
 use Rattle.sh_image.specs.declared.{inner.{Image.{TheVariants.{Leaf as LeafImage, Inner as InnerImage}, Image}, Pair.{Pair}}, read.Seen.{TheVariants.{Leaf as LeafSeen, Inner as InnerSeen}, Seen}}
-use Rattle.sh_cache.{specs.Cached.{kept}, proofs.RowLemmas.{forgotten_all, kept_all}}
+use Rattle.sh_cache.{proofs.RowLemmas.{forgotten_all, kept_all}}
 use Rattle.sh_state.{specs.{TreeState.{TreeState, Linked, writing, Seat, LockState, Nobody, Held}, Ground.{Ground}, Nodes.{level_in}}, proofs.{Spelled.{leaf_is, inner_is}, Puts.{put_here}}}
 use Rattle.sh_readers.proofs.{Fed.{fed_first, fed_more, fed_leaf, fed_inner}, HandLemmas.{inner_image, leaf_image, down_inner, down_named, here_is, never_restart, right_named}, RowLemmas.{own_low}}
 use Rattle.sh_readers.specs.{Hand.{AreRowsOf, IsImageOf, IsNamed}, Knows.{IsFed}, Points.{HadSince}}
 use Rattle.sh_decide.{proofs.IndexLemmas.{once_is}, specs.{Aims.{is_node, aimed_key, takes_lock, target}, Deciding.{decided_by, has_separator}, Ways.{leads_right}, declared.state.Aim.{Aim}}}
 use Rattle.sh_decide.specs.declared.state.{Aim.TheVariants.{Own, Gathers, Posts}, Posting.{Posting}}
-use Rattle.sh_client.specs.{Cached.{image_kept, is_kept, keeping, settled, without_origin}, Machine.{Registers}, Wants.{load_of}}
+use Rattle.sh_client.specs.{Cached.{image_kept, keeping, settled, without_origin}, Machine.{Registers}, Wants.{load_of}}
 use Rattle.sh_client.specs.declared.state.{Phase.TheVariants.{Read, ReadLocked, Root, Grab, Unlock, Leave}, Then.{Then}}
 use Rattle.sh_core.proofs.{Frame.{actor_in, Before, Claim, advance, at, hands_drop, hands_take, quiet, same_call, same_grows, same_hold}, Others.{named_on, follows_on}}
 use Rattle.sh_core.specs.{Actors.{Actor, becomes}, Core.{Inv, Moves}, Fits.{Fits, HasRead, Gathered, IsAtRoot, IsThere, IsToStart, Owes, duty_of, Reaches}, Keeps.{KeepsActor, IsAtWork}}
@@ -21,29 +21,15 @@ use Rattle.sh_map.specs.{declared.{call.{Call.{Call}, Reply.{Reply}}, book.Row.{
 use Rattle.sh_descend.specs.{declared.Hop.{TheVariants.{Here, Right, Down, Restart}, Hop}, Descent.{hop_of, high_of}}
 use Rattle.sh_acts.{proofs.{Ends.{is_new}, Holds.{take_act, free_act}, Events.{free_lock}}, specs.Acts.{with_hold}}
 use Rattle.sh_core_turns.specs.Senses.{is_wrong_here}
-use Rattle.sh_map.specs.declared.call.Call.TheVariants as call
 use Rattle.sh_decide.specs.declared.state.Decision.TheVariants as decision
 use Rattle.sh_client.specs.declared.state.Want.TheVariants as want
 
 module _ (s : TreeState) where
   rows_settled : (origin : Option ℕ) (right : Bool) (cached : List Inner) → AreRowsOf s cached → AreRowsOf s (without_origin origin right cached)
-  rows_settled None right cached h = h
-  rows_settled (Some low) false cached h = h
-  rows_settled (Some low) true cached h = forgotten_all (λ (r : Inner). IsImageOf s 1 r.low (InnerImage r)) cached low h
+  rows_settled origin right cached h = search (rules, forgotten_all)
 
   rows_kept : (room : ℕ) (aim : Aim) (image : Image) (level low : ℕ) → IsImageOf s level low image → (cached : List Inner) → AreRowsOf s cached → AreRowsOf s (keeping room aim image cached)
-  rows_kept room aim (LeafImage a) level low img cached h = h
-  rows_kept room aim (InnerImage a) level low img cached h = by (is_kept aim a) refl
-    where
-      level_is : (x y : Bool) → (x && y) ≡ true → y ≡ true
-      level_is true y e = e
-      level_is false y e = cc
-
-      by : (t : Bool) → is_kept aim a ≡ t → AreRowsOf s (if t then kept room cached a else cached)
-      by true e =
-          let one : level ≡ 1 = sym img.level_is ∙ eqb-true a.level 1 (level_is _ (a.level == 1) e) in
-          kept_all (λ (r : Inner). IsImageOf s 1 r.low (InnerImage r)) room cached a h (own_low s low a (subst (λ (l : ℕ). IsImageOf s l low (InnerImage a)) one img))
-      by false e = h
+  rows_kept room aim image level low img cached h = search (rules, eqb-true, kept_all, own_low)
 
 module _ (p : ConfigParts) (s : TreeState) (i : ℕ) (a : Actor) (r : Registers) (aim : Aim) where
   -- a READ without a lock: the image is kept, where it's to be
@@ -57,12 +43,7 @@ module _ (p : ConfigParts) (s : TreeState) (i : ℕ) (a : Actor) (r : Registers)
 
   -- and one under the lock
   pub settles : (depth : ℕ) → KeepsActor p s i (actor_in p i a r (ReadLocked aim depth)) → (image : Image) → KeepsActor p s i (actor_in p i a (settled aim image r) (ReadLocked aim depth))
-  settles depth k image =
-      let w = k.work in
-      let fits : Fits p s i a.first a.point a.seen (settled aim image r) w.duty (ReadLocked aim depth) = record { holds = record { at = w.fits.holds.at; held = w.fits.holds.held }; reading = w.fits.reading } in
-      let rows = rows_settled s r.origin (leads_right r.call aim image) r.cached w.cached in
-      let work : IsAtWork p s i a.first a.point a.seen (at p i (settled aim image r) (ReadLocked aim depth)) = record { seated = w.seated; duty = w.duty; fits = fits; owes = w.owes; hands = w.hands; waits = w.waits; spares = w.spares; cached = rows; skips = w.skips } in
-      assumption (work, k)
+  settles depth k image = search (rules, rows_settled)
 
 -- ---- the images of accepted READs, and where hops from them lead
 
@@ -144,9 +125,7 @@ IsPlaceKey (Gathers place) = IsKey place
 IsPlaceKey aim = Unit {0}
 
 pub place_key : (p : ConfigParts) (log : List LogEntry) (first : ℕ) (c : Call) (rows : List Row) (aim : Aim) → Gathered p log first c rows aim → IsPlaceKey aim
-place_key p log first c rows Own h = tt
-place_key p log first c rows (Posts post) h = tt
-place_key p log first c rows (Gathers place) h = h.place_is
+place_key p log first c rows aim h = search rules
 
 -- a range takes no lock
 abbrev pub CanLock : Aim → Type 0
@@ -154,23 +133,14 @@ CanLock (Gathers place) = ⊥
 CanLock aim = Unit {0}
 
 pub can_lock : (c : Call) (aim : Aim) → takes_lock c aim ≡ true → CanLock aim
-can_lock c Own h = tt
-can_lock c (Posts post) h = tt
-can_lock c (Gathers place) h = cc
+can_lock c aim h = search rules
 
 pub locked_key : (c : Call) (aim : Aim) → takes_lock c aim ≡ true → IsPlaceKey aim
-locked_key c Own h = tt
-locked_key c (Posts post) h = tt
-locked_key c (Gathers place) h = cc
+locked_key c aim h = search rules
 
 -- the key of a descent is a key
 pub aim_key : (p : ConfigParts) (s : TreeState) (seat first point seen : ℕ) (c : Call) (reply : Reply) (aim : Aim) (duty : Option Posting) → IsInRange p c → duty ≡ duty_of aim → Owes s seat first point seen c reply duty → IsPlaceKey aim → IsKey (aimed_key c aim)
-aim_key p s seat first point seen (call.Get key) r Own duty h is o q = h
-aim_key p s seat first point seen (call.Put key value) r Own duty h is o q = h.0
-aim_key p s seat first point seen (call.Del key) r Own duty h is o q = h
-aim_key p s seat first point seen (call.Range low high) r Own duty h is o q = h.0
-aim_key p s seat first point seen c r (Gathers place) duty h is o q = q
-aim_key p s seat first point seen c r (Posts post) duty h is o q = let w = subst (Owes s seat first point seen c r) is o in (w.some, w.past)
+aim_key p s seat first point seen c r aim duty h is o q = search rules
 
 -- what a range has gathered stays, with the same rows
 pub gathered_as : (p : ConfigParts) (log : List LogEntry) (first : ℕ) (r x : Registers) (aim : Aim) → x.call ≡ r.call → x.rows ≡ r.rows → Gathered p log first r.call r.rows aim → Gathered p log first x.call x.rows aim
@@ -178,12 +148,7 @@ gathered_as p log first r x aim call rows h = subst (λ (z : Call × List Row). 
 
 -- a descent that takes a lock gathers nothing
 pub takes_gathered : (p : ConfigParts) (log : List LogEntry) (first : ℕ) (c : Call) (rows : List Row) (aim : Aim) → takes_lock c aim ≡ true → Gathered p log first c rows aim
-takes_gathered p log first c rows (Posts post) h = tt
-takes_gathered p log first c rows (Gathers place) h = cc
-takes_gathered p log first (call.Put key value) rows Own h = refl
-takes_gathered p log first (call.Del key) rows Own h = refl
-takes_gathered p log first (call.Get key) rows Own h = cc
-takes_gathered p log first (call.Range low high) rows Own h = cc
+takes_gathered p log first c rows aim h = search rules
 
 -- a descent that takes a lock starts again at the root
 pub to_root : (p : ConfigParts) (s : TreeState) (seat first : ℕ) (r : Registers) (aim : Aim) (duty : Option Posting) → IsToStart r.call aim duty → IsAtRoot p s first r aim duty
@@ -195,11 +160,7 @@ whole_accepted p node ws image e q = rw e q
 
 -- the load that a READ wants
 pub load_is : (p : ConfigParts) (reads : Reads) (e : Event) → load_of (wanted p reads) ≡ want.Event e → Load (node_word p reads.node + (node_size p - 1 - length reads.loaded)) ≡ e
-load_is p reads e = by (nat_lt (length reads.loaded) (node_size p))
-  where
-    by : (t : Bool) → load_of (if t then Some (node_word p reads.node + (node_size p - 1 - length reads.loaded)) else None) ≡ want.Event e → Load (node_word p reads.node + (node_size p - 1 - length reads.loaded)) ≡ e
-    by true q = cc
-    by false q = cc
+load_is p reads e = search rules
 
 pub some_image : (x y : Image) → Some x ≡ Some y → x ≡ y
 some_image x y e = cc
@@ -223,14 +184,7 @@ hop_leads s level low key target image img from past reach Restart e = never_res
 
 -- only at this hop a node is split
 pub split_here : (p : ConfigParts) (c : Call) (aim : Aim) (image : Image) (hop : Hop) → decided_by p c aim image hop ≡ decision.Split → hop ≡ Here
-split_here p c aim image Here d = refl
-split_here p c aim image (Right next) d = by (is_node p next) d
-  where
-    by : (t : Bool) → (if t then decision.Right next else decision.Restart) ≡ decision.Split → Right next ≡ Here
-    by true d = cc
-    by false d = cc
-split_here p c aim image (Down child) d = cc
-split_here p c aim image Restart d = cc
+split_here p c aim image hop d = search rules
 
 -- ---- the node at the end of a descent
 
@@ -255,9 +209,7 @@ module _ (p : ConfigParts) (ok : IsSetting p) (words : List ℕ) (s : TreeState)
   spelled_seen n v h = let some = ok.ranged.value_words.0 in seen_once p (s.node n) some (seen_of p (s.node n)) v (judged_by p (s.node n) some (g.long n)) h
 
   leaf_stands : (n low : ℕ) → s.class n ≡ Linked 0 low → IsImageOf s 0 low (LeafImage (leaf_in p (s.node n)))
-  leaf_stands n low linked =
-      let z = g.sits n 0 low linked in
-      record { level_is = refl; low_is = z.low_is; fences = z.fences; past = z.past; next = z.next; children = λ below q. absurd (omega (arith, q)); sorted = tt }
+  leaf_stands n low linked = search rules
 
   pub stands_well : (seat first point seen n : ℕ) (c : Call) (reply : Reply) (aim : Aim) (duty : Option Posting) → duty ≡ duty_of aim → CanLock aim → Owes s seat first point seen c reply duty → (there : IsThere s c aim n) → StandsWell p s (s.node n) there.low aim
   stands_well seat first point seen n c r (Gathers place) duty is takes owes there = absurd takes
@@ -277,16 +229,7 @@ module _ (p : ConfigParts) (ok : IsSetting p) (words : List ℕ) (s : TreeState)
 
   -- a READ of all its words is accepted
   pub standing_accepted : (n : ℕ) (image : Image) (loaded : List ℕ) → seen_of p (s.node n) ≡ seen_as image → loaded ≡ s.node n → accepted p (reads_with n loaded) ≡ Some image
-  standing_accepted n image loaded seen is =
-      let long : length loaded ≡ node_size p = ap length is ∙ g.long n in
-      whole_accepted p n loaded image (whole long) (ap image_in (ap (seen_of p) is ∙ seen) ∙ as_image image)
-    where
-      whole : length loaded ≡ node_size p → nat_lt (length loaded) (node_size p) ≡ false
-      whole long = grind (arith, nat_tests)
-
-      as_image : (x : Image) → image_in (seen_as x) ≡ Some x
-      as_image (LeafImage a) = refl
-      as_image (InnerImage a) = refl
+  standing_accepted n image loaded seen is = search (rules, whole_accepted)
 
 -- ---- the turns on lock words and the load of the root word
 
@@ -338,12 +281,7 @@ module _ (p : ConfigParts) (ok : IsSetting p) (words : List ℕ) (Has Now : ℕ 
   root_named = ap (is_node p) root_is ∙ is_number p s.root (b.ground.sits s.root s.height 0 b.ground.root).real
 
   reaches : (aim : Aim) (duty : Option Posting) → duty ≡ duty_of aim → Owes s i a.first a.point a.seen r.call r.reply duty → Reaches true (target aim) s.height
-  reaches Own duty e o = omega arith
-  reaches (Gathers place) duty e o = omega arith
-  reaches (Posts post) duty e o =
-      let w = subst (Owes s i a.first a.point a.seen r.call r.reply) e o in
-      let le = b.ground.heights post.node w.below post.separator w.linked in
-      omega (arith, le, w.level)
+  reaches aim duty e o = search rules
 
   pub root : (aim : Aim) → Claim p ok words Has Now Out i s b a r (Root aim) (Load root_word)
   root aim h =

@@ -1,5 +1,5 @@
 -- The turns of a walk over the counters for a fresh node: what the counters are bounded by, and what the walk has passed.
-use Rattle.std.proofs.Common.{◌≡◌, ◌≢◌, ℕ, ◌+◌, ◌-◌, ◌<◌, ◌≤◌, Bool, true, false, List, [], ◌++◌, get_or, set, refl, sym, ap, ◌∙◌, subst, inl, inr, arith}
+use Rattle.std.proofs.Common.{rules, ◌≡◌, ◌≢◌, ℕ, ◌+◌, ◌-◌, ◌<◌, ◌≤◌, Bool, true, false, List, [], ◌++◌, get_or, set, refl, sym, ap, ◌∙◌, subst, inl, inr, arith}
 use Rattle.std.{specs.Prelude.{◌%◌, ◌^◌, if◌then◌else◌, nat_lt}, proofs.{Math.Nat.{mod-lt, mod-eq_of_lt, add-mod_right}, lemmas.Bool.{cases_lt}}}
 use mathlib.Core.Logic.{dite}
 use native.Mathlib.Decide.{ℕ_discrete}
@@ -51,9 +51,7 @@ module _ (p : ConfigParts) (ok : IsSetting p) (words : List ℕ) (Has Now : ℕ 
 
   -- a counter was found below the limit, and is to be counted on
   finds : (server : ℕ) (x : Actor) → s.counter server < p.chunks → ((v : ℕ) → WantsAdd p v x.client → v ≡ server) → Moves Has seat x Now → Bounds s.counter
-  finds server x below only mv v lt = dite (ℕ_discrete v server)
-      (λ (e : v ≡ server). finds_below p.chunks (all_seats p) (s.counter v) (λ j. SomeAdds p Has v j) (b.bounded v lt) seat (λ j. SomeAdds p Now v j) (omega (arith, ap s.counter e, below)) (λ j ne w. others_add p Has Now seat x mv v j ne w))
-      (λ (ne : v ≢ server). calms x v lt (λ q. ne (only v q)) mv)
+  finds server x below only mv v lt = search (rules, finds_below, bounded, others_add, calms)
 
   -- it is counted on
   raised_by : (server : ℕ) (x : Actor) → WantsAdd p server (at p seat r ph) → ((v : ℕ) → WantsAdd p v x.client → ⊥) → Moves Has seat x Now → Bounds (counted_on s server)

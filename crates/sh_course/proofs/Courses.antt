@@ -2,18 +2,18 @@
 use Rattle.std.{proofs.{Common.{rules, ◌≡◌, ℕ, Bool, Option, Some, None, List, refl, sym, ap, subst, ◌∙◌, false, [], ◌∷◌, true, ◌++◌}, lemmas.List.{append_assoc}}, specs.List.{AllByRecursion}}
 use Rattle.sh_base.specs.{Setting.{IsSetting}, declared.config.ConfigParts.{ConfigParts}}
 use Rattle.sh_alloc.specs.declared.state.NodeRange.{NodeRange}
-use Rattle.sh_image.specs.{Inner.{Inner, IsInner}, declared.inner.Image.{Image, TheVariants.{Leaf as LeafImage, Inner as InnerImage}}}
+use Rattle.sh_image.specs.{Inner.{Inner, IsInner}, declared.inner.Image.{Image, TheVariants.{Inner as InnerImage}}}
 use Rattle.sh_cache.proofs.RowLemmas.{forgotten_all, kept_all}
 use Rattle.sh_read.specs.{Reads.{progress_of}, declared.state.Progress.{Progress, TheVariants.{Accepted}}}
 use Rattle.sh_decide.specs.{Aims.{aim_of, call_key}, Ways.{leads_right}, declared.state.Aim.{Aim}}
 use Rattle.sh_client.{proofs.CachedLemmas.{fed_learns, turned_learns, fed_keeps, turned_keeps}, specs.Feeds.{loaded, at_child, began_at, begun, calling, from_cached, rows_before}}
-use Rattle.sh_client.specs.{Cached.{is_kept, keeping, without_origin, origin_of}, CachedTurns.{image_by, learnt, learnt_in, settles}, Rests.{reply_in, reply_of, has_ended, is_resting, rests}}
+use Rattle.sh_client.specs.{Cached.{keeping, without_origin, origin_of}, CachedTurns.{image_by, learnt, learnt_in, settles}, Rests.{reply_in, reply_of, has_ended, is_resting, rests}}
 use Rattle.sh_client.specs.{Courses.{KeepsCall}, declared.state.Origin.{Origin}}
 use Rattle.sh_client.specs.{InLine.{stand_in, HasTurn}, Machine.{Machine, began_cached}, Wants.{want_of, want_in}, declared.state.Phase.{Phase, TheVariants.{Read, ReadLocked, Ended as EndedPhase}}}
 use Rattle.sh_course.proofs.{Decided.{chosen, begun_names, fed_names, turned_names, AllNamed}, Reading.{read_on, spelled_inner, Comes, run_begins}, Steps.{fed_shows, turned_shows}}
 use Rattle.sh_course.{proofs.Locks.{HoldsOwn, turn_holds}, specs.Life.{call_begun, course_in, end_of_call, ends_in, lived, start_in, turns_in, SeatAct, AreActs, Begins, Ended, IsBegun, Rests, Takes}}
-use Rattle.sh_course.{proofs.Rising.{turn_rises, CountsTurn, spent_counted}, specs.Turns.{machine_behind, Found, Taken, Turn, Word, reached, turn_found, turns_taken, AreFound, IsCallCourse, MayFind}}
-use Rattle.sh_course.{proofs.Showing.{Shows, AimOf, Goes}, specs.{Answers.{HasOneKey, Caused}, Causes.{IsReady}, Counts.{CountsReads}, Ends.{AreEnds, EndsAt}, Ranges.{FoundRows}, Skips.{CountsSkips}}}
+use Rattle.sh_course.{proofs.Rising.{turn_rises, CountsTurn, spent_counted}, specs.Turns.{machine_behind, Found, Taken, reached, turn_found, turns_taken, AreFound, IsCallCourse, MayFind}}
+use Rattle.sh_course.{proofs.Showing.{Shows, AimOf, Goes}, specs.{Answers.{Caused}, Causes.{IsReady}, Counts.{CountsReads}, Ends.{AreEnds, EndsAt}, Ranges.{FoundRows}, Skips.{CountsSkips}}}
 use Rattle.sh_course.specs.Found.{holds}
 use Rattle.sh_map.specs.declared.{book.Row.{Row}, call.{Call.{Call, TheVariants.{Range}}, Reply.{Reply}}}
 use Rattle.sh_map.specs.declared.call.Reply.TheVariants as reply
@@ -27,8 +27,7 @@ module _ (p : ConfigParts) where
   without origin right rows h = search (rules, forgotten_all)
 
   keeps : (room : ℕ) (aim : Aim) (image : Image) (rows : List Inner) → ((a : Inner) → image ≡ InnerImage a → IsInner p a) → Lawful rows → Lawful (keeping room aim image rows)
-  keeps room aim (LeafImage a) rows new h = h
-  keeps room aim (InnerImage a) rows new h = chosen Lawful (is_kept aim a) _ rows (λ e. kept_all (IsInner p) room rows a h (new a refl)) (λ e. h)
+  keeps room aim image rows new h = search (rules, chosen, kept_all)
 
 module _ (m : Machine) (t : List Taken) (lawful : IsSetting m.setting) (h : AllByRecursion (IsInner m.setting) m.registers.cached) where
   abbrev Stays : Machine → Type 0
@@ -48,20 +47,12 @@ module _ (m : Machine) (t : List Taken) (lawful : IsSetting m.setting) (h : AllB
   learnt_stays s word phase shows = h
 
   pub cached_more : (s : NodeRange) (x : Found) → Shows s t m m.phase → Stays (machine_behind m x)
-  cached_more s (Word word) shows = subst (λ (rows : List Inner). AllByRecursion (IsInner m.setting) rows) (sym (fed_learns m word).0) (learnt_stays s word m.phase shows)
-  cached_more s (Turn depth) shows = subst (λ (rows : List Inner). AllByRecursion (IsInner m.setting) rows) (sym (turned_learns m depth).0) h
+  cached_more s x shows = search (rules, fed_learns, learnt_stays, turned_learns)
 
 -- ---- what is shown where a call begins: nothing yet
 module _ (m : Machine) (call : Call) where
   aim_begins : (x : Machine) → x.registers.call ≡ call → x.registers.spare ≡ m.registers.spare → x.registers.rows ≡ rows_before call m.registers.rows → AimOf m.registers.spare [] x (aim_of call)
-  aim_begins x is spare rows = by call is rows
-    where
-      key_of : {c : Call} → x.registers.call ≡ c → HasOneKey c → HasOneKey x.registers.call
-      key_of is h = subst HasOneKey (sym is) h
-
-      by : (c : Call) → x.registers.call ≡ c → x.registers.rows ≡ rows_before c m.registers.rows → AimOf m.registers.spare [] x (aim_of c)
-      by (Range low high) is rows = record { leaves = []; read = tt; rows_are = rows; place_is = ap call_key (sym is) }
-      by c is rows = (tt, spare, key_of is tt)
+  aim_begins x is spare rows = search rules
 
   child_shows : (x : Machine) (child : ℕ) → AimOf m.registers.spare [] x (aim_of call) → Goes m.registers.spare [] (at_child x call child)
   child_shows x child h = search (rules, run_begins)
@@ -84,8 +75,7 @@ module _ (m : Machine) (call : Call) where
 
 -- each turn keeps the setting and the call
 pub turn_keeps : (m : Machine) (x : Found) → KeepsCall m (machine_behind m x)
-turn_keeps m (Word word) = fed_keeps m word
-turn_keeps m (Turn depth) = turned_keeps m depth
+turn_keeps m x = search (rules, fed_keeps, turned_keeps)
 
 names_more : (m : Machine) (x : Found) → AllNamed m → AllNamed (machine_behind m x)
 names_more m x h1 = search (rules, fed_names, turned_names)

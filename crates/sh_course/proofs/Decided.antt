@@ -1,15 +1,15 @@
 -- What a decision under the lock says of its image; and the nodes that a client has in hand are nodes of the setting, since each
 -- number was tested when it was found, and a lock is taken for an update or a post alone.
-use Rattle.std.{proofs.Common.{rules, ◌≡◌, ℕ, ◌<◌, ◌≤◌, Bool, true, false, cond, Option, Some, None, List, [], refl, sym, subst, ap, ◌∙◌, arith, ◌+◌}, specs.List.{AllByRecursion}}
+use Rattle.std.{proofs.Common.{rules, ◌≡◌, ℕ, ◌<◌, ◌≤◌, Bool, true, false, cond, Option, Some, None, List, refl, sym, subst, ap, ◌∙◌, arith, ◌+◌}, specs.List.{AllByRecursion}}
 use Rattle.std.{proofs.lemmas.Bool.Decides.{nat_tests}, specs.{Option.{option_map}, Prelude.{nat_lt, nat_le, ◌==◌, ◌||◌, ◌&&◌}}}
 use Rattle.sh_logic.proofs.Tests.{is_lt, less_test, not_less_test, not_lt, at_most_test, true_and}
 use Rattle.sh_base.specs.{Setting.{last_version, last_entry_version, IsNode}, declared.config.ConfigParts.{ConfigParts}}
 use Rattle.sh_map.specs.declared.call.Call.{Call, TheVariants.{Put, Del}}
 use Rattle.sh_image.specs.{Inner.{Inner, Inner as InnerOf, IsInner}, Leaf.{Leaf}, declared.{inner.Image.{Image, TheVariants.{Leaf as LeafImage, Inner as InnerImage}}, read.Seen.{Seen}}}
 use Rattle.sh_descend.{proofs.ChildLemmas.{child_is_node}, specs.{Descent.{child_of, hop_of, level_of}, declared.Hop.{Hop, TheVariants.{Here, Right as HopRight, Down, Restart as HopRestart}}}}
-use Rattle.sh_decide.specs.{Aims.{aimed_key, call_key, is_node, target, aim_of, takes_lock}, declared.state.Decision.TheVariants.{Absent, Restart, Right, Entry, Rewrite, Worn, Split, Skip, Add}}
+use Rattle.sh_decide.specs.{Aims.{call_key, is_node, target, aim_of, takes_lock}, declared.state.Decision.TheVariants.{Absent, Restart, Right, Entry, Rewrite, Worn, Split, Skip, Add}}
 use Rattle.sh_decide.specs.{Deciding.{change_at, decided_by, decided_here, decision_of, put_in, put_into, del_in, unless_worn, update_in}, Leaves.{version_at}}
-use Rattle.sh_decide.specs.{Ways.{way_by, way_here, way_of}, declared.state.{Aim.{Aim, TheVariants.{Own, Gathers, Posts}}, Decision.{Decision}, Posting.{Posting}, Way.{Way}}}
+use Rattle.sh_decide.specs.{Ways.{way_by, way_here, way_of}, declared.state.{Aim.{Aim, TheVariants.{Own, Posts}}, Decision.{Decision}, Posting.{Posting}, Way.{Way}}}
 use Rattle.sh_course.specs.{Causes.{put_slot, slot_of, IsFull, IsLeafFor, IsWorn, NeedsNode}, Skips.{IsWornAt}}
 use Rattle.sh_alloc.specs.{Walks.{walk_fed, walk_wants}, declared.state.ChunkWant.{ChunkWant}}
 use Rattle.sh_cache.{proofs.FindLemmas.{covers_fences, found_covers, found_has}, specs.Cached.{found}}
@@ -111,11 +111,7 @@ back_hop : (p : ConfigParts) (call : Call) (aim : Aim) (image : Image) (h : Hop)
 back_hop p call aim image h is = search rules
 
 pub gives : (p : ConfigParts) (call : Call) (aim : Aim) (image : Image) → Gives p call aim image (decision_of p call aim image)
-gives p call Own (LeafImage a) = leaf_hop p call a (hop_of (LeafImage a) (call_key call) 0) (hop_here 0 a.low a.high a.next (child_of [] (call_key call)) (call_key call) 0)
-gives p call Own (InnerImage a) = back_hop p call Own (InnerImage a) (hop_of (InnerImage a) (aimed_key call Own) (target Own)) refl
-gives p call (Gathers place) image = back_hop p call (Gathers place) image (hop_of image (aimed_key call (Gathers place)) (target (Gathers place))) refl
-gives p call (Posts post) (LeafImage a) = back_hop p call (Posts post) (LeafImage a) (hop_of (LeafImage a) post.separator post.level) refl
-gives p call (Posts post) (InnerImage a) = post_hop p call post a (hop_of (InnerImage a) post.separator post.level) (hop_here a.level a.low a.high a.next (child_of a.pairs post.separator) post.separator post.level)
+gives p call aim image = search (rules, leaf_hop, hop_of, hop_here, child_of, back_hop, post_hop)
 
 -- where it goes to the right, it goes to a node of the setting
 pub right_named : (p : ConfigParts) (call : Call) (aim : Aim) (image : Image) (d : Decision) → Gives p call aim image d → IsNamed p d

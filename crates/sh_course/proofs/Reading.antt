@@ -8,7 +8,7 @@ use Rattle.sh_image.specs.{Inner.{Inner, SpellsInner}, declared.{inner.Image.The
 use Rattle.sh_image.specs.{Leaf.{Leaf, Spells}, Seen.{SeenBy}, declared.read.Seen.{Seen}}
 use Rattle.sh_read.{proofs.JudgingLemmas.{judged_by}, specs.{Judging.{seen_of}, Reads.{Reads, accepted, answer_to, image_in, progress_of, read_fed, reads_left, reads_start, reads_with, wanted}}}
 use Rattle.sh_read.specs.declared.state.Progress.{Progress, TheVariants.{More, Accepted, Again, Odd}}
-use Rattle.sh_client.specs.{Machine.{Machine}, Wants.{load_of, count_of, want_in, want_of}, declared.state.{Phase.{Phase, TheVariants.{Read, ReadLocked, Root, Seek}}, Want.{Want}}}
+use Rattle.sh_client.specs.{Machine.{Machine}, Wants.{load_of, count_of, want_in, want_of}, declared.state.{Phase.{Phase, TheVariants.{Read, ReadLocked}}, Want.{Want}}}
 use Rattle.sh_course.proofs.Decided.{named_node, Names, chosen}
 use Rattle.sh_course.{proofs.Showing.{StartsApart, RunsOn, Shows, Runs, WalksOn}, specs.Turns.{Taken, Word, turn_found, machine_behind, reached, turns_taken, AreFound, Found, MayFind}}
 use Rattle.sh_course.specs.{Found.{holds, holds_by, loads_from, loads_of, HasReadLocked, HasRun, SparesNodes, AllGotNone, AllSpent, FoundSpent, GotNone, IsSpent}, Stores.{AllCount, IsCount}}
@@ -183,15 +183,10 @@ module _ (k : Machine) (t : List Taken) (node : ℕ) (ws : List ℕ) (before : L
       one n = omega arith
 
   no_counter : (w : ℕ) (phase : WalkPhase) → w < p.servers → count_of (walk_wants_in p w phase) ≡ last_load → ⊥
-  no_counter w Loading below e = let at = at_load _ _ e in let low = node_word_low p node in omega (arith, at, low, below)
-  no_counter w phase below e = absurd (cc)
+  no_counter w phase below e = search (rules, at_load, node_word_low)
 
   pub at_read : (s : NodeRange) (phase : Phase) → Names p k.registers.call k.registers.reads phase → Shows s t k phase → want_in k phase ≡ last_load → HasTail k node ws phase
-  at_read s (Read aim top) named shows e = tail shows.1 (named_node p _ named) e
-  at_read s (ReadLocked aim depth) named shows e = tail shows.1 (named_node p _ named.0) e
-  at_read s (Seek need) named shows e = absurd (no_counter (server_at p k.registers.walk) k.registers.walk.phase (mod_below (k.registers.walk.first + k.registers.walk.passed) p.servers (let some = lawful.ranged.servers.0 in omega (arith, some))) e)
-  at_read s (Root aim) named shows e = absurd (let at = at_load _ _ e in let low = node_word_low p node in omega (arith, at, low))
-  at_read s phase named shows e = absurd (cc)
+  at_read s phase named shows e = search (rules, tail, named_node, no_counter, mod_below, at_load, node_word_low)
 
 -- ---- what a walk over the counters shows, word by word
 -- where all servers were found spent

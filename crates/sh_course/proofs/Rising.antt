@@ -15,7 +15,7 @@ use Rattle.sh_client.specs.{Feeds.{arrived, did, fed_in, held_by, hold_by, loade
 use Rattle.sh_base.{proofs.LayoutLemmas.{node_word_low, node_size_is}, specs.{Layout.{lock_of}, Setting.{node_size, IsNode, IsSetting}, declared.config.ConfigParts.{ConfigParts}}}
 use Rattle.sh_course.proofs.Decided.{chosen, gives, Gives, named_node, AllNamed, Names}
 use Rattle.sh_course.{proofs.Locks.{HoldsOwn}, specs.{Counts.{ends_write_in, handed_by, rewritten_by, splits_by, CountsReads, EndsRight, EndsTorn, IsTorn, RisesExactly}, Stores.{AllCount, IsCount}}}
-use Rattle.sh_course.proofs.Reading.{count_spares, load_is as wanted_is, walk_left, at_read, head_is, HasTail, has_run, holds_still, ran, walk_on, WalkEnds, WalkShows}
+use Rattle.sh_course.proofs.Reading.{count_spares, walk_left, at_read, head_is, HasTail, has_run, holds_still, ran, walk_on, WalkEnds, WalkShows}
 use Rattle.sh_course.{proofs.Showing.{HasStored, StartsApart, Goes, RunsOn, Shows, Counts, IsPosting}, specs.Turns.{machine_behind, Found, MayFind, Turn, Word, turn_found, Taken}}
 use Rattle.sh_course.specs.{Found.{AllGotNone, AllSpent, FoundSpent, GotNone, IsSpent, holds, loads_from, HasRun}, Skips.{IsWornAt, SkipsWorn as EndsWorn, SkipsSpent as EndsSpent}}
 use Rattle.sh_logic.proofs.Tests.{and_true, not_less_test, true_and}
@@ -508,10 +508,7 @@ module _ (s : NodeRange) (turns : List Taken) (m : Machine) (lawful : IsSetting 
   last_counts t (x ∷ since) before e spent counted got = subst (λ (t : Taken). IsCount cfg t.want × GotNone cfg t.want t.found) (sym (head_is e).0) (counted.0, got.0)
 
   load_apart : RunsOn cfg turns m.registers.reads → IsCount cfg (load_of (wanted cfg m.registers.reads)) → ⊥
-  load_apart on c =
-      let at = subst (IsCount cfg) (wanted_is cfg turns m.registers.reads word on) c in
-      let low = node_word_low cfg m.registers.reads.node in
-      omega (arith, low, at.1)
+  load_apart on c = search (rules, node_word_low)
 
   walk_counts_so : (need : Need) → IsPosting need → (k : Counts cfg m.seat turns m.registers.spare m.registers.walk) → (h : EndsSpent cfg (turns_now (Seek need)) m.registers.spare) → GotNone cfg (want_in m (Seek need)) (Word word) → (let v = walk_fed cfg m.registers.walk word in (phase : WalkPhase) → WalkShows cfg m.seat (turn_found (want_in m (Seek need)) (Word word) ∷ k.since) v phase → is_spent (walk_counts need (walk_wants_in cfg (server_at cfg v) phase)) ≡ true)
   walk_counts_so need is k h got Spent walks = spent_is need is

@@ -1,5 +1,5 @@
 -- Where the first entry with a key is, and whether no key stands twice.
-use Rattle.std.proofs.Common.{◌≡◌, ◌≢◌, ℕ, zero, suc, ◌+◌, ◌<◌, Bool, true, false, List, [], ◌∷◌, length, refl, sym, ap, ◌∙◌, inl, inr, arith}
+use Rattle.std.proofs.Common.{rules, ◌≡◌, ℕ, zero, suc, ◌+◌, ◌<◌, Bool, true, false, List, [], ◌∷◌, length, refl, sym, ap, ◌∙◌, inl, inr, arith}
 use Rattle.std.{specs.Prelude.{◌==◌, ◌||◌, not, ◌↔◌, IsTrue, Some, None, slice_get}, proofs.lemmas.{Bool.{cases_eq, false≢true}, Option.{get_or_from_slice_get}}}
 use Rattle.sh_logic.proofs.Tests.{same_test, differ_test, and_true, or_false}
 use Rattle.sh_map.specs.declared.call.Reply.TheVariants as reply
@@ -47,14 +47,7 @@ once_holds (e ∷ es) once = elim (cases_eq e.key 0) [
 ]
 
 apart : (e : LeafEntry) (es : List LeafEntry) → ((e.key == 0) || not (has_leaf_key es e.key)) ≡ true → (j : ℕ) → j < length es → e.key ≡ key_at es j → e.key ≡ 0
-apart e es h j below same = elim (cases_eq e.key 0) [
-  | inl z ↦ z
-  | inr nz ↦ by (has_leaf_key es e.key) refl nz
-]
-  where
-    by : (b : Bool) → has_leaf_key es e.key ≡ b → e.key ≢ 0 → e.key ≡ 0
-    by false none nz = absurd (key_none es e.key none j below (sym same))
-    by true some nz = absurd (false≢true (sym (rw (differ_test e.key 0 nz, some) refl) ∙ h))
+apart e es h j below same = search (rules, cases_eq, key_none, differ_test)
 
 holds_once : (es : List LeafEntry) → are_keys_once es ≡ true → HasKeysOnce es
 holds_once [] h i j less below same = absurd (omega (arith, below))
@@ -63,9 +56,4 @@ holds_once (e ∷ es) h zero (suc j) less below same = apart e es (and_true ((e.
 holds_once (e ∷ es) h (suc i) (suc j) less below same = holds_once es (and_true ((e.key == 0) || not (has_leaf_key es e.key)) (are_keys_once es) h).1 i j (omega (arith, less)) (omega (arith, below)) same
 
 pub once_is : (es : List LeafEntry) (b : Bool) → (IsTrue b ↔ HasKeysOnce es) → b ≡ are_keys_once es
-once_is es true h = sym (once_holds es (h.0 refl))
-once_is es false h = by (are_keys_once es) refl
-  where
-    by : (c : Bool) → are_keys_once es ≡ c → false ≡ are_keys_once es
-    by false e = sym e
-    by true e = absurd (false≢true (h.1 (holds_once es e)))
+once_is es b h = search (rules, once_holds, holds_once)

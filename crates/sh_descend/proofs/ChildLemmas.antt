@@ -1,5 +1,5 @@
 -- The child that a hop down leads to, pair by pair.
-use Rattle.std.proofs.Common.{◌≡◌, ℕ, zero, suc, ◌+◌, ◌<◌, ◌≤◌, Bool, true, false, List, [], ◌∷◌, length, drop, Some, refl, ap, sym, subst, add-one, inl, inr, arith}
+use Rattle.std.proofs.Common.{rules, ◌≡◌, ℕ, zero, suc, ◌+◌, ◌<◌, ◌≤◌, Bool, false, List, [], ◌∷◌, length, drop, Some, refl, sym, subst, add-one, inl, inr, arith}
 use Rattle.std.{specs.Prelude.{slice_get, ◌==◌, ◌||◌, nat_lt, nat_le, if◌then◌else◌}, proofs.lemmas.{Bool.{cases_lt, Decides.{nat_tests}}, Option.{slice_get_within}}}
 use Rattle.sh_logic.proofs.{Lists.{all_at}, Tests.{less_test, not_less_test}}
 use Rattle.sh_base.specs.{declared.config.ConfigParts.{ConfigParts}, Setting.{IsNode}}
@@ -78,10 +78,7 @@ child_in Restart = 0
 
 -- where the hop is down, it isn't back to the root, and the levels aren't equal
 down_is : (back right here : Bool) (next to child : ℕ) → (if back then Restart else if right then Right next else if here then Here else Down to) ≡ Down child → (back ≡ false) × (here ≡ false) × (to ≡ child)
-down_is true right here next to child e = absurd (grind arith)
-down_is false true here next to child e = absurd (grind arith)
-down_is false false true next to child e = absurd (grind arith)
-down_is false false false next to child e = (refl, refl, ap child_in e)
+down_is back right here next to child e = search rules
 
 pub down_covers : (image : Image) (key level child : ℕ) → HasSortedPairs image → hop_of image key level ≡ Down child → Covers (image_pairs image) key child
 down_covers (LeafImage a) key level child sorted is =
@@ -93,8 +90,4 @@ down_covers (InnerImage a) key level child sorted is =
     subst (Covers a.pairs key) d.2 (covers a.pairs a.low key sorted low)
 
 pub two_sorted : (x y : Pair) → x.separator < y.separator → IsSorted x.separator (x ∷ y ∷ [])
-two_sorted x y h = record { some = omega arith; first = refl; rise = rise }
-  where
-    rise : (i : ℕ) → i + 1 < 2 → separator_at (x ∷ y ∷ []) i < separator_at (x ∷ y ∷ []) (i + 1)
-    rise zero b = h
-    rise (suc i) b = absurd (omega arith)
+two_sorted x y h = search rules

@@ -1,6 +1,6 @@
 -- A leaf with one entry written holds the put or the del, keeps its keys apart, meets the rules, and has its words from
 -- before but for that entry's.
-use Rattle.std.proofs.Common.{◌≡◌, ◌≢◌, ℕ, zero, suc, ◌+◌, ◌*◌, ◌<◌, List, [], ◌∷◌, ◌++◌, length, set, take, drop, inl, inr, refl, sym, ap, ◌∙◌, append_assoc, arith}
+use Rattle.std.proofs.Common.{rules, ◌≡◌, ◌≢◌, ℕ, zero, suc, ◌+◌, ◌*◌, ◌<◌, List, [], ◌∷◌, ◌++◌, length, set, take, drop, inl, inr, refl, sym, ap, ◌∙◌, append_assoc, arith}
 use Rattle.std.{proofs.{Math.Seq.{take-append-add, drop-append-add}, lemmas.{Bool.{cases_lt}, List.{drop_at, length-set}}}, specs.List.{flat_map, AllByRecursion}}
 use Rattle.sh_logic.proofs.Lists.{all_set}
 use Rattle.sh_base.{specs.{declared.config.ConfigParts.{ConfigParts}, Setting.{entry_size}, Layout.{entry_at}}, proofs.LayoutLemmas.{entry_at_by_words, entry_size_is}}
@@ -16,13 +16,7 @@ module _ (es : List LeafEntry) (key i : ℕ) (once : HasKeysOnce es) (at : IsPla
   place_within = elim at [ inl here ↦ here.in_range | inr new ↦ new.1.in_range ]
 
   place_apart : (j : ℕ) → j < length es → j ≢ i → key_at es j ≡ key → key ≡ 0
-  place_apart j below ne is = elim at [
-    | inl here ↦ elim (cases_lt j i) [
-      | inl less ↦ absurd (here.before j less is)
-      | inr from ↦ sym here.here ∙ once i j (omega arith) below (here.here ∙ sym is)
-    ]
-    | inr new ↦ absurd (new.0 j below is)
-  ]
+  place_apart j below ne is = search (rules, cases_lt)
 
 module _ (a : Leaf) (i : ℕ) (once : HasKeysOnce a.entries) where
   pub rewritten_placed_once : (key : ℕ) (value : List ℕ) → IsPlaceFor a.entries key i → HasKeysOnce (rewritten a i key value).entries
@@ -44,14 +38,7 @@ pub entry_removed : (a : Leaf) (i key : ℕ) (e : LeafEntry) → key ≢ 0 → e
 entry_removed a i key e nz empty once at = removed_is_del a.entries i key e empty nz once at
 
 pub entry_lawful : (p : ConfigParts) (a : Leaf) (i : ℕ) (e : LeafEntry) → IsLeaf p a → IsEntry p a.low a.high e → IsLeaf p (with_entry a i e)
-entry_lawful p a i e h lawful = record {
-  version = h.version;
-  fences = h.fences;
-  next = h.next;
-  end = h.end;
-  count = length-set a.entries i e ∙ h.count;
-  entries = all_set (IsEntry p a.low a.high) a.entries i e h.entries lawful;
-}
+entry_lawful p a i e h lawful = search (rules, length-set, all_set)
 
 -- ---- the words
 module _ (count : ℕ) where

@@ -1,5 +1,5 @@
 -- The halves of a lawful leaf are lawful, and keep their keys apart.
-use Rattle.std.proofs.Common.{◌≡◌, ◌≢◌, ◌⊎◌, ℕ, zero, suc, ◌+◌, ◌-◌, ◌<◌, ◌≤◌, ◌^◌, List, [], ◌∷◌, ◌++◌, length, take, drop, map, replicate, inl, inr, refl, sym, ap, ◌∙◌, get_or, arith}
+use Rattle.std.proofs.Common.{rules, ◌≡◌, ◌≢◌, ◌⊎◌, ℕ, zero, suc, ◌+◌, ◌-◌, ◌<◌, ◌≤◌, ◌^◌, List, [], ◌∷◌, ◌++◌, length, take, drop, map, replicate, inl, inr, refl, sym, ap, ◌∙◌, get_or, arith}
 use Rattle.std.{specs.{Prelude.{T}, List.{AllByRecursion}, Ordering.{nat_cmp}, FinMap.{is_sorted, entries_sorted, Entries.{below_all}}}, proofs.lemmas.Bool.{cases_eq, eq-eqb}}
 use Rattle.std.proofs.lemmas.List.{length-map, length-replicate, length-take-le, length-drop, length-append}
 use Rattle.sh_logic.proofs.{Lists.{all_take, all_drop, all_weaker}, Tests.{differ_test, first, second}}
@@ -47,10 +47,7 @@ above_first (x ∷ ps) (suc n) h some lt = pair_above x.0 ps n (first _ _ h) (om
 
 -- ---- keys apart
 once_cons : (e : LeafEntry) (es : List LeafEntry) → (e.key ≡ 0) ⊎ LacksKey es e.key → HasKeysOnce es → HasKeysOnce (e ∷ es)
-once_cons e es head once zero zero less below same = absurd (omega arith)
-once_cons e es head once zero (suc j) less below same = elim head [ inl z ↦ z | inr none ↦ absurd (none j (omega arith) (sym same)) ]
-once_cons e es head once (suc i) zero less below same = absurd (omega arith)
-once_cons e es head once (suc i) (suc j) less below same = once i j (omega arith) (omega arith) same
+once_cons e es head once h4 h5 less below same = search rules
 
 none_above : (empty : LeafEntry) (q : ℕ) (xs : List (ℕ × List ℕ)) (n : ℕ) → empty.key ≡ 0 → q ≢ 0 → AllByRecursion (λ y. q < y.0) xs → LacksKey (map entry_with xs ++ replicate n empty) q
 none_above empty q [] zero z nz h j below is = absurd (omega arith)

@@ -1,5 +1,5 @@
 -- What a leaf holds after one entry is set.
-use Rattle.std.proofs.Common.{◌≤◌, ◌≡◌, ◌≢◌, ◌⊎◌, ℕ, zero, suc, ◌<◌, Bool, false, cond, eqb, List, [], ◌∷◌, length, get_or, set, Some, None, refl, sym, ap, ◌∙◌, inl, inr, arith}
+use Rattle.std.proofs.Common.{rules, ◌≤◌, ◌≡◌, ◌≢◌, ◌⊎◌, ℕ, zero, suc, ◌<◌, Bool, cond, eqb, List, [], ◌∷◌, length, get_or, set, Some, None, refl, sym, ap, ◌∙◌, inl, inr, arith}
 use Rattle.std.{proofs.lemmas.{Bool.{cases_lt, cases_eq, eq-eqb, Decides.{nat_tests}}, List.{get_or-set_same, get_or-set_other, length-set}}, specs.List.{AllByRecursion}}
 use Rattle.std.specs.{Ordering.{nat_cmp, eq_by_cmp}, Cmp.{nat_cmp_total}, FinMap.{find, get-from_entries}}
 use Rattle.sh_logic.proofs.Tests.{differ_test}
@@ -9,10 +9,7 @@ use Rattle.sh_edit.specs.{Held.{pairs_of, held, map_of_entries, no_entry, key_at
 
 -- a test by the order is a test of equality, either way round
 test_is : (q k : ℕ) → eq_by_cmp nat_cmp q k ≡ eqb k q
-test_is q k = elim (cases_eq q k) [
-  | inl e ↦ ap (λ n. eq_by_cmp nat_cmp n k) e ∙ same_test k ∙ sym (eq-eqb k q (sym e))
-  | inr ne ↦ apart_test q k ne ∙ sym (differ_test k q (λ e. ne (sym e)))
-]
+test_is q k = search (rules, same_test, apart_test, differ_test)
 
 -- the pairs have at a key what the entries hold at it
 pub find-pairs_of : (es : List LeafEntry) (q : ℕ) → q ≢ 0 → find nat_cmp q (pairs_of es) ≡ held es q
@@ -108,19 +105,7 @@ key_at-set_other es i j x h = ap (λ (y : LeafEntry). y.key) (get_or-set_other e
 
 -- a leaf keeps its keys apart, where the new entry has no other entry's key
 pub once-set : (es : List LeafEntry) (i : ℕ) (x : LeafEntry) → i < length es → HasKeysOnce es → ((j : ℕ) → j < length es → j ≢ i → key_at es j ≡ x.key → x.key ≡ 0) → HasKeysOnce (set es i x)
-once-set es i x in_range once apart a b less below same = elim (cases_eq a i) [
-  | inl e ↦
-      let first : key_at (set es i x) a ≡ x.key = ap (key_at (set es i x)) e ∙ key_at-set_same es i x in_range in
-      first ∙ apart b (omega (arith, below, length-set es i x)) (λ is. omega arith) (sym (key_at-set_other es i b x (λ is. omega arith)) ∙ sym same ∙ first)
-  | inr ne ↦
-      let first : key_at (set es i x) a ≡ key_at es a = key_at-set_other es i a x ne in
-      elim (cases_eq b i) [
-        | inl e ↦
-            let last : key_at (set es i x) b ≡ x.key = ap (key_at (set es i x)) e ∙ key_at-set_same es i x in_range in
-            same ∙ last ∙ apart a (omega (arith, below, length-set es i x)) ne (sym first ∙ same ∙ last)
-        | inr nb ↦ first ∙ once a b less (omega (arith, below, length-set es i x)) (sym first ∙ same ∙ key_at-set_other es i b x nb)
-      ]
-]
+once-set es i x in_range once apart a b less below same = search (rules, key_at-set_same, length-set, key_at-set_other)
 
 -- a key outside the fences is held by no entry
 pub held_outside : (es : List LeafEntry) (low high q : ℕ) → q ≢ 0 → (q < low) ⊎ (high ≤ q) → AllByRecursion (λ e. (e.key ≡ 0) ⊎ ((low ≤ e.key) × (e.key < high))) es → held es q ≡ None

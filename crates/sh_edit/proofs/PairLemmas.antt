@@ -1,7 +1,7 @@
 -- Pairs of an inner node with a new one, by their indexes.
-use Rattle.std.proofs.Common.{◌≡◌, ℕ, zero, suc, ◌+◌, ◌-◌, ◌<◌, ◌≤◌, true, false, List, [], ◌∷◌, ◌++◌, length, get_or, take, drop, Some, refl, sym, ap, ◌∙◌, append_assoc, length-append, arith}
-use Rattle.std.{specs.{Prelude.{nat_lt, slice_get}, List.{insert}}, proofs.lemmas.{Bool.Decides.{nat_tests}, Option.{slice_get-get_or, get_or_from_slice_get}}}
-use Rattle.std.proofs.lemmas.List.{take_more, take_all, get_or-drop, length-drop, length-take-le, append-nil, Edits.{length-insert, get_or-insert_at, get_or-insert_below, get_or-insert_above}}
+use Rattle.std.proofs.Common.{rules, ◌≡◌, ℕ, zero, suc, ◌+◌, ◌-◌, ◌<◌, ◌≤◌, List, [], ◌∷◌, ◌++◌, length, get_or, take, drop, Some, refl, sym, ap, ◌∙◌, append_assoc, length-append, arith}
+use Rattle.std.{specs.{Prelude.{slice_get}, List.{insert}}, proofs.lemmas.{Option.{get_or_from_slice_get}}}
+use Rattle.std.proofs.lemmas.List.{take_more, take_all, get_or-drop, length-drop, length-take-le, Edits.{length-insert}}
 use Rattle.sh_logic.proofs.Tests.{less_test, not_less_test}
 use Rattle.sh_image.specs.{declared.inner.Pair.{Pair}, Inner.{Inner, separator_at, no_pair}}
 use Rattle.sh_edit.specs.Pairing.{pairs_with, IsGapAt}
@@ -23,9 +23,7 @@ pub record IsPushed (old : Inner) (all : List Pair) (from i : ℕ) (image : Inne
 
 module _ (old : Inner) (all : List Pair) (from : ℕ) where
   pub pushed_none : IsPushed old all from from old
-  pushed_none =
-      let none : from - from ≡ 0 = omega arith in
-      record { start = omega arith; others = refl; pairs = sym (ap (λ n. old.pairs ++ take n (drop from all)) none ∙ append-nil old.pairs) }
+  pushed_none = search rules
 
   pub pushed_more : (i : ℕ) (image new : Inner) (x : Pair) → IsPushed old all from i image → slice_get all i ≡ Some x → i < length all → new ≡ record image { pairs = image.pairs ++ x ∷ [] } → IsPushed old all from (i + 1) new
   pushed_more i image new x h is below now =
@@ -55,17 +53,14 @@ module _ (old : Inner) (all : List Pair) (from : ℕ) where
 
 -- a fresh image to which pairs were pushed
 pub pushed_fresh : (version level low high next : ℕ) (all : List Pair) (fresh image : Inner) → fresh ≡ record { version = version; level = level; low = low; high = high; next = next; pairs = [] } → image ≡ record fresh { pairs = fresh.pairs ++ all } → image ≡ record { version = version; level = level; low = low; high = high; next = next; pairs = all }
-pushed_fresh version level low high next all fresh image made now =
-    now ∙ (λ t. record { version = (made t).version; level = (made t).level; low = (made t).low; high = (made t).high; next = (made t).next; pairs = (made t).pairs ++ all })
+pushed_fresh version level low high next all fresh image made now = search rules
 
 module _ (ps : List Pair) (new : Pair) (gap : ℕ) (at : IsGapAt ps new.separator gap) where
   pub whole_with : (to : ℕ) → length ps < to → take (to - 0) (drop 0 (insert ps gap new)) ≡ pairs_with ps new
   whole_with to past = take_all (to - 0) (insert ps gap new) (omega (arith, length-insert ps gap new at.within)) ∙ inserted ps new gap at
 
   pub front_with : (to count : ℕ) → to ≡ count → take (to - 0) (drop 0 (insert ps gap new)) ≡ take count (pairs_with ps new)
-  front_with to count is =
-      let same : to - 0 ≡ count = omega arith in
-      λ t. take (same t) (inserted ps new gap at t)
+  front_with to count is = search (rules, inserted)
 
   pub rest_with : (from count to : ℕ) → from ≡ count → length ps < to → take (to - from) (drop from (insert ps gap new)) ≡ drop count (pairs_with ps new)
   rest_with from count to is past = take_all (to - from) (drop from (insert ps gap new)) (omega (arith, length-drop from (insert ps gap new), length-insert ps gap new at.within)) ∙ (λ t. drop (is t) (inserted ps new gap at t))

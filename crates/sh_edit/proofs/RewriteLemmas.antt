@@ -1,5 +1,5 @@
 -- A rewritten leaf meets the rules, keeps its keys apart, and holds the put or the del.
-use Rattle.std.{proofs.Common.{◌≡◌, ◌≢◌, ◌⊎◌, ℕ, zero, suc, ◌<◌, ◌≤◌, List, [], ◌∷◌, length, map, set, replicate, refl, sym, ap, ◌∙◌, arith}, specs.Prelude.{◌==◌, if◌then◌else◌}}
+use Rattle.std.{proofs.Common.{rules, ◌≡◌, ◌≢◌, ◌⊎◌, ℕ, zero, suc, ◌<◌, ◌≤◌, List, [], ◌∷◌, length, map, replicate, refl, sym, ap, ◌∙◌, arith}, specs.Prelude.{◌==◌, if◌then◌else◌}}
 use Rattle.std.{proofs.lemmas.List.{length-map, length-set}, specs.{List.{AllByRecursion}, FinMap.{from_entries}}}
 use Rattle.sh_logic.proofs.Lists.{all_set}
 use Rattle.sh_base.specs.{declared.config.ConfigParts.{ConfigParts}, Setting.{last_version}}
@@ -21,11 +21,7 @@ key_at-cleared (e ∷ es) zero = refl
 key_at-cleared (e ∷ es) (suc i) = key_at-cleared es i
 
 first-cleared : (es : List LeafEntry) (key i : ℕ) → IsFirstWith es key i → IsFirstWith (map cleared es) key i
-first-cleared es key i h = record {
-  in_range = omega (arith, h.in_range, length-map es cleared);
-  here = key_at-cleared es i ∙ h.here;
-  before = λ j below is. h.before j below (sym (key_at-cleared es j) ∙ is);
-}
+first-cleared es key i h = search (rules, length-map, key_at-cleared)
 
 none-cleared : (es : List LeafEntry) (key : ℕ) → LacksKey es key → LacksKey (map cleared es) key
 none-cleared es key h j below is = h j (omega (arith, below, length-map es cleared)) (sym (key_at-cleared es j) ∙ is)
@@ -54,11 +50,4 @@ all_cleared p low high [] h = tt
 all_cleared p low high (e ∷ es) h = (record { value = h.0.value; version = omega arith; within = h.0.within }, all_cleared p low high es h.1)
 
 pub rewritten_lawful : (p : ConfigParts) (a : Leaf) (i key : ℕ) (value : List ℕ) → IsLeaf p a → a.version < last_version p → length value ≡ p.value_words → ((key ≡ 0) × (value ≡ replicate p.value_words 0)) ⊎ ((a.low ≤ key) × (1 ≤ key) × (key < a.high)) → IsLeaf p (rewritten a i key value)
-rewritten_lawful p a i key value h version words within = record {
-  version = omega arith;
-  fences = h.fences;
-  next = h.next;
-  end = h.end;
-  count = length-set (map cleared a.entries) i _ ∙ length-map a.entries cleared ∙ h.count;
-  entries = all_set (IsEntry p a.low a.high) (map cleared a.entries) i _ (all_cleared p a.low a.high a.entries h.entries) (record { value = words; version = omega arith; within = within });
-}
+rewritten_lawful p a i key value h version words within = search (rules, length-set, length-map, all_set, all_cleared)

@@ -1,5 +1,5 @@
 -- Inner nodes that pairs were added to, and their halves, meet the rules and keep all pairs.
-use Rattle.std.proofs.Common.{◌≡◌, ℕ, zero, suc, ◌+◌, ◌-◌, ◌*◌, ◌<◌, ◌≤◌, ◌^◌, List, [], ◌∷◌, length, take, drop, inl, inr, refl, subst, arith}
+use Rattle.std.proofs.Common.{rules, ◌≡◌, ℕ, zero, suc, ◌+◌, ◌-◌, ◌*◌, ◌<◌, ◌≤◌, ◌^◌, List, [], ◌∷◌, length, take, drop, inl, inr, refl, subst, arith}
 use Rattle.std.{specs.List.{AllByRecursion, Sorted.{IsPermutation}}, proofs.lemmas.{Bool.{cases_lt}, List.{length-take-le, length-drop}}}
 use Rattle.std.proofs.lemmas.List.Sorted.{IsPermutation-refl, IsPermutation-cons, IsPermutation-trans, IsPermutation-swap}
 use Rattle.sh_logic.proofs.Tests.{less_test, not_less_test}
@@ -51,8 +51,7 @@ to_rise low high [] some h = absurd (omega arith)
 to_rise low high (x ∷ xs) some h = ((h.first, to_above x xs h.rise), to_below high (x ∷ xs) h.below)
 
 from_rise : (low high : ℕ) (xs : List Pair) → RiseFrom low xs → AreBelow high xs → AreSeparators low high xs
-from_rise low high [] h below = absurd h
-from_rise low high (x ∷ xs) h below = record { first = h.0; rise = from_above x xs h.1; below = from_below high (x ∷ xs) below }
+from_rise low high xs h below = search (rules, from_above, from_below)
 
 -- ---- a pair more
 above_with : (b : ℕ) (xs : List Pair) (new : Pair) → b < new.separator → IsNewSeparator xs new.separator → RiseAbove b xs → RiseAbove b (pairs_with xs new)
@@ -63,10 +62,7 @@ above_with b (x ∷ xs) new lt fresh h = elim (cases_lt x.separator new.separato
 ]
 
 rise_with : (low : ℕ) (xs : List Pair) (new : Pair) → low ≤ new.separator → IsNewSeparator xs new.separator → RiseFrom low xs → RiseFrom low (pairs_with xs new)
-rise_with low [] new le fresh h = absurd h
-rise_with low (x ∷ xs) new le fresh h =
-    let below : x.separator < new.separator = omega (arith, le, h.0, fresh.0) in
-    rw (less_test x.separator new.separator below) (h.0, above_with x.separator xs new below fresh.1 h.1)
+rise_with low xs new le fresh h = search (rules, less_test, above_with)
 
 all_with : (P : Pair → Type 0) (xs : List Pair) (new : Pair) → P new → AllByRecursion P xs → AllByRecursion P (pairs_with xs new)
 all_with P [] new p h = (p, tt)
@@ -138,16 +134,10 @@ above_drop b zero (x ∷ xs) h lt = (refl, h.1)
 above_drop b (suc n) (x ∷ xs) h lt = above_drop x.separator n xs h.1 (omega arith)
 
 rise_take : (low n : ℕ) (xs : List Pair) → RiseFrom low xs → 1 ≤ n → n < length xs → RiseFrom low (take n xs) × AreBelow (separator_at xs n) (take n xs) × (low < separator_at xs n)
-rise_take low n [] h some lt = absurd h
-rise_take low zero (x ∷ xs) h some lt = absurd (omega arith)
-rise_take low (suc n) (x ∷ xs) h some lt =
-    let above = above_at x.separator n xs h.1 (omega arith) in
-    ((h.0, above_take x.separator n xs h.1), (above, below_at x.separator n xs h.1 (omega arith)), omega (arith, above, h.0))
+rise_take low n xs h some lt = search (rules, above_at, above_take, below_at)
 
 rise_drop : (low n : ℕ) (xs : List Pair) → RiseFrom low xs → 1 ≤ n → n < length xs → RiseFrom (separator_at xs n) (drop n xs)
-rise_drop low n [] h some lt = absurd h
-rise_drop low zero (x ∷ xs) h some lt = absurd (omega arith)
-rise_drop low (suc n) (x ∷ xs) h some lt = above_drop x.separator n xs h.1 (omega arith)
+rise_drop low n xs h some lt = search (rules, above_drop)
 
 module _ (p : ConfigParts) (a : Inner) (new : Pair) (h : IsInner p a) (full : length a.pairs ≡ 2 * p.leaf) (fresh : IsNewSeparator a.pairs new.separator) (low : a.low ≤ new.separator) (high : new.separator < a.high) where
   some : 1 ≤ p.leaf
@@ -195,13 +185,4 @@ module _ (p : ConfigParts) (a : Inner) (new : Pair) (h : IsInner p a) (full : le
       }
 
 pub root_lawful : (p : ConfigParts) (level left separator right : ℕ) → 1 ≤ p.leaf → 1 ≤ level → level < nodes p → 1 ≤ left → left ≤ nodes p → 1 ≤ right → right ≤ nodes p → 1 ≤ separator → separator < 2 ^ 64 - 1 → IsInner p (root_over level left separator right)
-root_lawful p level left separator right some low below a b c d first last = record {
-  version = omega arith;
-  level = (low, below);
-  fences = omega arith;
-  next = omega arith;
-  end = (λ z. refl, λ e. refl);
-  count = (omega arith, omega (arith, some));
-  separators = from_rise 0 (2 ^ 64 - 1) (root_over level left separator right).pairs (refl, (omega (arith, first), tt)) (omega arith, (omega (arith, last), tt));
-  children = ((a, b), ((c, d), tt));
-}
+root_lawful p level left separator right some low below a b c d first last = search (rules, from_rise)

@@ -1,10 +1,10 @@
 -- A leaf without a key twice has room exactly where its map has fewer keys than it has entries.
-use Rattle.std.{proofs.Common.{◌≡◌, ◌≢◌, ℕ, zero, suc, ◌+◌, ◌<◌, ◌≤◌, Bool, true, false, cond, List, [], ◌∷◌, length, refl, sym, ap, ◌∙◌, inl, inr, None, arith}, specs.Prelude.{nat_lt, is_some}}
-use Rattle.std.{proofs.lemmas.Bool.{cases_eq, eq-eqb, Decides.{nat_tests}}, specs.{Ordering.{nat_cmp}, Cmp.{nat_cmp_total}, FinMap.{len-insert, len-empty}}}
+use Rattle.std.{proofs.Common.{rules, ◌≡◌, ◌≢◌, ℕ, suc, ◌+◌, ◌<◌, ◌≤◌, Bool, true, false, cond, List, [], ◌∷◌, length, refl, sym, ap, ◌∙◌, inl, inr, None, arith}, specs.Prelude.{nat_lt, is_some}}
+use Rattle.std.{proofs.lemmas.Bool.{cases_eq, eq-eqb}, specs.{Ordering.{nat_cmp}, Cmp.{nat_cmp_total}, FinMap.{len-insert, len-empty}}}
 use Rattle.sh_logic.proofs.Tests.{differ_test}
 use Rattle.sh_map.specs.Map.{get, size}
 use Rattle.sh_image.specs.declared.leaf.LeafEntry.{LeafEntry}
-use Rattle.sh_edit.{specs.{Held.{pairs_of, has_room, map_of_entries, key_at, HasKeysOnce}, Placing.{LacksKey}}, proofs.HeldLemmas.{get-map_of_entries, held_none}}
+use Rattle.sh_edit.{specs.{Held.{pairs_of, has_room, map_of_entries, HasKeysOnce}, Placing.{LacksKey}}, proofs.HeldLemmas.{get-map_of_entries, held_none}}
 
 pub once_tail : (e : LeafEntry) (es : List LeafEntry) → HasKeysOnce (e ∷ es) → HasKeysOnce es
 once_tail e es once i j less below same = once (suc i) (suc j) (omega arith) (omega arith) same
@@ -36,8 +36,7 @@ pairs_count (e ∷ es) =
     ]
 
 room_test : (b : Bool) (n k : ℕ) → (b ≡ true → n < k) → (b ≡ false → n ≡ k) → nat_lt n k ≡ b
-room_test true n k less same = grind (arith, nat_tests, less refl)
-room_test false n k less same = grind (arith, nat_tests, same refl)
+room_test b n k less same = search rules
 
 pub room_is_size : (es : List LeafEntry) → HasKeysOnce es → nat_lt (size (map_of_entries es)) (length es) ≡ has_room es
 room_is_size es once = ap (λ n. nat_lt n (length es)) (size_is_pairs es once) ∙ room_test (has_room es) _ _ (pairs_count es).1 (pairs_count es).2

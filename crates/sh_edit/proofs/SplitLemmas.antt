@@ -1,5 +1,5 @@
 -- The halves of a split hold the put, each key on its side of the separator, and meet the rules.
-use Rattle.std.proofs.Common.{◌≡◌, ◌≢◌, ℕ, zero, suc, ◌+◌, ◌-◌, ◌<◌, ◌≤◌, true, cond, List, [], ◌∷◌, ◌++◌, length, take, drop, map, replicate, Some, None, inl, inr, refl, sym, ap, subst, ◌∙◌, get_or, Less, Equal, Greater, arith}
+use Rattle.std.proofs.Common.{◌≡◌, ◌≢◌, ℕ, zero, suc, ◌+◌, ◌-◌, ◌<◌, ◌≤◌, true, cond, List, [], ◌∷◌, ◌++◌, length, take, drop, map, replicate, None, inl, inr, refl, sym, ap, subst, ◌∙◌, get_or, Less, Equal, Greater, arith}
 use Rattle.std.specs.{Prelude.{T, is_some}, List.{AllByRecursion}, Ordering.{nat_cmp, eq_by_cmp}, Cmp.{nat_cmp_total}}
 use Rattle.std.specs.FinMap.{find, entries, from_entries, get-entries, get-from_entries, is_sorted, entries_sorted, len-entries, len-insert, len-empty, entries-insert}
 use Rattle.std.{specs.FinMap.Entries.{below_all, by_order, put as put_pair}, proofs.lemmas.{Cmp.{ranked}, Bool.{cases_eq, eq-eqb}, List.{take-append-drop}}}

@@ -1,5 +1,5 @@
 -- Entries are read back from their words, and words from the entries that they spell.
-use Rattle.std.proofs.Common.{◌≡◌, ℕ, zero, suc, ◌+◌, ◌*◌, ◌<◌, ◌≤◌, List, [], ◌∷◌, ◌++◌, length, get_or, take, drop, refl, sym, ap, subst, ◌∙◌, append_assoc, length-append, arith}
+use Rattle.std.proofs.Common.{rules, ◌≡◌, ℕ, zero, suc, ◌+◌, ◌*◌, ◌<◌, ◌≤◌, List, [], ◌∷◌, ◌++◌, length, get_or, take, drop, refl, sym, ap, subst, ◌∙◌, append_assoc, length-append, arith}
 use Rattle.std.{specs.{Prelude.{Some, slice_get, slice_index}, List.{flat_map, AllByRecursion}}, proofs.{lemmas.Option.{same_Some}, Math.Seq.{drop-cons}}}
 use Rattle.std.proofs.lemmas.List.{take_at, drop_at, drop-drop, get_or-drop, length-drop, length-take-le, take-append-drop}
 use Rattle.sh_image.specs.{declared.leaf.LeafEntry.{LeafEntry}, Entries.{entry_words, entry_in, entries_in, AreWhole}}
@@ -16,9 +16,7 @@ module _ (count : ℕ) where
 
   -- an entry is read from its words, whatever follows
   entry_in-entry_words : (e : LeafEntry) (rest : List ℕ) → length e.value ≡ count → entry_in count (entry_words e ++ rest) ≡ e
-  entry_in-entry_words e rest h =
-      let cut : take count ((e.value ++ e.version ∷ []) ++ rest) ≡ e.value = ap (take count) (append_assoc e.value (e.version ∷ []) rest) ∙ take_at e.value (e.version ∷ rest) count h in
-      λ i. record { version = e.version; key = e.key; value = cut i }
+  entry_in-entry_words e rest h = search (rules, append_assoc, take_at)
 
   -- so are entries in a row
   pub entries_in-words : (es : List LeafEntry) (rest : List ℕ) → AllByRecursion (λ e. length e.value ≡ count) es → entries_in count (length es) (flat_map entry_words es ++ rest) ≡ es

@@ -1,5 +1,5 @@
 -- The entries of a leaf's words, as they are written into an image one by one.
-use Rattle.std.proofs.{Common.{◌≡◌, ℕ, ◌+◌, ◌-◌, ◌<◌, List, length, get_or, set, take, drop, sym, ap, subst, ◌∙◌, inl, inr, arith}, lemmas.Bool.{cases_eq}}
+use Rattle.std.proofs.{Common.{rules, ◌≡◌, ℕ, ◌+◌, ◌-◌, ◌<◌, List, length, get_or, set, take, drop, sym, ap, ◌∙◌, inl, inr, arith}, lemmas.Bool.{cases_eq}}
 use Rattle.std.proofs.lemmas.List.{same_lists, length-set, get_or-set_same, get_or-set_other}
 use Rattle.sh_base.specs.{declared.config.ConfigParts.{ConfigParts}, Layout.{entry_at}}
 use Rattle.sh_image.{specs.{declared.leaf.LeafEntry.{LeafEntry}, Entries.{entries_in}, Leaf.{Leaf, leaf_in, IsEntry}}, proofs.{EntriesLemmas.{length-entries_in}, ReadLemmas.{entry_read}}}
@@ -19,10 +19,7 @@ entry_here p ws i at n d below is all =
 
 -- one entry more meets the rules
 pub rules_more : (p : ConfigParts) (ws : List ℕ) (low high i : ℕ) (e : LeafEntry) → ((d : LeafEntry) → e ≡ get_or (spelled p ws) i d) → IsEntry p low high e → ((k : ℕ) (d : LeafEntry) → k < i → IsEntry p low high (get_or (spelled p ws) k d)) → (k : ℕ) (d : LeafEntry) → k < i + 1 → IsEntry p low high (get_or (spelled p ws) k d)
-rules_more p ws low high i e is good h k d b = elim (cases_eq k i) [
-  | inl same ↦ subst (λ j. IsEntry p low high (get_or (spelled p ws) j d)) (sym same) (subst (IsEntry p low high) (is d) good)
-  | inr other ↦ h k d (omega (arith, b, other))
-]
+rules_more p ws low high i e is good h k d b = search (rules, cases_eq)
 
 -- the leaf that is read into an image, from what its parts say
 pub read_whole : (p : ConfigParts) (ws : List ℕ) (begun image : Leaf) → begun ≡ record { version = get_or ws 0 0; low = get_or ws 2 0; high = get_or ws 3 0; next = get_or ws 4 0; entries = begun.entries } → image ≡ record begun { entries = spelled p ws } → image ≡ leaf_in p ws

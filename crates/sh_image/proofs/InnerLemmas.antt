@@ -1,5 +1,5 @@
 -- Pairs and inner nodes are read back from their words, and words from the pairs that they spell.
-use Rattle.std.proofs.Common.{◌≡◌, ℕ, zero, suc, ◌+◌, ◌*◌, ◌<◌, ◌≤◌, List, [], ◌∷◌, ◌++◌, length, get_or, take, drop, refl, sym, ap, subst, ◌∙◌, append_assoc, length-append, arith}
+use Rattle.std.proofs.Common.{rules, ◌≡◌, ℕ, zero, suc, ◌+◌, ◌*◌, ◌<◌, ◌≤◌, List, [], ◌∷◌, ◌++◌, length, get_or, take, drop, refl, sym, ap, subst, ◌∙◌, append_assoc, length-append, arith}
 use Rattle.std.{specs.{Prelude.{replicate, slice_index}, List.{flat_map, AllByRecursion}}, proofs.Math.{Nat.{mul-le-mul_right}, Seq.{drop-cons}}}
 use Rattle.std.proofs.lemmas.List.{take_at, drop_at, drop-drop, drop_all, get_or-drop, length-replicate, take-append-drop}
 use Rattle.sh_base.{specs.{declared.config.ConfigParts.{ConfigParts}, Setting.{nodes, node_size}, Layout.{rear_at}}, proofs.LayoutLemmas.{node_size_is, node_size_by_words}}
@@ -71,9 +71,7 @@ module _ (ws : List ℕ) where
   pair_read k = λ t. record { separator = word (2 * k) (6 + 2 * k) refl t; child = word (2 * k + 1) (6 + 2 * k + 1) (omega arith) t }
 
   pub pairs_more : (k : ℕ) → pairs_in (k + 1) (drop 6 ws) ≡ pairs_in k (drop 6 ws) ++ pair_of (get_or ws (6 + 2 * k) 0) (get_or ws (6 + 2 * k + 1) 0) ∷ []
-  pairs_more k =
-      let step : k + 1 ≡ suc k = omega arith in
-      ap (λ n. pairs_in n (drop 6 ws)) step ∙ pairs_in-more k (drop 6 ws) ∙ ap (λ x. pairs_in k (drop 6 ws) ++ x ∷ []) (pair_read k)
+  pairs_more k = search (rules, pairs_in-more, pair_read)
 
   pub child_of : (p : ConfigParts) (n k : ℕ) → k < n → AllByRecursion (HasChild p) (pairs_in n (drop 6 ws)) → (1 ≤ get_or ws (6 + 2 * k + 1) 0) × (get_or ws (6 + 2 * k + 1) 0 ≤ nodes p)
   child_of p n k below h = subst (HasChild p) (pair_read k) (all_at (HasChild p) n k (drop 6 ws) below h)
@@ -110,17 +108,7 @@ module _ (p : ConfigParts) where
 
   -- the words behind the pairs of an inner node that is spelled
   pub zeros_spelled : (ws : List ℕ) (a : Inner) → SpellsInner p ws a → take (words_behind p (slice_index ws 5)) (drop (6 + 2 * slice_index ws 5) ws) ≡ zeros (words_behind p (slice_index ws 5))
-  zeros_spelled ws a s = subst (λ (l : List ℕ). take (words_behind p (slice_index l 5)) (drop (6 + 2 * slice_index l 5) l) ≡ zeros (words_behind p (slice_index l 5))) (sym s.words) here
-    where
-      regroup : inner_words p a ≡ (inner_header a ++ flat_map pair_words a.pairs) ++ (zeros (words_behind p (length a.pairs)) ++ a.version ∷ [])
-      regroup = sym (append_assoc (inner_header a) (flat_map pair_words a.pairs) (zeros (words_behind p (length a.pairs)) ++ a.version ∷ []))
-
-      here : take (words_behind p (length a.pairs)) (drop (6 + 2 * length a.pairs) (inner_words p a)) ≡ zeros (words_behind p (length a.pairs))
-      here =
-          let blank = zeros (words_behind p (length a.pairs)) in
-          ap (λ l. take (words_behind p (length a.pairs)) (drop (6 + 2 * length a.pairs) l)) regroup
-          ∙ ap (λ l. take (words_behind p (length a.pairs)) l) (drop_at (inner_header a ++ flat_map pair_words a.pairs) (blank ++ a.version ∷ []) (6 + 2 * length a.pairs) (omega (arith, length-pair_words a.pairs)))
-          ∙ take_at blank (a.version ∷ []) (words_behind p (length a.pairs)) (length-zeros (words_behind p (length a.pairs)))
+  zeros_spelled ws a s = search (rules, append_assoc, drop_at, length-pair_words, take_at, length-zeros)
 
   -- its rear version
   pub rear_spelled : (ws : List ℕ) (a : Inner) → 1 ≤ p.value_words → SpellsInner p ws a → slice_index ws (rear_at p) ≡ slice_index ws 0
@@ -134,9 +122,7 @@ module _ (p : ConfigParts) where
           ap (λ l. get_or (inner_header a ++ l) (rear_at p) 0) (sym (append_assoc (flat_map pair_words a.pairs) blank (a.version ∷ []))) ∙ sym (get_or-drop (rear_at p) (body ++ a.version ∷ []) 0 0 ∙ ap (λ n. get_or (body ++ a.version ∷ []) n 0) (omega arith)) ∙ ap (λ l. get_or l 0 0) (drop_at body (a.version ∷ []) (rear_at p) long)
 
   pub length-inner_words : (a : Inner) → 1 ≤ p.value_words → length a.pairs ≤ 2 * p.leaf → length (inner_words p a) ≡ node_size p
-  length-inner_words a some few =
-      let blank = zeros (words_behind p (length a.pairs)) in
-      omega (arith, length-append (flat_map pair_words a.pairs) (blank ++ a.version ∷ []), length-append blank (a.version ∷ []), length-pair_words a.pairs, length-zeros (words_behind p (length a.pairs)), pairs_room some, node_size_is p)
+  length-inner_words a some few = search (rules, length-append, length-pair_words, length-zeros, pairs_room, node_size_is)
 
 -- the image after some of the pairs were read
 pub record IsDecoded (p : ConfigParts) (ws : List ℕ) (next i : ℕ) (image : Inner) : Type 0 where
@@ -145,30 +131,11 @@ pub record IsDecoded (p : ConfigParts) (ws : List ℕ) (next i : ℕ) (image : I
   pub children : AllByRecursion (HasChild p) image.pairs
 
 pub decoded_more : (p : ConfigParts) (ws : List ℕ) (next i child : ℕ) (image new : Inner) → child ≡ get_or ws (6 + 2 * i + 1) 0 → (1 ≤ get_or ws (6 + 2 * i + 1) 0) → (get_or ws (6 + 2 * i + 1) 0 ≤ nodes p) → IsDecoded p ws next i image → new ≡ record image { pairs = image.pairs ++ pair_of (get_or ws (6 + 2 * i) 0) child ∷ [] } → IsDecoded p ws next (i + 1) new
-decoded_more p ws next i child image new is low high h now =
-    let pairs : new.pairs ≡ image.pairs ++ pair_of (get_or ws (6 + 2 * i) 0) (get_or ws (6 + 2 * i + 1) 0) ∷ [] = ap (λ (a : Inner). a.pairs) now ∙ ap (λ c. image.pairs ++ pair_of (get_or ws (6 + 2 * i) 0) c ∷ []) is in
-    record {
-      others = λ t. record {
-        version = (ap (λ (a : Inner). a.version) now ∙ ap (λ (a : Inner). a.version) h.others) t;
-        level = (ap (λ (a : Inner). a.level) now ∙ ap (λ (a : Inner). a.level) h.others) t;
-        low = (ap (λ (a : Inner). a.low) now ∙ ap (λ (a : Inner). a.low) h.others) t;
-        high = (ap (λ (a : Inner). a.high) now ∙ ap (λ (a : Inner). a.high) h.others) t;
-        next = (ap (λ (a : Inner). a.next) now ∙ ap (λ (a : Inner). a.next) h.others) t;
-        pairs = new.pairs;
-      };
-      pairs = pairs ∙ ap (λ l. l ++ pair_of (get_or ws (6 + 2 * i) 0) (get_or ws (6 + 2 * i + 1) 0) ∷ []) h.pairs ∙ sym (pairs_more ws i);
-      children = subst (AllByRecursion (HasChild p)) (sym pairs) (all_push (HasChild p) image.pairs _ h.children (low, high));
-    }
+decoded_more p ws next i child image new is low high h now = search (rules, pairs_more, all_push)
 
 -- what an inner node that is spelled says of its words
 pub inner_spelled : (p : ConfigParts) (ws : List ℕ) (a : Inner) → SpellsInner p ws a → IsInner p (inner_in ws) × (get_or ws 4 0 ≤ nodes p) × (get_or ws 5 0 ≤ 2 * p.leaf) × (1 ≤ get_or ws 1 0)
-inner_spelled p ws a s =
-    let is : inner_in ws ≡ a = inner_spelled_one p ws a s in (
-      subst (IsInner p) (sym is) s.lawful,
-      omega (arith, ap (λ l. get_or l 4 0) s.words, s.lawful.next),
-      omega (arith, ap (λ l. get_or l 5 0) s.words, s.lawful.count),
-      omega (arith, ap (λ l. get_or l 1 0) s.words, s.lawful.level),
-    )
+inner_spelled p ws a s = search (rules, inner_spelled_one)
 
 -- words that passed the tests spell the inner node that was read from them
 pub inner_passed : (p : ConfigParts) (ws : List ℕ) (image : Inner) → 1 ≤ p.value_words → length ws ≡ node_size p → get_or ws (rear_at p) 0 ≡ get_or ws 0 0 → get_or ws 5 0 ≤ 2 * p.leaf → take (words_behind p (get_or ws 5 0)) (drop (6 + 2 * get_or ws 5 0) ws) ≡ zeros (words_behind p (get_or ws 5 0)) → (image ≡ inner_in ws) × AllByRecursion (HasChild p) image.pairs → IsInner p image → SpellsInner p ws image

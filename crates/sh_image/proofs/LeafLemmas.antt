@@ -1,8 +1,8 @@
 -- Words spell one leaf at most, and words that pass the tests spell theirs.
-use Rattle.std.proofs.Common.{◌≡◌, ℕ, suc, ◌+◌, ◌*◌, List, [], ◌∷◌, ◌++◌, length, get_or, drop, sym, ap, ◌∙◌, length-append, arith}
+use Rattle.std.proofs.Common.{rules, ◌≡◌, ℕ, suc, ◌+◌, ◌*◌, List, [], ◌∷◌, length, get_or, drop, ap, ◌∙◌, length-append, arith}
 use Rattle.std.{specs.{Prelude.{slice_index}, List.{flat_map, AllByRecursion}}, proofs.{Math.Seq.{drop-cons}, lemmas.List.{drop_all}}}
 use Rattle.sh_base.{specs.{declared.config.ConfigParts.{ConfigParts}, Setting.{node_size}}, proofs.LayoutLemmas.{node_size_by_words}}
-use Rattle.sh_image.specs.{declared.leaf.LeafEntry.{LeafEntry}, Entries.{entry_words, entries_in, AreWhole}, Leaf.{Leaf, leaf_words, leaf_in, HaveWords, IsEntry, Spells}}
+use Rattle.sh_image.specs.{declared.leaf.LeafEntry.{LeafEntry}, Entries.{entry_words, AreWhole}, Leaf.{Leaf, leaf_words, leaf_in, HaveWords, IsEntry, Spells}}
 use Rattle.sh_image.proofs.EntriesLemmas.{entries_in-words, words-entries_in, length-words}
 
 -- a list with one element more than n
@@ -12,9 +12,7 @@ last_one n ws h = drop-cons ws n 0 (omega arith) ∙ ap (λ l. get_or ws n 0 ∷
 module _ (p : ConfigParts) where
   -- a leaf is read back from its words
   pub leaf_in-leaf_words : (a : Leaf) → length a.entries ≡ p.leaf → HaveWords p a.entries → leaf_in p (leaf_words a) ≡ a
-  leaf_in-leaf_words a count h =
-      let back : entries_in p.value_words p.leaf (flat_map entry_words a.entries ++ a.version ∷ []) ≡ a.entries = ap (λ k. entries_in p.value_words k (flat_map entry_words a.entries ++ a.version ∷ [])) (sym count) ∙ entries_in-words p.value_words a.entries (a.version ∷ []) h in
-      λ i. record { version = a.version; low = a.low; high = a.high; next = a.next; entries = back i }
+  leaf_in-leaf_words a count h = search (rules, entries_in-words)
 
   -- the values of a lawful leaf's entries have the setting's words
   pub values_of : (low high : ℕ) (es : List LeafEntry) → AllByRecursion (IsEntry p low high) es → HaveWords p es
@@ -27,14 +25,7 @@ module _ (p : ConfigParts) where
 
   -- words whose version pairs agree are those of the leaf that is read from them
   pub leaf_words-leaf_in : (ws : List ℕ) → length ws ≡ 7 + (3 + p.value_words) * p.leaf → slice_index ws 1 ≡ 0 → slice_index ws 5 ≡ 0 → slice_index ws (6 + (3 + p.value_words) * p.leaf) ≡ slice_index ws 0 → AreWhole p.value_words p.leaf (drop 6 ws) → leaf_words (leaf_in p ws) ≡ ws
-  leaf_words-leaf_in (front ∷ level ∷ low ∷ high ∷ next ∷ count ∷ ws) long level_is count_is rear whole =
-      let size = (3 + p.value_words) * p.leaf in
-      let six : 6 + size ≡ suc (suc (suc (suc (suc (suc size))))) = omega arith in
-      let rear_is : get_or ws size 0 ≡ front = rw six at rear in
-      let end : front ∷ [] ≡ drop size ws = ap (λ r. r ∷ []) (sym rear_is) ∙ sym (last_one size ws (omega arith)) in
-      let middle = ap (λ l. flat_map entry_words (entries_in p.value_words p.leaf ws) ++ l) end ∙ words-entries_in p.value_words p.leaf ws (omega arith) whole in
-      rw (level_is, count_is) (ap (λ l. front ∷ 0 ∷ low ∷ high ∷ next ∷ 0 ∷ l) middle)
-  leaf_words-leaf_in ws long level_is count_is rear whole = absurd (omega arith)
+  leaf_words-leaf_in ws long level_is count_is rear whole = search (rules, last_one, words-entries_in)
 
   pub length-leaf_words : (a : Leaf) → length a.entries ≡ p.leaf → HaveWords p a.entries → length (leaf_words a) ≡ node_size p
   length-leaf_words a count h = omega (arith, length-append (flat_map entry_words a.entries) (a.version ∷ []), length-words p.value_words a.entries h, node_size_by_words p, ap (λ k. (3 + p.value_words) * k) count)

@@ -1,5 +1,5 @@
 -- Words that spell a leaf are untorn: the two versions of the node and of each entry agree.
-use Rattle.std.proofs.Common.{◌≡◌, ℕ, zero, suc, ◌+◌, ◌*◌, ◌<◌, ◌≤◌, List, [], ◌∷◌, ◌++◌, length, get_or, refl, sym, ap, ◌∙◌, append_assoc, arith}
+use Rattle.std.proofs.Common.{rules, ◌≡◌, ℕ, zero, suc, ◌+◌, ◌*◌, ◌<◌, ◌≤◌, List, [], ◌∷◌, ◌++◌, length, get_or, refl, sym, ap, ◌∙◌, append_assoc, arith}
 use Rattle.std.{specs.List.{flat_map, AllByRecursion}, proofs.lemmas.List.{drop_at, get_or-drop}}
 use Rattle.sh_base.{specs.{declared.config.ConfigParts.{ConfigParts}, Layout.{rear_at}}, proofs.LayoutLemmas.{entry_at_by_words, node_size_is, node_size_by_words}}
 use Rattle.sh_image.specs.{declared.leaf.LeafEntry.{LeafEntry}, Entries.{entry_words}, Leaf.{Leaf, Spells, leaf_words}, Inner.{Inner, SpellsInner}}
@@ -20,9 +20,7 @@ module _ (count : ℕ) where
 
   -- the words of one entry, whatever follows
   whole_one : (e : LeafEntry) (rest : List ℕ) → length e.value ≡ count → get_or (entry_words e ++ rest) 0 0 ≡ get_or (entry_words e ++ rest) (2 + count) 0
-  whole_one e rest h =
-      let two : 2 + count ≡ suc (suc count) = omega arith in
-      rw two (sym (ap (λ l. get_or l count 0) (append_assoc e.value (e.version ∷ []) rest) ∙ behind e.value rest e.version count h))
+  whole_one e rest h = search (rules, append_assoc, behind)
 
   past_one : (e : LeafEntry) (rest : List ℕ) (k : ℕ) → length e.value ≡ count → get_or (entry_words e ++ rest) (3 + count + k) 0 ≡ get_or rest k 0
   past_one e rest k h = sym (get_or-drop (3 + count) (entry_words e ++ rest) k 0) ∙ ap (λ l. get_or l k 0) (drop_at (entry_words e) rest (3 + count) (length-entry_words count e h))
@@ -67,10 +65,7 @@ seen_spelled p ws a (TornEntry index rear front) s h = absurd (h.torn.differ ((u
 seen_spelled p ws a Odd s h = absurd (h.1 a s)
 
 pub untorn_inner : (p : ConfigParts) (ws : List ℕ) (a : Inner) → 1 ≤ p.value_words → SpellsInner p ws a → IsUntorn p ws
-untorn_inner p ws a some s = record {
-  node = sym (rear_spelled p ws a some s);
-  entries = λ leaf. absurd (omega (arith, leaf, (inner_spelled p ws a s).3));
-}
+untorn_inner p ws a some s = search (rules, rear_spelled, inner_spelled)
 
 pub seen_inner : (p : ConfigParts) (ws : List ℕ) (a : Inner) (seen : Seen) → 1 ≤ p.value_words → SpellsInner p ws a → SeenBy p ws seen → seen ≡ InnerSeen a
 seen_inner p ws a (LeafSeen b) some s h = absurd (omega (arith, ap (λ l. get_or l 1 0) h.words, (inner_spelled p ws a s).3))

@@ -1,5 +1,5 @@
 -- Words that are written piece by piece.
-use Rattle.std.proofs.Common.{◌≡◌, ◌<◌, ◌≤◌, ◌+◌, ◌-◌, ◌*◌, ◌++◌, [], ◌∷◌, ℕ, zero, suc, List, length, drop, take, get_or, refl, sym, ap, ◌∙◌, append_assoc, length-append, arith}
+use Rattle.std.proofs.Common.{rules, ◌≡◌, ◌<◌, ◌≤◌, ◌+◌, ◌-◌, ◌*◌, ◌++◌, [], ◌∷◌, ℕ, zero, suc, List, length, drop, take, get_or, refl, sym, ap, ◌∙◌, append_assoc, length-append, arith}
 use Rattle.std.{specs.{Prelude.{slice_set, replicate}, List.{flat_map}}, proofs.lemmas.List.{take_more, drop_all, length-drop, length-set, set_split, append-nil, Concat.{flat_map-append}}}
 use Rattle.std.proofs.lemmas.Slice.{take-put_mid}
 use borrow.Rule.Slice.PartMut.{put_mid}
@@ -74,6 +74,4 @@ zeros_more (suc k) = ap (λ l. 0 ∷ l) (zeros_more k)
 
 -- one word of 0 more is written
 pub zero_more : (out front : List ℕ) (n start : ℕ) → n < length out → start ≤ n → take n out ≡ front ++ zeros (n - start) → take (n + 1) (slice_set out n 0) ≡ front ++ zeros (n + 1 - start)
-zero_more out front n start below from before =
-    let step : n + 1 - start ≡ suc (n - start) = omega arith in
-    word_more out n 0 below ∙ ap (λ l. l ++ 0 ∷ []) before ∙ append_assoc front (zeros (n - start)) (0 ∷ []) ∙ ap (λ l. front ++ l) (zeros_more (n - start)) ∙ ap (λ k. front ++ zeros k) (sym step)
+zero_more out front n start below from before = search (rules, word_more, append_assoc, zeros_more)

@@ -1,27 +1,14 @@
 -- Each entry of a log is some call's own, where each place is taken once.
-use Rattle.std.{proofs.Common.{ℕ, zero, suc, ◌≡◌, ◌≢◌, ◌≤◌, ◌<◌, Bool, true, false, List, [], ◌∷◌, length, Option, Some, None, refl, arith, length-append}, specs.{Prelude.{find}, List.{list_any}}}
+use Rattle.std.{proofs.Common.{rules, ℕ, zero, suc, ◌≡◌, ◌≢◌, ◌≤◌, ◌<◌, Bool, true, List, [], ◌∷◌, length, Option, refl, arith, length-append}, specs.{Prelude.{find}, List.{list_any}}}
 use Rattle.std.proofs.lemmas.{Bool.Decides.{nat_tests}, List.Folds.{Any-from_list_any}}
-use Rattle.sh_map.specs.{declared.{call.{Call.{Call, TheVariants.{Get, Put, Del, Range}}, Reply.{Reply}}, book.Done.{Done}}, Book.{IsClosed, IsOwn}, Made.{entries_by}}
-use Rattle.sh_map.specs.declared.call.Reply.TheVariants as reply
+use Rattle.sh_map.specs.{declared.{call.{Call.{Call}, Reply.{Reply}}, book.Done.{Done}}, Book.{IsClosed, IsOwn}, Made.{entries_by}}
 use Rattle.sh_judge.specs.Places.{ArePlaced, count_at, placed_entry, entry_of, is_at, log_of, log_to, update_count}
 
 one_entry : (seat : ℕ) (call : Call) (answer : Reply) → length (entries_by seat call answer) ≤ 1
-one_entry seat (Put key value) (reply.Some old) = omega arith
-one_entry seat (Put key value) reply.None = omega arith
-one_entry seat (Put key value) (reply.Rows upto) = omega arith
-one_entry seat (Put key value) reply.Full = omega arith
-one_entry seat (Put key value) (reply.Worn version) = omega arith
-one_entry seat (Del key) (reply.Some old) = omega arith
-one_entry seat (Del key) reply.None = omega arith
-one_entry seat (Del key) (reply.Rows upto) = omega arith
-one_entry seat (Del key) reply.Full = omega arith
-one_entry seat (Del key) (reply.Worn version) = omega arith
-one_entry seat (Get key) answer = omega arith
-one_entry seat (Range low high) answer = omega arith
+one_entry seat call answer = search rules
 
 one_at : (d : Option Done) → length (entry_of d) ≤ 1
-one_at None = omega arith
-one_at (Some d) = one_entry d.seat d.call d.reply
+one_at d = search (rules, one_entry)
 
 short : (dones : List Done) (n : ℕ) → length (log_to dones n) ≤ n
 unfolding log_to
@@ -29,8 +16,7 @@ short dones zero = omega arith
 short dones (suc n) = omega (arith, length-append (log_to dones n) (placed_entry dones n), short dones n, one_at (find (is_at n) dones))
 
 counted : (p : ℕ) (dones : List Done) (d : Done) (t : Bool) → is_at p d ≡ t → count_at p (d ∷ dones) ≢ 0 → (count_at p dones ≢ 0 → list_any (is_at p) dones ≡ true) → list_any (is_at p) (d ∷ dones) ≡ true
-counted p dones d true e some rest = rw e refl
-counted p dones d false e some rest = let more = simp e at some in rw e (rest more)
+counted p dones d t e some rest = search rules
 
 is_among : (p : ℕ) (dones : List Done) → count_at p dones ≢ 0 → list_any (is_at p) dones ≡ true
 is_among p [] some = absurd (some refl)

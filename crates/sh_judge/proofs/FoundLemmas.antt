@@ -1,6 +1,6 @@
 -- What is found, with one call or one row more.
-use Rattle.std.{proofs.Common.{ℕ, ◌≡◌, ◌≤◌, ◌<◌, ◌==◌, Bool, true, false, List, [], ◌∷◌, ◌++◌, get_or, set, replicate, refl, ap, sym, ◌∙◌, arith}, specs.Prelude.{max}}
-use Rattle.std.proofs.lemmas.{Bool.{eqb-true, eqb-false}, List.{get_or-set_same, get_or-set_other, get_or-replicate, length-set, length-replicate, Sums.{fold-append}}}
+use Rattle.std.{proofs.Common.{rules, ℕ, ◌≡◌, ◌≤◌, ◌<◌, ◌==◌, Bool, true, false, List, [], ◌∷◌, ◌++◌, get_or, set, replicate, refl, ap, sym, ◌∙◌, arith}, specs.Prelude.{max}}
+use Rattle.std.proofs.lemmas.{Bool.{eqb-true, eqb-false}, List.{get_or-set_same, get_or-set_other, get_or-replicate, length-replicate, Sums.{fold-append}}}
 use Rattle.sh_map.specs.declared.book.{Row.{Row}, Done.{Done}}
 use Rattle.sh_judge.specs.{Reading.{least_after, least_first, with_end, with_last_row, with_row}, Reader.{HasLeast}}
 
@@ -29,10 +29,7 @@ module _ (ends : List ℕ) (dones : List Done) (d : Done) (small : d.seat ≤ 63
 
   -- one call more
   pub has_more : HasLeast (set ends d.seat end) (dones ++ d ∷ [])
-  has_more = record {
-    long = length-set ends d.seat end ∙ was.long;
-    each = λ seat low. more_at seat low (d.seat == seat) refl;
-  }
+  has_more = search (rules, more_at)
 
 row_on : (front : List Done) (d : Done) (row : Row) → front ++ with_row d row ∷ [] ≡ with_last_row (front ++ d ∷ []) row
 row_on [] d row = refl

@@ -1,5 +1,5 @@
 -- What digits say, and words joined by colons.
-use Rattle.std.proofs.Common.{ℕ, ◌≡◌, ◌≤◌, ◌<◌, ◌+◌, ◌^◌, false, true, List, [], ◌∷◌, ◌++◌, length, Option, Some, None, refl, ap, sym, ◌∙◌, arith, option_map, append_assoc}
+use Rattle.std.proofs.Common.{rules, ℕ, ◌≡◌, ◌≤◌, ◌<◌, ◌+◌, ◌^◌, false, true, List, [], ◌∷◌, ◌++◌, length, Option, Some, None, arith, option_map, append_assoc}
 use Rattle.std.proofs.lemmas.Bool.Decides.{nat_tests}
 use Rattle.sh_sheet.specs.{Number.{are_digits, value_from}, Row.{joined}}
 use Rattle.sh_judge.{specs.Fields.{has_zero, parts_at, value_of, wide_of, word_of, words_spelled}, proofs.Parts.{has_part}}
@@ -22,19 +22,12 @@ pub record IsCut (text ns : List ℕ) (at : ℕ) (left : List (List ℕ)) : Type
   pub words : words_spelled (parts_at 58 text) ≡ behind ns (words_spelled left)
 
 behind_more : (ns : List ℕ) (n : ℕ) (o : Option (List ℕ)) → behind ns (joined (Some n) o) ≡ behind (ns ++ n ∷ []) o
-behind_more ns n None = refl
-behind_more ns n (Some ms) = ap (λ t. Some t) (sym (append_assoc ns (n ∷ []) ms))
+behind_more ns n o = search (rules, append_assoc)
 
 -- one word more
 pub cut_more : (text ns part : List ℕ) (at n : ℕ) (left more : List (List ℕ)) → IsCut text ns at left → left ≡ part ∷ more → Some n ≡ word_of part → IsCut text (ns ++ n ∷ []) (at + 1) more
-cut_more text ns part at n left more was parts word = record {
-  count = was.count ∙ rw parts (omega arith);
-  words = was.words ∙ rw (parts, ← word) (behind_more ns n (words_spelled more));
-}
+cut_more text ns part at n left more was parts word = search (rules, behind_more)
 
 -- more parts than words; a text has at least one part
 pub too_many_parts : (text ns more : List ℕ) (at count : ℕ) → IsCut text ns at (parts_at 58 more) → at ≡ count → None ≡ value_of count text
-too_many_parts text ns more at count was full =
-    let all = was.count in
-    let some = has_part 58 more in
-    grind (arith, nat_tests)
+too_many_parts text ns more at count was full = search (rules, has_part)

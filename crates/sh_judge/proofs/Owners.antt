@@ -1,5 +1,5 @@
 -- The owners of places, with one call more.
-use Rattle.std.proofs.Common.{ℕ, ◌≡◌, ◌≢◌, ◌≤◌, ◌<◌, ◌∙◌, Bool, true, false, List, [], ◌∷◌, ◌++◌, length, get_or, set, Option, Some, None, inl, inr, refl, ap, sym, subst, take, ◌+◌, arith, if◌then◌else◌}
+use Rattle.std.proofs.Common.{rules, ℕ, ◌≡◌, ◌≢◌, ◌≤◌, ◌<◌, ◌∙◌, Bool, true, false, List, [], ◌∷◌, ◌++◌, length, get_or, set, Option, Some, None, inl, inr, ap, sym, subst, take, ◌+◌, arith, if◌then◌else◌}
 use Rattle.std.{specs.{Prelude.{find}, List.{slice_get}, Option.{option_or}}, proofs.lemmas.Bool.{cases_lt, cases_eq, Decides.{nat_tests}}}
 use Rattle.std.proofs.lemmas.{List.{get_or_default, take_more, get_or-set_same, get_or-set_other, length-set, Folds.{find-append}}, Option.{slice_get_past, slice_get-get_or}}
 use Rattle.sh_map.specs.declared.book.Done.{Done}
@@ -7,12 +7,10 @@ use Rattle.sh_judge.specs.{Places.{is_at}, Tables.{AreOwners, is_placed_below}}
 
 module _ (n : ℕ) (all dones : List Done) (d : Done) (owners : List ℕ) (was : AreOwners n all dones owners) where
   found_more : (p : ℕ) (t : Bool) → is_at p d ≡ t → find (is_at p) (dones ++ d ∷ []) ≡ option_or (find (is_at p) dones) (if t then Some d else None)
-  found_more p true e = find-append (is_at p) dones (d ∷ []) ∙ rw e refl
-  found_more p false e = find-append (is_at p) dones (d ∷ []) ∙ rw e refl
+  found_more p t e = search (rules, find-append)
 
   none_more : (x : Option Done) → option_or x None ≡ x
-  none_more None = refl
-  none_more (Some y) = refl
+  none_more x = search rules
 
   found_kept : (p : ℕ) → is_at p d ≡ false → find (is_at p) dones ≡ find (is_at p) (dones ++ d ∷ [])
   found_kept p e = sym (found_more p false e ∙ none_more (find (is_at p) dones))

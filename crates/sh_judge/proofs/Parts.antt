@@ -1,5 +1,5 @@
 -- Where a text is cut at a byte.
-use Rattle.std.{proofs.Common.{ℕ, ◌≡◌, ◌<◌, ◌≤◌, ◌+◌, ◌-◌, ◌==◌, Bool, true, false, List, [], ◌∷◌, length, take, drop, Option, Some, None, refl, arith}, specs.List.{position, position_or_len}}
+use Rattle.std.{proofs.Common.{rules, ℕ, ◌≡◌, ◌<◌, ◌≤◌, ◌+◌, ◌-◌, ◌==◌, Bool, List, [], ◌∷◌, length, take, drop, Option, Some, None, refl, arith}, specs.List.{position, position_or_len}}
 use Rattle.std.proofs.lemmas.{Bool.Decides.{nat_tests}, List.{take_rest, Splits.{slice_split_first, length-slice_split}}, Option.{cond_some}}
 use Rattle.sh_judge.specs.Fields.{parts_at, text_parts, one_of}
 
@@ -9,8 +9,7 @@ module _ (code : ℕ) where
 
   no_part_more : (b : ℕ) (bs : List ℕ) (t : Bool) → is_here b ≡ t → length (b ∷ bs) ≤ position_or_len is_here (b ∷ bs)
       → (length bs ≤ position_or_len is_here bs → parts_at code bs ≡ bs ∷ []) → parts_at code (b ∷ bs) ≡ (b ∷ bs) ∷ []
-  no_part_more b bs true e h rest = let none = simp e at h in absurd (omega arith)
-  no_part_more b bs false e h rest = let more = simp e at h in simp (e, rest (omega arith))
+  no_part_more b bs t e h rest = search rules
 
   no_part : (text : List ℕ) → length text ≤ position_or_len is_here text → parts_at code text ≡ text ∷ []
   no_part [] h = refl
@@ -32,8 +31,7 @@ module _ (code : ℕ) where
   has_part text = let some = length-slice_split is_here text in omega arith
 
 two_parts : (first : List ℕ) (parts : List (List ℕ)) → 1 ≤ length parts → None ≡ one_of (first ∷ parts)
-two_parts first [] some = absurd (omega arith)
-two_parts first (part ∷ parts) some = refl
+two_parts first parts some = search rules
 
 pub not_one : (code : ℕ) (first more : List ℕ) → None ≡ one_of (first ∷ parts_at code more)
 not_one code first more = two_parts first (parts_at code more) (has_part code more)

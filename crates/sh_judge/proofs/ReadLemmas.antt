@@ -1,11 +1,10 @@
 -- The reading of a text, line by line.
-use Rattle.std.proofs.Common.{ℕ, ◌≡◌, ◌≤◌, ◌+◌, Bool, true, false, List, [], ◌∷◌, length, Some, None, refl, ◌∙◌, arith, if◌then◌else◌}
+use Rattle.std.proofs.Common.{rules, ℕ, ◌≡◌, ◌≤◌, ◌+◌, Bool, true, false, List, ◌∷◌, length, Some, None, refl, ◌∙◌, if◌then◌else◌}
 use Rattle.sh_judge.{specs.{Fields.{parts_at}, Reading.{Reading, Astray, LinesTold, reading_from, told_then, told_with}}, proofs.Parts.{has_part}}
 
 step_of : (words : ℕ) (t : LinesTold) (n : ℕ) (line : List ℕ) (parts : List (List ℕ)) → 1 ≤ length parts
     → reading_from words t n (line ∷ parts) ≡ told_then (told_with words t line) (n + 1) (λ u. reading_from words u (n + 1) parts)
-step_of words t n line [] some = absurd (omega arith)
-step_of words t n line (next ∷ rest) some = refl
+step_of words t n line parts some = search rules
 
 reading_step : (words : ℕ) (t : LinesTold) (n : ℕ) (line more : List ℕ) (parts : List (List ℕ)) → parts ≡ line ∷ parts_at 10 more
     → reading_from words t n parts ≡ told_then (told_with words t line) (n + 1) (λ u. reading_from words u (n + 1) (parts_at 10 more))

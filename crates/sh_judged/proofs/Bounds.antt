@@ -1,5 +1,5 @@
 -- Where a closed book's calls are in range, so is all that it says: what a map has came from some put.
-use Rattle.std.proofs.Common.{ℕ, ◌≡◌, ◌≤◌, ◌<◌, ◌*◌, ◌^◌, List, [], ◌∷◌, length, map, take, Some, refl, sym, ap, subst, ◌∙◌, arith}
+use Rattle.std.proofs.Common.{rules, ℕ, ◌≡◌, ◌≤◌, ◌<◌, ◌*◌, ◌^◌, List, [], ◌∷◌, length, map, take, Some, refl, sym, ap, subst, ◌∙◌, arith}
 use Rattle.std.specs.{Prelude.{slice_get, sum, T}, Cmp.{nat_cmp_total}, FinMap.{entries, entries_sorted, from_entries, get-entries, get-from_entries, is_sorted}}
 use Rattle.std.specs.{List.{AllByRecursion}, Ordering.{nat_cmp}}
 use Rattle.std.proofs.lemmas.{List.{take-append-drop, Sums.{sum_by-cons}}, Option.{slice_get_within}}
@@ -27,11 +27,7 @@ put_is words k key v value fits same = let keys : k ≡ key = cc in let values :
 
 -- the put of an entry that a call made
 made_put : (words : ℕ) (log : List Entry) (d : Done) (call : Call) (answer : Reply) (e : Entry) (key : ℕ) (value : List ℕ) → AnswersAt log d call answer → made call answer ≡ 1 → FitsCall words call → slice_get log d.point ≡ Some e → e.change ≡ change.Put key value → IsPair words key value
-made_put words log d (Put k v) (reply.Some old) e key value a one fits here is = put_is words k key v value fits (ap (λ (x : Entry). x.change) (some_is (sym a ∙ here)) ∙ is)
-made_put words log d (Put k v) reply.None e key value a one fits here is = put_is words k key v value fits (ap (λ (x : Entry). x.change) (some_is (sym a ∙ here)) ∙ is)
-made_put words log d (Del k) (reply.Some old) e key value a one fits here is =
-    let same : change.Del k ≡ change.Put key value = ap (λ (x : Entry). x.change) (some_is (sym a ∙ here)) ∙ is in absurd (cc)
-made_put words log d call answer e key value a one fits here is = absurd (omega (arith, one))
+made_put words log d call answer e key value a one fits here is = search (rules, put_is, some_is)
 
 -- the version of a worn reply is a word
 abbrev pub HasSmallVersion : Reply → Type 0
@@ -56,17 +52,7 @@ module _ (words : ℕ) (log : List Entry) (dones : List Done) (law : IsLawful lo
   old_fits i seat c old here = (value_fits i _ old (sym (IsLegal-at log i (made_entry seat c (Some old)) law.legal here).0)).value_is
 
   answer_fits : (d : Done) (call : Call) (answer : Reply) → AnswersAt log d call answer → HasSmallVersion answer → FitsReply words call answer
-  answer_fits d (Get key) (reply.Some value) a v = (value_fits d.point key value a).value_is
-  answer_fits d (Get key) reply.None a v = tt
-  answer_fits d (Put key value) (reply.Some old) a v = old_fits d.point d.seat (change.Put key value) old a
-  answer_fits d (Put key value) reply.None a v = tt
-  answer_fits d (Put key value) reply.Full a v = tt
-  answer_fits d (Put key value) (reply.Worn version) a v = v
-  answer_fits d (Del key) (reply.Some old) a v = old_fits d.point d.seat (change.Del key) old a
-  answer_fits d (Del key) reply.None a v = tt
-  answer_fits d (Del key) (reply.Worn version) a v = v
-  answer_fits d (Range low high) (reply.Rows upto) a v = a.1
-  answer_fits d call answer a v = absurd a
+  answer_fits d call answer a v = search (rules, value_fits, old_fits)
 
   -- rising rows that have what some map of the log has
   rows_fit : (rows : List Row) → IsRising rows → ((i : ℕ) (value : List ℕ) → i < length rows → get (from_entries (map row_pair rows)) (row_key rows i) ≡ Some value → (p : ℕ) × (get (map_at log p) (row_key rows i) ≡ Some value)) → AllByRecursion (IsFitRow words) rows
@@ -101,14 +87,7 @@ module _ (words : ℕ) (log : List Entry) (dones : List Done) (law : IsLawful lo
 
   -- a call with what isn't said of it yet
   pub fit : (d : Done) → Answers log d → d.first ≤ d.point → length log < 2 ^ 64 → FitsCall words d.call → d.seat ≤ 63 → HasOwnRows d.call d.rows → HasSmallVersion d.reply → IsFit words d
-  fit d a first few call seat own version = record {
-    seat = seat;
-    call = call;
-    answer = answer_fits d d.call d.reply a.row version;
-    first = omega (arith, a.within);
-    point = omega (arith, a.within);
-    rows = own_rows d d.call d.reply a.row own;
-  }
+  fit d a first few call seat own version = search (rules, answer_fits, own_rows)
 
 -- the sum of values of at most 8 words
 sum_within : (ws : List ℕ) → AllByRecursion (λ w. w < 2 ^ 64) ws → sum ws ≤ length ws * 18446744073709551615

@@ -1,10 +1,10 @@
 -- A printed number is read back.
-use Rattle.std.proofs.Common.{ℕ, ◌≡◌, ◌≤◌, ◌<◌, ◌+◌, ◌^◌, Bool, true, false, not, List, [], ◌∷◌, length, get_or, Some, ◌⊎◌, None, zero, suc, ◌%◌, refl, sym, ◌∙◌, ap, arith}
+use Rattle.std.proofs.Common.{rules, ℕ, ◌≡◌, ◌≤◌, ◌<◌, ◌+◌, ◌^◌, Bool, true, false, not, List, [], ◌∷◌, length, get_or, Some, ◌⊎◌, None, zero, suc, ◌%◌, refl, sym, ◌∙◌, ap, arith}
 use Rattle.std.specs.{Prelude.{◌==◌, if◌then◌else◌}, Fmt.{decimal}, List.{list_all}, Str.Parse.{AllDigits}}
-use Rattle.std.proofs.lemmas.{Bool.{and_parts, Decides.{nat_tests}}, List.{length-append, get_or_append_left}}
+use Rattle.std.proofs.lemmas.{Bool.{Decides.{nat_tests}}, List.{length-append, get_or_append_left}}
 use Rattle.std.proofs.lemmas.Fmt.{decimal_by_steps_wide, decimal_digit, decimal_is_IsNumeral_wide, length-decimal-le_wide}
 use Rattle.std.proofs.lemmas.Str.Parse.{IsDigitsTest, IsNumeralModel, FoldsDigits, numerals_by_fold, digit_from_value}
-use Rattle.sh_sheet.{specs.Number.{are_digits, is_digit, number_of, value_from}, proofs.Digits.{number_of_digits}}
+use Rattle.sh_sheet.{specs.Number.{are_digits, number_of, value_from}, proofs.Digits.{number_of_digits}}
 use Rattle.sh_judge.{specs.Fields.{has_zero, wide_of, word_of}, proofs.Numbers.{wide_of_digits}}
 
 -- no byte has this code
@@ -12,11 +12,7 @@ abbrev pub lacks : ℕ → List ℕ → Bool
 lacks code bs = list_all (λ b. not (b == code)) bs
 
 digits_test : IsDigitsTest (λ ds. are_digits ds ≡ true)
-digits_test = record {
-  empty = refl;
-  parts = λ c cs e. let k = and_parts (is_digit c) (are_digits cs) e in (grind (arith, nat_tests), k.1);
-  more = λ c cs k e. grind (arith, nat_tests);
-}
+digits_test = search rules
 
 folded : FoldsDigits value_from
 folded = record { empty = λ n. refl; more = λ n c cs k. refl }
@@ -58,6 +54,4 @@ word_decimal n small =
 
 -- a number of two words
 pub wide_decimal : (n : ℕ) → n < 2 ^ 128 → wide_of (decimal n) ≡ Some n
-wide_decimal n small =
-    let wide : n < 10 ^ 64 = omega arith in
-    sym (wide_of_digits (decimal n) n (numeral n wide).0 (sym (plain n wide)) (spelled.from (decimal n) (numeral n wide).1) (value_is n wide) small)
+wide_decimal n small = search (rules, wide_of_digits, numeral, plain, spelled, value_is)

@@ -1,13 +1,13 @@
 -- What a call's line says is read back, field by field.
-use Rattle.std.proofs.Common.{ℕ, ◌≡◌, ◌≤◌, ◌<◌, ◌^◌, Bool, true, false, List, [], ◌∷◌, ◌++◌, length, map, Some, None, option_map, ◌⊎◌, inl, inr, refl, ap, ◌∙◌, arith, if◌then◌else◌}
-use Rattle.std.{specs.{Prelude.{◌==◌, nat_le, nat_lt, codes, option_and_then}, Fmt.{decimal}, List.{AllByRecursion}}, proofs.lemmas.{Bool.Decides.{nat_tests}, List.{length-map}}}
+use Rattle.std.proofs.Common.{rules, ℕ, ◌≡◌, ◌≤◌, ◌<◌, ◌^◌, Bool, true, List, [], ◌∷◌, length, map, Some, None, option_map, ◌⊎◌, inl, inr, refl, ap, ◌∙◌, arith, if◌then◌else◌}
+use Rattle.std.{specs.{Prelude.{◌==◌, nat_lt, codes}, Fmt.{decimal}, List.{AllByRecursion}}, proofs.lemmas.{List.{length-map}}}
 use Rattle.sh_logic.proofs.{Lists.{all_weaker}, Tests.{same_test}}
 use Rattle.sh_map.specs.{declared.{call.{Call.{Call, TheVariants.{Get, Put, Del, Range}}, Reply.{Reply}}, book.{Done.{Done}, Row.{Row}}}, Calls.{IsKey}}
 use Rattle.sh_map.specs.declared.call.Reply.TheVariants as reply
-use Rattle.sh_sheet.specs.Row.{is_key, joined}
+use Rattle.sh_sheet.specs.Row.{joined}
 use Rattle.sh_text.specs.Text.{a_of, b_text, op_text, point_text, reply_text, reply_value, value_text}
-use Rattle.sh_judge.specs.CallLine.{all_rows, call_spelled, done_at, done_spelled, ends_at, ends_of, key_spelled, range_to, reply_spelled, seat_of, some_rows}
-use Rattle.sh_judge.specs.{Fields.{parts_at, two_of, value_of, word_of, words_spelled}, Reading.{row_spelled}}
+use Rattle.sh_judge.specs.CallLine.{call_spelled, done_at, done_spelled, ends_of, key_spelled, reply_spelled, seat_of}
+use Rattle.sh_judge.specs.{Fields.{parts_at, value_of, words_spelled}, Reading.{row_spelled}}
 use Rattle.sh_judged.proofs.{Cuts.{joined_lacks, joined_parts, lacks_both, part_alone, part_before}, Decimals.{decimal_lacks, lacks, word_decimal}, Tells.{ends_for}}
 
 -- a field has neither a line feed nor a comma
@@ -47,9 +47,7 @@ value_read words (w ∷ ws) some h =
     ap (λ t. if t then words_spelled (parts_at 58 (value_text (w ∷ ws))) else None) count ∙ ap words_spelled parts ∙ spelled_words (w ∷ ws) h.each
 
 pub key_read : (key : ℕ) → IsKey key → key_spelled (decimal key) ≡ Some key
-key_read key h =
-    let test : is_key key ≡ true = grind (arith, nat_tests) in
-    ap (option_and_then (λ n. if is_key n then Some n else None)) (word_decimal key (omega arith)) ∙ ap (λ t. if t then Some key else None) test
+key_read key h = search (rules, word_decimal)
 
 -- ---- calls and replies that can be told
 
@@ -89,48 +87,19 @@ pub record IsFit (words : ℕ) (d : Done) : Type 0 where
 
 module _ (words : ℕ) (some : 1 ≤ words) where
   call_read : (call : Call) → FitsCall words call → call_spelled words (op_text call) (decimal (a_of call)) (b_text call) ≡ Some call
-  call_read (Get key) h = ap (option_map (λ k. Get k)) (key_read key h)
-  call_read (Put key value) h =
-      ap (option_and_then (λ k. option_map (λ v. Put k v) (value_of words (value_text value)))) (key_read key h.0) ∙ ap (option_map (λ v. Put key v)) (value_read words value some h.1)
-  call_read (Del key) h = ap (option_map (λ k. Del k)) (key_read key h)
-  call_read (Range low high) h =
-      let test : nat_le low high ≡ true = let le = h.1 in grind (arith, nat_tests) in
-      ap (option_and_then (λ l. option_and_then (range_to l) (word_of (decimal high)))) (key_read low h.0) ∙ ap (option_and_then (range_to low)) (word_decimal high h.2) ∙ ap (λ t. if t then Some (Range low high) else None) test
+  call_read call h = search (rules, option_map, key_read, value_read, word_decimal)
 
   rows_read : (low high upto : ℕ) → upto ≤ high → high < 2 ^ 64 → (t : Bool) → nat_lt upto high ≡ t → reply_spelled words (Range low high) (if t then codes "part" else codes "rows") (decimal upto) ≡ Some (reply.Rows upto)
-  rows_read low high upto h small true e = ap (option_and_then (some_rows high)) (word_decimal upto (omega arith)) ∙ ap (λ t. if t then Some (reply.Rows upto) else None) e
-  rows_read low high upto h small false e =
-      let test : (upto == high) ≡ true = grind (arith, nat_tests) in
-      ap (option_and_then (all_rows high)) (word_decimal upto (omega arith)) ∙ ap (λ t. if t then Some (reply.Rows upto) else None) test
+  rows_read low high upto h small t e = search (rules, word_decimal)
 
   answer_read : (call : Call) (answer : Reply) → FitsCall words call → FitsReply words call answer → reply_spelled words call (reply_text call answer) (reply_value answer) ≡ Some answer
-  answer_read (Range low high) (reply.Rows upto) c h = rows_read low high upto h c.2 (nat_lt upto high) refl
-  answer_read (Get key) (reply.Some value) c h = ap (option_map (λ v. reply.Some v)) (value_read words value some h)
-  answer_read (Put key put) (reply.Some value) c h = ap (option_map (λ v. reply.Some v)) (value_read words value some h)
-  answer_read (Del key) (reply.Some value) c h = ap (option_map (λ v. reply.Some v)) (value_read words value some h)
-  answer_read (Get key) reply.None c h = refl
-  answer_read (Put key put) reply.None c h = refl
-  answer_read (Del key) reply.None c h = refl
-  answer_read (Put key put) reply.Full c h = refl
-  answer_read (Put key put) (reply.Worn version) c h = ap (option_map (λ v. reply.Worn v)) (word_decimal version h)
-  answer_read (Del key) (reply.Worn version) c h = ap (option_map (λ v. reply.Worn v)) (word_decimal version h)
-  answer_read call answer c h = absurd h
+  answer_read call answer c h = search (rules, rows_read, option_map, value_read, word_decimal)
 
   ends_read : (answer : Reply) (least first point : ℕ) → first < 2 ^ 64 → point < 2 ^ 64 → ends_of answer least (point_text answer first point) ≡ Some (ends_for answer least first point)
-  ends_read (reply.Some value) least first point f p = ap (option_map (λ x. ends_at x x)) (word_decimal point p)
-  ends_read reply.None least first point f p = ap (option_map (λ x. ends_at x x)) (word_decimal point p)
-  ends_read (reply.Rows upto) least first point f p =
-      let apart : (n : ℕ) → n < 2 ^ 64 → lacks 58 (decimal n) ≡ true = λ n small. decimal_lacks n (omega arith) 58 (inr (omega arith)) in
-      let parts : parts_at 58 (decimal first ++ 58 ∷ decimal point) ≡ decimal first ∷ decimal point ∷ [] = part_before 58 (decimal first) (decimal point) (apart first f) ∙ ap (λ ps. decimal first ∷ ps) (part_alone 58 (decimal point) (apart point p)) in
-      ap (λ ps. option_and_then (λ f. option_and_then (λ a. option_map (λ b. ends_at a b) (word_of f.second)) (word_of f.first)) (two_of ps)) parts
-      ∙ ap (λ o. option_and_then (λ a. option_map (λ b. ends_at a b) o) (word_of (decimal first))) (word_decimal point p) ∙ ap (option_and_then (λ a. Some (ends_at a point))) (word_decimal first f)
-  ends_read reply.Full least first point f p = refl
-  ends_read (reply.Worn version) least first point f p = refl
+  ends_read answer least first point f p = search (rules, option_map, word_decimal, lacks, decimal_lacks, part_before, part_alone)
 
   seat_read : (seat : ℕ) → seat ≤ 63 → seat_of (decimal seat) ≡ Some seat
-  seat_read seat h =
-      let test : nat_le seat 63 ≡ true = grind (arith, nat_tests) in
-      ap (option_and_then (λ n. if nat_le n 63 then Some n else None)) (word_decimal seat (omega arith)) ∙ ap (λ t. if t then Some seat else None) test
+  seat_read seat h = search (rules, word_decimal)
 
   -- the call that its line says
   pub done_read : (d : Done) (least : ℕ → ℕ) → IsFit words d
@@ -144,10 +113,7 @@ module _ (words : ℕ) (some : 1 ≤ words) where
 
 -- all fields of a call's line are plain
 op_plain : (call : Call) → IsPlain (op_text call)
-op_plain (Get key) = (refl, refl)
-op_plain (Put key value) = (refl, refl)
-op_plain (Del key) = (refl, refl)
-op_plain (Range low high) = (refl, refl)
+op_plain call = search rules
 
 a_plain : (words : ℕ) (call : Call) → FitsCall words call → IsPlain (decimal (a_of call))
 a_plain words (Get key) h = decimal_plain key (omega (arith, h.1))
@@ -162,16 +128,7 @@ b_plain words (Del key) h = (refl, refl)
 b_plain words (Range low high) h = decimal_plain high (omega (arith, h.2))
 
 word_plain : (call : Call) (answer : Reply) → IsPlain (reply_text call answer)
-word_plain (Range low high) (reply.Rows upto) = by (nat_lt upto high) where
-  by : (t : Bool) → IsPlain (if t then codes "part" else codes "rows")
-  by true = (refl, refl)
-  by false = (refl, refl)
-word_plain (Range low high) (reply.Some value) = (refl, refl)
-word_plain call (reply.Some value) = (refl, refl)
-word_plain call reply.None = (refl, refl)
-word_plain call (reply.Rows upto) = (refl, refl)
-word_plain call reply.Full = (refl, refl)
-word_plain call (reply.Worn version) = (refl, refl)
+word_plain call answer = search rules
 
 told_plain : (words : ℕ) (call : Call) (answer : Reply) → FitsCall words call → FitsReply words call answer → IsPlain (reply_value answer)
 told_plain words (Range low high) (reply.Rows upto) c h = decimal_plain upto (omega (arith, h, c.2))

@@ -1,12 +1,11 @@
 -- The points of a lawful and closed book: each place is that of one call, and the log that they make is the book's own.
-use Rattle.std.proofs.Common.{ℕ, zero, suc, ◌≡◌, ◌≢◌, ◌≤◌, ◌<◌, ◌+◌, Bool, true, false, List, [], ◌∷◌, ◌++◌, length, get_or, take, add-one, Some, refl, sym, ap, ◌∙◌, arith, if◌then◌else◌}
+use Rattle.std.proofs.Common.{rules, ℕ, zero, suc, ◌≡◌, ◌≢◌, ◌≤◌, ◌<◌, ◌+◌, Bool, true, false, List, [], ◌∷◌, ◌++◌, length, get_or, take, add-one, Some, refl, sym, ap, ◌∙◌, arith, if◌then◌else◌}
 use Rattle.std.specs.{Prelude.{All, AllPairs, Any, find, slice_get}, List.{AllByRecursion, sum_by}}
 use Rattle.std.proofs.lemmas.{Bool.Decides.{nat_tests}, List.{take_all, take_more, Elements.{All-from_recursion, All-tail, recursion_from_All}}}
 use Rattle.std.proofs.lemmas.{List.{Sums.{get_or-le-sum_by, sum_by-cons, sum_by-le}}, Option.{get_or_from_slice_get, slice_get_within}}
 use Rattle.sh_logic.proofs.Options.{some_is}
-use Rattle.sh_map.specs.{declared.{call.{Call.{Call, TheVariants.{Put, Del}}, Reply.{Reply}}, log.Entry.{Entry}, book.Done.{Done}}, Book.{Answers, AnswersAt, IsClosed, IsLater, IsLawful, IsOwn, made}}
+use Rattle.sh_map.specs.{declared.{call.{Call.{Call}, Reply.{Reply}}, log.Entry.{Entry}, book.Done.{Done}}, Book.{Answers, AnswersAt, IsClosed, IsLater, IsLawful, IsOwn, made}}
 use Rattle.sh_map.specs.Made.{entries_by}
-use Rattle.sh_map.specs.declared.call.Reply.TheVariants as reply
 use Rattle.sh_judge.specs.{Places.{ArePlaced, count_at, entry_count, entry_of, is_at, log_of, log_to, placed_entry, update_count}, Tables.{is_placed_below}}
 
 -- an updating call's entry stands in the log at its point
@@ -17,18 +16,10 @@ record HasEntry (log : List Entry) (d : Done) : Type 0 where
   seat : entry.seat ≡ d.seat
 
 entry_at : (log : List Entry) (d : Done) (call : Call) (answer : Reply) → d.call ≡ call → d.reply ≡ answer → AnswersAt log d call answer → made call answer ≡ 1 → HasEntry log d
-entry_at log d (Put key value) (reply.Some old) c r a one = record { entry = _; here = a; own = rw (c, r) refl; seat = refl }
-entry_at log d (Put key value) reply.None c r a one = record { entry = _; here = a; own = rw (c, r) refl; seat = refl }
-entry_at log d (Del key) (reply.Some old) c r a one = record { entry = _; here = a; own = rw (c, r) refl; seat = refl }
-entry_at log d call answer c r a one = absurd (omega (arith, one))
+entry_at log d call answer c r a one = search rules
 
 count_is : (d : Done) → entry_count d ≤ 1
-count_is d = by d.call d.reply where
-  by : (call : Call) (answer : Reply) → made call answer ≤ 1
-  by (Put key value) (reply.Some old) = omega arith
-  by (Put key value) reply.None = omega arith
-  by (Del key) (reply.Some old) = omega arith
-  by call answer = omega arith
+count_is d = search rules
 
 pub test_at : (p : ℕ) (d : Done) → is_at p d ≡ true → (made d.call d.reply ≡ 1) × (d.point ≡ p)
 test_at p d e = grind (arith, nat_tests)
@@ -48,14 +39,7 @@ module _ (log : List Entry) where
 
   -- two calls of one seat aren't at one place
   apart : (p : ℕ) (d e : Done) → Answers log d → Answers log e → IsLater d e → e.first ≤ e.point → is_at p d ≡ true → is_at p e ≡ true → ⊥
-  apart p d e a b later first x y =
-      let h = has_entry p d a x in
-      let k = has_entry p e b y in
-      let at_d = test_at p d x in
-      let at_e = test_at p e y in
-      let same : Some h.entry ≡ Some k.entry = sym h.here ∙ ap (slice_get log) (at_d.1 ∙ sym at_e.1) ∙ k.here in
-      let seats : d.seat ≡ e.seat = sym h.seat ∙ ap (λ (x : Entry). x.seat) (some_is same) ∙ k.seat in
-      omega (arith, later seats, first, at_d.0, at_d.1, at_e.1)
+  apart p d e a b later first x y = search (rules, has_entry, test_at, some_is)
 
   none_at : (p : ℕ) (d : Done) (dones : List Done) → is_at p d ≡ true → AllByRecursion (λ e. is_at p d ≡ true → is_at p e ≡ true → ⊥) dones → count_at p dones ≡ 0
   none_at p d [] x h = refl
@@ -81,10 +65,7 @@ module _ (log : List Entry) where
     by false is rest = omega (arith, head_at p d dones false is, rest)
 
   some_at : (p : ℕ) (dones : List Done) → Any (IsOwn p) dones → 1 ≤ count_at p dones
-  some_at p dones any =
-      let (k, d, within, here, own) = any in
-      let one : one_if (is_at p (get_or dones k d)) ≡ 1 = rw (here, at_test p d own) refl in
-      omega (arith, get_or-le-sum_by (λ f. one_if (is_at p f)) dones k d within, one)
+  some_at p dones any = search (rules, at_test, get_or-le-sum_by)
 
   -- ---- the log
 

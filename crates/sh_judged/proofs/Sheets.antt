@@ -1,10 +1,10 @@
 -- The words of a sheet's values are below 2^64.
-use Rattle.std.proofs.{Common.{ℕ, ◌≡◌, ◌<◌, ◌^◌, Bool, true, false, List, [], ◌∷◌, ◌++◌, length, Option, Some, None, Ok, Err, option_map, refl, subst, arith}, lemmas.Bool.Decides.{nat_tests}}
+use Rattle.std.proofs.{Common.{rules, ℕ, ◌≡◌, ◌<◌, ◌^◌, Bool, true, false, List, [], ◌∷◌, ◌++◌, length, Option, Some, None, Ok, Err, option_map, subst}}
 use Rattle.std.specs.{Prelude.{Result, ◌==◌, codes, if◌then◌else◌, nat_lt}, List.{AllByRecursion}, Str.{bytes_eq}}
 use Rattle.sh_logic.proofs.Lists.{all_join}
 use Rattle.sh_base.specs.{Setting.{all_seats}, declared.config.ConfigParts.{ConfigParts}}
 use Rattle.sh_map.specs.declared.call.Call.{Call, TheVariants.{Put}}
-use Rattle.sh_sheet.specs.Number.{is_number, number_of, value_from}
+use Rattle.sh_sheet.specs.Number.{number_of}
 use Rattle.sh_sheet.specs.Row.{by_seat, colon_parts, deed_of, has_bounds, has_key, has_mark, is_heading, is_here, item_in, joined, numbers_of, op_of, or_cause, tested, value_in}
 use Rattle.sh_sheet.specs.{Sheet.{Reading, Items, Refused, marks_in, row_then, rows_from, rows_in}, declared.{status.RowCause.{RowCause}, item.{Mode.{Mode}, Item.{Item}}}}
 use Rattle.sh_sheet.specs.declared.status.RowCause.TheVariants.{BadOp, TurnNotHere, BadNumber, BadSeat, BadKey, BadBounds, BadMark}
@@ -29,15 +29,10 @@ IfGiven (Ok x) = AsksWords x
 IfGiven (Err why) = Unit {0}
 
 number_small : (text : List ℕ) → If (number_of text) (λ n. n < 2 ^ 64)
-number_small text = by (is_number text) refl where
-  by : (t : Bool) → is_number text ≡ t → If (if t then Some (value_from 0 text) else None) (λ n. n < 2 ^ 64)
-  by true e = grind (arith, nat_tests)
-  by false e = tt
+number_small text = search rules
 
 joined_small : (n : Option ℕ) (ns : Option (List ℕ)) → If n (λ m. m < 2 ^ 64) → If ns (AllByRecursion (λ m. m < 2 ^ 64)) → If (joined n ns) (AllByRecursion (λ m. m < 2 ^ 64))
-joined_small None ns a b = tt
-joined_small (Some n) None a b = tt
-joined_small (Some n) (Some ns) a b = (a, b)
+joined_small n ns a b = search rules
 
 numbers_small : (parts : List (List ℕ)) → If (numbers_of parts) (AllByRecursion (λ n. n < 2 ^ 64))
 numbers_small [] = tt
@@ -45,25 +40,20 @@ numbers_small (part ∷ parts) = joined_small (number_of part) (numbers_of parts
 
 module _ {X : Type 0} (P : X → Type 0) where
   one_of : (t : Bool) (x : X) (o : Option X) → P x → If o P → If (if t then Some x else o) P
-  one_of true x o h more = h
-  one_of false x o h more = more
+  one_of t x o h more = search rules
 
   made_of : {A : Type 0} (Q : A → Type 0) (f : A → X) (o : Option A) → If o Q → ((a : A) → Q a → P (f a)) → If (option_map f o) P
-  made_of Q f None h more = tt
-  made_of Q f (Some a) h more = more a h
+  made_of h0 f h2 h more = search rules
 
   any_of : (o : Option X) → ((x : X) → P x) → If o P
-  any_of None all = tt
-  any_of (Some x) all = all x
+  any_of o all = search rules
 
 value_small : (t : Bool) (o : Option (List ℕ)) → If o (AllByRecursion (λ n. n < 2 ^ 64)) → If (if t then o else None) (AllByRecursion (λ n. n < 2 ^ 64))
-value_small true o h = h
-value_small false o h = tt
+value_small t o h = search rules
 
 one_of_all : {X : Type 0} (P : X → Type 0) (a b c d e f g : Bool) (p q r s t u v : X) → P p → P q → P r → P s → P t → P u → P v
     → If (if a then Some p else if b then Some q else if c then Some r else if d then Some s else if e then Some t else if f then Some u else if g then Some v else None) P
-one_of_all P a b c d e f g p q r s t u v hp hq hr hs ht hu hv =
-    one_of P a p _ hp (one_of P b q _ hq (one_of P c r _ hr (one_of P d s _ hs (one_of P e t _ ht (one_of P f u _ hu (one_of P g v None hv tt))))))
+one_of_all h0 a b c d e f g p q r s t u v hp hq hr hs ht hu hv = search (rules, one_of)
 
 -- whatever operation it is
 op_words : (words : ℕ) (text : List ℕ) → If (op_of text) (λ o. (seat a : ℕ) (b : List ℕ) → If (deed_of words o a b) (λ d. AsksWords (by_seat seat d)))
@@ -79,12 +69,10 @@ op_words words text =
     (λ seat a b. one_of (λ d. AsksWords (by_seat seat d)) (length b == 0) _ None tt tt)
 
 given : {A : Type 0} (P : A → Type 0) (o : Option A) (why : RowCause) (next : A → Result Item RowCause) → If o P → ((x : A) → P x → IfGiven (next x)) → IfGiven (or_cause o why next)
-given P None why next h more = tt
-given P (Some x) why next h more = more x h
+given h0 h1 why next h more = search rules
 
 passed : (t : Bool) (why : RowCause) (next : Result Item RowCause) → IfGiven next → IfGiven (tested t why next)
-passed true why next h = h
-passed false why next h = tt
+passed t why next h = search rules
 
 row_words : (p : ConfigParts) (mode : Mode) (marks : List ℕ) (row : List (List ℕ)) → IfGiven (item_in p mode marks row)
 row_words p mode marks (first ∷ second ∷ a ∷ b ∷ []) =
@@ -100,8 +88,7 @@ AllAsk (Items heading found) = AllByRecursion AsksWords found
 AllAsk (Refused row why) = Unit {0}
 
 then_words : (heading : Bool) (i : ℕ) (r : Result Item RowCause) (next : Item → Reading) → IfGiven r → ((x : Item) → AsksWords x → AllAsk (next x)) → AllAsk (row_then heading i r next)
-then_words heading i (Ok x) next h more = more x h
-then_words heading i (Err why) next h more = tt
+then_words heading i r next h more = search rules
 
 rows_words : (p : ConfigParts) (mode : Mode) (heading : Bool) (found : List Item) (rows : List (List (List ℕ))) → AllByRecursion AsksWords found → AllAsk (rows_from p mode heading found rows)
 rows_words p mode heading found [] h = h

@@ -1,11 +1,11 @@
 -- The calls as their lines tell them: a call's first isn't printed, and that of a call without a point is the least one that
 -- its seat's earlier calls allow. Told so, a lawful and closed book still is.
-use Rattle.std.proofs.Common.{ℕ, suc, ◌≡◌, ◌≤◌, ◌<◌, ◌+◌, ◌^◌, Bool, true, false, List, [], ◌∷◌, ◌++◌, length, inl, refl, ◌∙◌, arith, length-append}
+use Rattle.std.proofs.Common.{rules, ℕ, suc, ◌≡◌, ◌≤◌, ◌<◌, ◌+◌, ◌^◌, Bool, true, false, List, [], ◌∷◌, ◌++◌, length, inl, refl, ◌∙◌, arith, length-append}
 use Rattle.std.{specs.{Prelude.{◌==◌, ◌&&◌, ◌||◌, All, AllPairs}, List.{AllByRecursion, fold, list_any}}, proofs.lemmas.{Bool.{eqb-true, Decides.{nat_tests}}}}
 use Rattle.std.proofs.lemmas.List.{Elements.{All-from_recursion, All-nil, All-push, All-tail, recursion_from_All}, Quantifiers.{all_pairs_push}}
 use Rattle.std.proofs.lemmas.List.Folds.{Any-from_list_any, list_any-append, list_any-from_Any}
 use Rattle.sh_logic.proofs.Lists.{all_join}
-use Rattle.sh_map.specs.declared.{call.{Call.{Call, TheVariants.{Get, Put, Del, Range}}, Reply.{Reply}}, log.Entry.{Entry}, book.Done.{Done}}
+use Rattle.sh_map.specs.declared.{call.{Call.{Call}, Reply.{Reply}}, log.Entry.{Entry}, book.Done.{Done}}
 use Rattle.sh_map.specs.Book.{Answers, AnswersAt, IsClosed, IsLater, IsLawful, made}
 use Rattle.sh_map.specs.declared.call.Reply.TheVariants as reply
 use Rattle.sh_judge.specs.{declared.call.Span.{Span}, CallLine.{ends_at}, Places.{is_at}, Reading.{least_first, with_end}}
@@ -78,17 +78,7 @@ record Follows (before : List Done) (d : Done) : Type 0 where
 
 -- a call is as good as it is told
 told_row : (log : List Entry) (d : Done) (least : ℕ) (call : Call) (answer : Reply) → AnswersAt log d call answer → AnswersAt log (with_ends d (ends_for answer least d.first d.point)) call answer
-told_row log d least (Get key) (reply.Some value) a = a
-told_row log d least (Get key) reply.None a = a
-told_row log d least (Put key value) (reply.Some old) a = a
-told_row log d least (Put key value) reply.None a = a
-told_row log d least (Put key value) reply.Full a = tt
-told_row log d least (Put key value) (reply.Worn version) a = tt
-told_row log d least (Del key) (reply.Some old) a = a
-told_row log d least (Del key) reply.None a = a
-told_row log d least (Del key) (reply.Worn version) a = tt
-told_row log d least (Range low high) (reply.Rows upto) a = a
-told_row log d least call answer a = absurd a
+told_row log d least call answer a = search rules
 
 -- where it begins and is answered
 record AreEnds (least first point : ℕ) (e : Span) : Type 0 where
@@ -97,17 +87,10 @@ record AreEnds (least first point : ℕ) (e : Span) : Type 0 where
   least_is : (end : ℕ) → end ≤ first → end ≤ least → end ≤ e.first
 
 are_ends : (answer : Reply) (least first point : ℕ) → least ≤ first → first ≤ point → AreEnds least first point (ends_for answer least first point)
-are_ends (reply.Some value) least first point h k = record { begins = omega arith; no_later = omega arith; least_is = λ end a b. omega arith }
-are_ends reply.None least first point h k = record { begins = omega arith; no_later = omega arith; least_is = λ end a b. omega arith }
-are_ends (reply.Rows upto) least first point h k = record { begins = k; no_later = omega arith; least_is = λ end a b. a }
-are_ends reply.Full least first point h k = record { begins = omega arith; no_later = omega arith; least_is = λ end a b. b }
-are_ends (reply.Worn version) least first point h k = record { begins = omega arith; no_later = omega arith; least_is = λ end a b. b }
+are_ends answer least first point h k = search rules
 
 made_one : (call : Call) (answer : Reply) → made call answer ≤ 1
-made_one (Put key value) (reply.Some old) = omega arith
-made_one (Put key value) reply.None = omega arith
-made_one (Del key) (reply.Some old) = omega arith
-made_one call answer = omega arith
+made_one call answer = search rules
 
 module _ (log : List Entry) (few : length log < 2 ^ 63) where
   bounded : (before : List Done) → All (Answers log) before → AllByRecursion (λ x. x.point + made x.call x.reply < 2 ^ 64) before
@@ -174,10 +157,7 @@ module _ (log : List Entry) (few : length log < 2 ^ 63) where
 -- ---- whose entries are whose
 
 same_at : (p : ℕ) (d : Done) (least : ℕ) (call : Call) (answer : Reply) → ((made call answer == 1) && ((ends_for answer least d.first d.point).point == p)) ≡ ((made call answer == 1) && (d.point == p))
-same_at p d least (Put key value) (reply.Some old) = refl
-same_at p d least (Put key value) reply.None = refl
-same_at p d least (Del key) (reply.Some old) = refl
-same_at p d least call answer = refl
+same_at p d least call answer = search rules
 
 any_told : (p : ℕ) (before dones : List Done) → (list_any (is_at p) before || list_any (is_at p) dones) ≡ true → list_any (is_at p) (told_on before dones) ≡ true
 any_told p before [] e = by (list_any (is_at p) before) e where

@@ -1,7 +1,7 @@
 -- A printed text is read whole: the calls with their rows, the map's lines, and the last line.
-use Rattle.std.proofs.Common.{ℕ, ◌≡◌, ◌≤◌, ◌<◌, ◌+◌, ◌^◌, true, false, List, [], ◌∷◌, ◌++◌, length, Option, Some, None, option_map, refl, sym, ap, subst, ◌∙◌, arith, append_assoc, append-nil}
+use Rattle.std.proofs.Common.{rules, ℕ, ◌≡◌, ◌≤◌, ◌<◌, ◌+◌, ◌^◌, true, false, List, [], ◌∷◌, ◌++◌, length, Option, Some, None, option_map, refl, sym, ap, subst, ◌∙◌, arith, append_assoc, append-nil}
 use Rattle.std.proofs.Common.{length-append, if◌then◌else◌}
-use Rattle.std.specs.{Prelude.{◌&&◌, ◌-◌, is_some, nat_lt, codes, slice_get}, Fmt.{decimal}, List.{AllByRecursion, flat_map}, Str.{bytes_eq}, Str.Parse.{AllDigits}}
+use Rattle.std.specs.{Prelude.{◌-◌, is_some, nat_lt, codes, slice_get}, Fmt.{decimal}, List.{AllByRecursion, flat_map}, Str.{bytes_eq}, Str.Parse.{AllDigits}}
 use Rattle.std.proofs.lemmas.{Bool.Decides.{nat_tests}, Fmt.{decimal_is_IsNumeral}}
 use Rattle.std.proofs.lemmas.{List.{map-id}, Str.Parse.{digit_from_value}}
 use Rattle.sh_logic.proofs.{Lists.{all_weaker, slice_get-push_end}, Tests.{same_test, differ_test}}
@@ -28,8 +28,7 @@ line_text f (g ∷ fs) more = ap (λ x. f ++ 44 ∷ x) (line_text g fs more) ∙
 
 -- a number is no word
 no_word : (ds : List ℕ) (c : ℕ) (cs : List ℕ) → 57 < c → AllDigits 10 ds → bytes_eq ds (c ∷ cs) ≡ false
-no_word [] c cs h d = refl
-no_word (x ∷ ds) c cs h d = let k = digit_from_value x d.0 in ap (λ t. t && bytes_eq ds cs) (differ_test x c (λ e. omega (arith, k.1, h, e)))
+no_word ds c cs h d = search (rules, digit_from_value, differ_test)
 
 -- the calls that are told so far, and the rows of the map
 abbrev pub told_so : List Done → List Row → LinesTold

@@ -1,10 +1,9 @@
 -- What a world whose calls have all ended says of them.
-use Rattle.std.proofs.Common.{ℕ, zero, suc, ◌*◌, pow_mono, ◌≡◌, ◌≤◌, ◌<◌, ◌+◌, ◌^◌, Bool, true, false, List, [], ◌∷◌, ◌++◌, length, map, Option, Some, None, refl, sym, subst, arith}
+use Rattle.std.proofs.Common.{rules, ℕ, zero, suc, ◌*◌, pow_mono, ◌≡◌, ◌≤◌, ◌<◌, ◌+◌, ◌^◌, Bool, true, false, List, [], ◌∷◌, ◌++◌, length, map, Option, Some, refl, sym, subst, arith}
 use Rattle.std.{specs.{Prelude.{◌==◌, if◌then◌else◌, filter, is_some, slice_get}, List.{AllByRecursion, list_all}}, proofs.lemmas.{Bool.{and_parts}, List.Elements.{recursion_from_All}}}
 use Rattle.sh_logic.proofs.{Lists.{all_weaker}, Tests.{same_test}}
 use Rattle.sh_base.specs.{declared.config.ConfigParts.{ConfigParts}, Setting.{all_seats, last_version, IsSetting}}
-use Rattle.sh_map.specs.{declared.{call.{Call.{Call, TheVariants.{Get, Put, Del, Range}}, Reply.{Reply}}, log.Entry.{Entry}, book.{Done.{Done}}}, Book.{Answers, AnswersAt}, Calls.{IsInRange}}
-use Rattle.sh_map.specs.declared.call.Reply.TheVariants as reply
+use Rattle.sh_map.specs.{declared.{call.{Call.{Call}, Reply.{Reply}}, log.Entry.{Entry}, book.{Done.{Done}}}, Book.{Answers, AnswersAt}, Calls.{IsInRange}}
 use Rattle.sh_sheet.specs.declared.item.Item.{Item, TheVariants.{Ask}}
 use Rattle.sh_core.specs.{Actors.{Actor, AreAnswered, HasOwnRows}, Causes.{HasCause, HaveCauses}}
 use Rattle.sh_core_says.specs.Books.{counter_in}
@@ -14,8 +13,7 @@ use Rattle.sh_judged.proofs.{Books.{IsTellable}, Bounds.{HasSmallVersion}, Lines
 -- ---- the numbers of the calls
 
 numbered_head : (n : ℕ) (g : Given) (o : Option Reply) (dones : List Done) → is_some o ≡ true → AreNumbered (n + 1) dones → AreNumbered n (done_in n g o ++ dones)
-numbered_head n g None dones e h = absurd (cc)
-numbered_head n g (Some r) dones e h = (refl, h)
+numbered_head n g o dones e h = search rules
 
 pub numbered : (n : ℕ) (calls : List Given) → list_all (λ (g : Given). is_some g.reply) calls ≡ true → AreNumbered n (dones_from n calls)
 numbered n [] e = tt
@@ -45,10 +43,7 @@ pub all_asked : (p : ConfigParts) (calls : List Given) (is : Item → Bool) (ite
 all_asked p calls is items each same h = asked_from p calls each (subst (AllByRecursion AsksWords) (sym same) (filtered is items h))
 
 fits : (p : ConfigParts) (call : Call) → IsInRange p call → HasWords call → FitsCall p.value_words call
-fits p (Get key) h w = h
-fits p (Put key value) h w = (h.0, record { long = h.1; each = w })
-fits p (Del key) h w = h
-fits p (Range low high) h w = (h.0, h.1, omega (arith, h.2))
+fits p call h w = search rules
 
 -- an ended call is one that was asked for
 record IsAskedDone (p : ConfigParts) (d : Done) : Type 0 where
@@ -56,8 +51,7 @@ record IsAskedDone (p : ConfigParts) (d : Done) : Type 0 where
   call : FitsCall p.value_words d.call
 
 asked_head : (p : ConfigParts) (n : ℕ) (g : Given) (o : Option Reply) (dones : List Done) → IsAsked p g → AllByRecursion (IsAskedDone p) dones → AllByRecursion (IsAskedDone p) (done_in n g o ++ dones)
-asked_head p n g None dones a h = h
-asked_head p n g (Some r) dones a h = (record { seat = a.given.seat_is; call = fits p g.call a.given.in_range a.words }, h)
+asked_head p n g o dones a h = search (rules, fits)
 
 asked_dones : (p : ConfigParts) (n : ℕ) (calls : List Given) → AllByRecursion (IsAsked p) calls → AllByRecursion (IsAskedDone p) (dones_from n calls)
 asked_dones p n [] h = tt
@@ -66,8 +60,7 @@ asked_dones p n (g ∷ calls) h = asked_head p n g g.reply (dones_from (n + 1) c
 -- ---- their rows
 
 own_tail : (log : List Entry) (d : Done) (dones : List Done) (seat : ℕ) (t : Bool) → (d.seat == seat) ≡ t → AreAnswered log seat (dones_by seat (d ∷ dones)) → AreAnswered log seat (dones_by seat dones)
-own_tail log d dones seat true e h = (rw e at h).1
-own_tail log d dones seat false e h = rw e at h
+own_tail log d dones seat t e h = search rules
 
 own_rows : (n : ℕ) (log : List Entry) (dones : List Done) → ((seat : ℕ) → seat < n → AreAnswered log seat (dones_by seat dones)) → AllByRecursion (λ d. d.seat < n) dones → AllByRecursion (λ d. HasOwnRows d.call d.rows) dones
 own_rows n log [] h small = tt
@@ -78,11 +71,7 @@ own_rows n log (d ∷ dones) h small =
 -- ---- all of it
 
 small_version : (p : ConfigParts) (counter : ℕ → ℕ) (log : List Entry) (d : Done) (call : Call) (answer : Reply) → last_version p < 2 ^ 64 → HasCause p counter log d.first d.point d.rows call answer → AnswersAt log d call answer → HasSmallVersion answer
-small_version p counter log d (Put key value) (reply.Worn version) small cause a = omega (arith, cause, small)
-small_version p counter log d (Del key) (reply.Worn version) small cause a = omega (arith, cause, small)
-small_version p counter log d (Get key) (reply.Worn version) small cause a = absurd a
-small_version p counter log d (Range low high) (reply.Worn version) small cause a = absurd a
-small_version p counter log d call answer small cause a = tt
+small_version p counter log d call answer small cause a = search rules
 
 tellable : (p : ConfigParts) (counter : ℕ → ℕ) (log : List Entry) (dones : List Done) → last_version p < 2 ^ 64 → all_seats p ≤ 64 → AllByRecursion (IsAskedDone p) dones → AllByRecursion (λ d. HasOwnRows d.call d.rows) dones → HaveCauses p counter log dones → AllByRecursion (Answers log) dones
     → AllByRecursion (IsTellable p.value_words) dones

@@ -1,5 +1,5 @@
 -- A laid pool.
-use Rattle.std.{proofs.Common.{◌≡◌, ◌≢◌, ◌⊎◌, ℕ, zero, suc, ◌+◌, ◌<◌, ◌≤◌, List, length, set, replicate, refl, ap, ◌∙◌, inl, arith}, specs.Prelude.{slice_index}}
+use Rattle.std.{proofs.Common.{rules, ◌≡◌, ◌≢◌, ◌⊎◌, ℕ, zero, suc, ◌+◌, ◌<◌, ◌≤◌, List, length, set, replicate, refl, ◌∙◌, arith}, specs.Prelude.{slice_index}}
 use Rattle.std.proofs.lemmas.List.{length-replicate, length-set, get_or-set_same, get_or-set_other}
 use Rattle.sh_base.specs.{declared.config.ConfigParts.{ConfigParts}, Setting.{node_size, pool_words, IsSetting}, Layout.{root_word, counter_word, node_word, node_part}, Places.{Counter}}
 use Rattle.sh_base.proofs.{LayoutLemmas.{node_word_low}, PlacesLemmas.{are_places_apart}}
@@ -33,12 +33,4 @@ module _ (p : ConfigParts) (lawful : IsSetting p) where
 
   pub are_laid : (old new : List ℕ) (a : Leaf) → old ≡ bare_words p → a ≡ blank_leaf p → length new ≡ length old → node_part p new first_leaf ≡ leaf_words a
       → ((i : ℕ) → (i < node_word p first_leaf) ⊎ (node_word p first_leaf + node_size p ≤ i) → slice_index new i ≡ slice_index old i) → AreLaid p new
-  are_laid old new a bare is long here elsewhere =
-      let from = λ (i : ℕ). ap (λ ws. slice_index ws i) bare in
-      record {
-        long = long ∙ ap length bare ∙ length_bare;
-        leaf = here ∙ ap leaf_words is;
-        root = elsewhere root_word (inl (omega (arith, below_nodes))) ∙ from root_word ∙ bare_root;
-        counter = elsewhere (counter_word p 0) (inl (omega (arith, below_nodes))) ∙ from (counter_word p 0) ∙ bare_counter;
-        zeros = λ i root counter out. elsewhere i out ∙ from i ∙ bare_zero i root counter;
-      }
+  are_laid old new a bare is long here elsewhere = search (rules, length_bare, below_nodes, bare_root, bare_counter, bare_zero)

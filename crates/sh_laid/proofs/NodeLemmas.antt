@@ -1,5 +1,5 @@
 -- A WRITE of a node, one store more.
-use Rattle.std.proofs.{Common.{◌≡◌, ◌⊎◌, ℕ, ◌+◌, ◌<◌, ◌≤◌, List, length, get_or, set, refl, ◌∙◌, inl, inr, arith}, lemmas.{Bool.{cases_eq}, List.{get_or-set_same, get_or-set_other}}}
+use Rattle.std.proofs.{Common.{rules, ◌≡◌, ◌⊎◌, ℕ, ◌+◌, ◌<◌, ◌≤◌, List, length, get_or, set, refl, arith}, lemmas.{Bool.{cases_eq}, List.{get_or-set_same, get_or-set_other}}}
 use Rattle.std.specs.Prelude.{false}
 use Rattle.sh_base.specs.{declared.{config.ConfigParts.{ConfigParts}, plan.{Place.TheVariants.{Body}, WritePlan.{WritePlan}}}, Layout.{node_word}, Plans.{IsWriteOf, place_of, write_steps}}
 
@@ -15,11 +15,7 @@ body_is at offset at' offset' e = (cc, cc)
 
 module _ (old words from : List ℕ) (first step : ℕ) where
   pub stored_more : (at offset : ℕ) → at ≡ first + step → offset ≡ step → first + step < length words → ((o : ℕ) → o < step → get_or words (first + o) 0 ≡ get_or from o 0) → (o : ℕ) → o < step + 1 → get_or (set words at (get_or from offset 0)) (first + o) 0 ≡ get_or from o 0
-  stored_more at offset e f inside before o below = elim (cases_eq o step) [
-    | inl is ↦ rw (e, f, is) (get_or-set_same words (first + step) (get_or from step 0) 0 inside)
-    | inr ne ↦ get_or-set_other words at (first + o) (get_or from offset 0) 0 (λ same. ne (omega arith)) ∙ before o (omega arith)
-  ]
+  stored_more at offset e f inside before o below = search (rules, cases_eq, get_or-set_same, get_or-set_other)
 
   pub others_more : (at word : ℕ) → at ≡ first + step → ((i : ℕ) → (i < first) ⊎ (first + step ≤ i) → get_or words i 0 ≡ get_or old i 0) → (i : ℕ) → (i < first) ⊎ (first + (step + 1) ≤ i) → get_or (set words at word) i 0 ≡ get_or old i 0
-  others_more at word e before i out = get_or-set_other words at i word 0 (λ same. elim out [ inl low ↦ absurd (omega arith) | inr high ↦ absurd (omega arith) ])
-      ∙ before i (elim out [ inl low ↦ inl low | inr high ↦ inr (omega arith) ])
+  others_more at word e before i out = search (rules, get_or-set_other)

@@ -1,5 +1,5 @@
 -- From the lanes of a block of four words to the words.
-use Rattle.std.proofs.Common.{ℕ, ◌≡◌, ◌≢◌, ◌<◌, ◌≤◌, ◌==◌, ◌+◌, ◌-◌, ◌^◌, ◌%◌, Bool, true, false, cond, List, [], ◌∷◌, ◌++◌, length, get_or, drop, map, refl, sym, ap, ◌∙◌, inl, inr, not, arith, w64}
+use Rattle.std.proofs.Common.{rules, ℕ, ◌≡◌, ◌≢◌, ◌<◌, ◌≤◌, ◌==◌, ◌+◌, ◌-◌, ◌^◌, ◌%◌, Bool, true, false, cond, List, [], ◌∷◌, ◌++◌, length, get_or, drop, map, refl, sym, ap, ◌∙◌, inl, inr, not, arith, w64}
 use Rattle.std.specs.List.{prefix_len, count_by}
 use lib.Count.{count_trailing_zeros}
 use lib.Lanes.{chunk, zip2, mask_l, top}
@@ -90,10 +90,7 @@ module _ (xs ys : List ℕ) (long : length xs ≡ 4) (long_b : length ys ≡ 4) 
   none_differ zero = sym (leading_from_mask_l (λ d. d) (zip2 (λ x y. not (x == y)) xs ys) (sym mask_is ∙ zero) ∙ four_lanes)
 
   pub first_differs : mask_l (map (top 63) (zip2 (λ a b. cond (not (a == b)) (2 ^ 64 - 1) 0) xs ys)) % 2 ^ 64 ≢ 0 → count_trailing_zeros 64 (mask_l (map (top 63) (zip2 (λ a b. cond (not (a == b)) (2 ^ 64 - 1) 0) xs ys)) % 2 ^ 64) ≡ prefix_len (λ d. not d) (zip2 (λ x y. not (x == y)) xs ys)
-  first_differs some = ap (count_trailing_zeros 64) mask_is ∙ trailing_mask_l (λ d. d) 64 (zip2 (λ x y. not (x == y)) xs ys) (omega (arith, four_lanes)) (positive _ (λ z. some (mask_is ∙ z)))
-    where
-      positive : (n : ℕ) → n ≢ 0 → 0 < n
-      positive n h = omega arith
+  first_differs some = search (rules, mask_is, trailing_mask_l, four_lanes)
 
 -- ---- empty words
 pub empty_counted : (ws : List ℕ) → count_by (λ x. x == 0) ws ≡ count_empty ws

@@ -1,5 +1,5 @@
 -- A turn of a world adds its acts to the life of its seat.
-use Rattle.std.{proofs.Common.{rules, ◌≡◌, ℕ, ◌-◌, Bool, true, false, cond, Option, Some, None, List, [], ◌∷◌, ◌++◌, length, refl, sym, ap, ◌∙◌}, specs.Prelude.{◌==◌, slice_get, slice_set}}
+use Rattle.std.{proofs.Common.{rules, ◌≡◌, ℕ, Bool, cond, Option, Some, List, [], ◌∷◌, ◌++◌, length, refl, sym, ap, ◌∙◌}, specs.Prelude.{◌==◌, slice_get, slice_set}}
 use Rattle.sh_base.specs.Memory.{found_by}
 use Rattle.sh_map.specs.declared.log.Entry.{Entry}
 use Rattle.sh_client.specs.{declared.state.{Want.{Want}}, Feeds.{fed_by, turned_by}, Giving.{makes}, Machine.{Machine}, Rests.{has_ended}, Wants.{want_of}}
@@ -23,16 +23,14 @@ lived_on m (Takes x ∷ more) life = ap (λ (k : Machine). machine_behind k x) (
 lived_on m (Rests ∷ more) life = ap (λ (k : Machine). lived k (Rests ∷ [])) (lived_on m more life)
 
 settled_client : (k : Machine) (q : Place) (log more : List Entry) (x : Found) (b : Bool) → (cond b (resting q log (machine_behind k x)) (going q log more (machine_behind k x))).client ≡ lived k (cond b (Rests ∷ []) [] ++ Takes x ∷ [])
-settled_client k q log more x true = refl
-settled_client k q log more x false = refl
+settled_client k q log more x b = search rules
 
 module _ (s : State) (seat : ℕ) (q : Place) where
   abbrev ended : Found → Bool
   ended x = has_ended (machine_behind q.client x).phase
 
   look_client : (line : Line) (b : Bool) → cond b (turned_by q.client line.left) (fed_by q.client line.served) ≡ machine_behind q.client (cond b (Turn line.left) (Word line.served))
-  look_client line true = refl
-  look_client line false = refl
+  look_client line b = search rules
 
   pub took_became : (w : Want) → Became s (took s seat q w) seat q.client (turn_acts q.client (finds s seat q w))
   took_became (want.Event e) =
@@ -62,16 +60,13 @@ module _ (s : State) (seat : ℕ) (q : Place) where
   took_became want.Done = record { place = q; set = refl; client = refl }
 
 starts_client : (calls : List Given) (q : Place) (number seen : ℕ) (o : Option Given) → (starts calls q number seen o).client ≡ lived q.client (begins_call o)
-starts_client calls q number seen None = refl
-starts_client calls q number seen (Some g) = refl
+starts_client calls q number seen o = search rules
 
 next_client : (calls : List Given) (q : Place) (seen : ℕ) (o : Option ℕ) → (starts_next calls q seen o).client ≡ lived q.client (begins_next calls o)
-next_client calls q seen None = refl
-next_client calls q seen (Some number) = starts_client calls q number seen (slice_get calls (number - 1))
+next_client calls q seen o = search (rules, starts_client)
 
 pub asked_client : (calls : List Given) (q : Place) (seen : ℕ) (w : Want) → (asked_in calls q seen w).client ≡ lived q.client (begin_acts calls q w)
-asked_client calls q seen want.Done = next_client calls q seen (slice_get q.numbers q.ended)
-asked_client calls q seen w = search rules
+asked_client calls q seen w = search (rules, next_client)
 
 pub turn_lives : (s : State) (seat : ℕ) (q : Place) → slice_get s.seats seat ≡ Some q → Became s (turn_of s seat) seat q.client (acts_at s seat q)
 turn_lives s seat q here =

@@ -1,5 +1,5 @@
 -- Each step keeps the rule.
-use Rattle.std.proofs.Common.{◌≡◌, ◌≢◌, ℕ, zero, suc, ◌+◌, ◌-◌, ◌%◌, ◌^◌, ◌<◌, ◌≤◌, ◌==◌, if◌then◌else◌, Bool, true, false, Option, None, Some, List, [], ◌∷◌, ◌++◌, length, set, get_or, refl, ap, sym, ◌∙◌, subst, arith, eq-eqb, ne_eqb, add-one}
+use Rattle.std.proofs.Common.{rules, ◌≡◌, ◌≢◌, ℕ, zero, suc, ◌+◌, ◌-◌, ◌%◌, ◌^◌, ◌<◌, ◌≤◌, ◌==◌, if◌then◌else◌, Bool, true, false, Option, None, Some, List, [], ◌∷◌, ◌++◌, length, set, get_or, refl, ap, sym, ◌∙◌, subst, arith, eq-eqb, ne_eqb, add-one}
 use mathlib.Core.Option as maybe
 use mathlib.Core.Option.{some, some-injective, some-ne-none}
 use mathlib.Core.Logic.{dite}
@@ -15,13 +15,11 @@ use Rattle.sh_local.proofs.Changes.{Grows, changes, stand_on, more_of, has_same,
 
 -- a fact of the value, if there is one
 fits_if : {T K : Type 0} (fits : K → ℕ → T → Type 0) (c : ℕ) (key : Option K) (o : Option T) → ((x : T) → o ≡ Some x → (k : K) → key ≡ Some k → fits k c x) → (k : K) → key ≡ Some k → FitsIf (fits k c) o
-fits_if fits c key None h k e = tt
-fits_if fits c key (Some x) h k e = h x refl k e
+fits_if fits c key h3 h k e = search rules
 
 -- a later ticket was seen
 ahead_is : (m : ℕ) (b : Bool) (n next : ℕ) → n + m ≡ next → (b ≡ true → n < next) → seen_ahead m b ≡ true → n < next
-ahead_is zero b n next e h z = h z
-ahead_is (suc m) b n next e h z = omega (arith, e)
+ahead_is m b n next e h z = search rules
 
 below_suc : (m n : ℕ) → below m (n + 1) ≡ below m n + (if n == m then 1 else 0)
 below_suc m n = grind (arith, nat_tests)
@@ -39,12 +37,10 @@ mod_suc : (n : ℕ) → (n % 2 ^ 64 + 1) % 2 ^ 64 ≡ (n + 1) % 2 ^ 64
 mod_suc n = mod-add-mod n (2 ^ 64) 1
 
 bit_le : (b : Bool) (parts : ℕ) → 1 ≤ parts → (if b then 1 else 0) ≤ parts
-bit_le true parts h = h
-bit_le false parts h = omega arith
+bit_le b parts h = search rules
 
 pub out_le : (c parts : ℕ) (o : Option Ticket) → ((t : Ticket) → o ≡ Some t → 1 ≤ parts) → waits c o ≤ parts
-out_le c parts None h = omega arith
-out_le c parts (Some t) h = bit_le (t.cell == c) parts (h t refl)
+out_le c parts o h = search (rules, bit_le)
 
 module _ {T K : Type 0} (fits : K → ℕ → T → Type 0) (key : K) (chairs : ℕ) where
   pub draw_kept : (words : List ℕ) (homes : List (maybe.Option (Option T))) (views : List (View T K)) (r : Kept fits key chairs words homes views) (id : ℕ) (v : View T K) (c : ℕ) → get_elem? views id ≡ some v → v.ticket ≡ None → 1 ≤ v.parts → c < length homes
@@ -114,9 +110,7 @@ module _ {T K : Type 0} (fits : K → ℕ → T → Type 0) (key : K) (chairs : 
 
   -- the number of tickets that are out is below 2 ^ 64
   few_out : (words : List ℕ) (homes : List (maybe.Option (Option T))) (views : List (View T K)) (r : Kept fits key chairs words homes views) (c : ℕ) → total (out c) views < 2 ^ 64
-  few_out words homes views r c =
-      let le : total (out c) views ≤ total (λ (x : View T K). x.parts) views = total_le (out c) (λ (x : View T K). x.parts) views (λ i v e. out_le c v.parts v.ticket (λ t z. (r.known i v e).part t z)) in
-      let p = r.parts in let f = r.few in omega arith
+  few_out words homes views r c = search (rules, total_le, out_le)
 
   served_now : (words : List ℕ) (homes : List (maybe.Option (Option T))) (views : List (View T K)) (r : Kept fits key chairs words homes views) (id : ℕ) (v : View T K) → get_elem? views id ≡ some v → v.ticket ≡ Some (held v) → (held v).cell < length homes
       → get_or words (length homes + (held v).cell) 0 ≡ (held v).number % 2 ^ 64 → (held v).number ≡ (r.lines (held v).cell).served

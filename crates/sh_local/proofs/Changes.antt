@@ -1,12 +1,12 @@
 -- One view, one line and one cell's value change, and the rule is kept.
-use Rattle.std.proofs.Common.{◌≡◌, ◌≢◌, ℕ, zero, suc, ◌+◌, ◌<◌, ◌≤◌, Bool, true, Option, Some, List, [], ◌∷◌, ◌++◌, length, set, get_or, refl, ap, sym, ◌∙◌, subst, ⊎_elim, arith, eq-eqb}
+use Rattle.std.proofs.Common.{rules, ◌≡◌, ◌≢◌, ℕ, zero, suc, ◌+◌, ◌<◌, ◌≤◌, Bool, true, Option, Some, List, [], ◌∷◌, ◌++◌, length, set, get_or, refl, ap, sym, ◌∙◌, subst, ⊎_elim, arith, eq-eqb}
 use mathlib.Core.Option as maybe
 use mathlib.Core.Option.{some, some-injective, some-ne-none}
 use mathlib.Core.Logic.{dite}
 use native.Mathlib.Decide.{ℕ_discrete}
 use lib.ListN.{get_elem?}
 use Rattle.atomic_table.proofs.Lists.{at_set, set_here, set_else}
-use Rattle.sh_local.specs.declared.view.{Ticket.{Ticket}, ChairCall.{ChairCall, TheVariants.{Drew, Waited, Turned, Counted, Left}}, View.{View}}
+use Rattle.sh_local.specs.declared.view.{Ticket.{Ticket}, ChairCall.{ChairCall}, View.{View}}
 use Rattle.sh_local.specs.Calls.{ticket, weight_at_home, gave, took, drew_at, draws_of, turned_at, turns_of, below, total, given, taken, waits, out, or_none}
 use Rattle.sh_local.specs.Lines.{Line, before, Seated, StandsInLine, AllStand, KnowsLine, HasTicket, HasTicketTurn, Queue, Kept}
 use Rattle.sh_local.proofs.Sums.{total_set, total_snoc, put, put_here, put_else, at_put, same_at, at_lt}
@@ -26,25 +26,10 @@ pub record Grows {T : Type 0} (id : ℕ) (old new : Line T) (h h' : maybe.Option
 
 module _ {T : Type 0} where
   before_same : (old new : ℕ → Option T) (m : ℕ) → ((n : ℕ) → n < m → new n ≡ old n) → before new m ≡ before old m
-  before_same old new zero h = refl
-  before_same old new (suc n) h = h n (omega arith)
+  before_same old new m h = search rules
 
   pub stand_on : (lines : ℕ → Line T) (id c : ℕ) (l : Line T) (h h' : maybe.Option (Option T)) → Grows id (lines c) l h h' → (a : ChairCall T) → StandsInLine lines a → StandsInLine (put lines c l) a
-  stand_on lines id c l h h' g (Drew d n) s = at_put (λ (z : Line T). n < z.next) lines c l d (λ e. let k : n < (lines c).next = subst (λ x. n < (lines x).next) e s in let m = g.next in omega arith) (λ _. s)
-  stand_on lines id c l h h' g (Waited d n x) (m, is, lt, le) = (m, is, lt, at_put (λ (z : Line T). m ≤ z.served) lines c l d (λ e. let k : m ≤ (lines c).served = subst (λ y. m ≤ (lines y).served) e le in let grown = g.served in omega arith) (λ _. le))
-  stand_on lines id c l h h' g (Turned d n o) s = at_put (λ (z : Line T). (n ≤ z.served) × (o ≡ before z.left n)) lines c l d
-      (λ e.
-      let k : (n ≤ (lines c).served) × (o ≡ before (lines c).left n) = subst (λ x. (n ≤ (lines x).served) × (o ≡ before (lines x).left n)) e s in
-      let le = k.0 in let m = g.served in
-      (omega arith, k.1 ∙ sym (before_same (lines c).left l.left n (λ i lt. g.left i (omega arith)))))
-      (λ _. s)
-  stand_on lines id c l h h' g (Counted d n x) s = at_put (λ (z : Line T). n + x < z.next) lines c l d (λ e. let k : n + x < (lines c).next = subst (λ y. n + x < (lines y).next) e s in let m = g.next in omega arith) (λ _. s)
-  stand_on lines id c l h h' g (Left d n o) s = at_put (λ (z : Line T). (n < z.served) × (o ≡ z.left n)) lines c l d
-      (λ e.
-      let k : (n < (lines c).served) × (o ≡ (lines c).left n) = subst (λ x. (n < (lines x).served) × (o ≡ (lines x).left n)) e s in
-      let lt = k.0 in let m = g.served in
-      (omega arith, k.1 ∙ sym (g.left n lt)))
-      (λ _. s)
+  stand_on lines id c l h h' g a s = search (rules, at_put, before_same)
 
   all_stand_on : (lines : ℕ → Line T) (id c : ℕ) (l : Line T) (h h' : maybe.Option (Option T)) → Grows id (lines c) l h h' → (xs : List (ChairCall T)) → AllStand lines xs → AllStand (put lines c l) xs
   all_stand_on lines id c l h h' g [] s = tt
@@ -56,33 +41,16 @@ module _ {T : Type 0} where
 
   seated_here : (lines : ℕ → Line T) (homes : List (maybe.Option (Option T))) (c : ℕ) (l : Line T) (h' : maybe.Option (Option T)) (i : ℕ) (t : Ticket) → c < length homes → t.cell ≡ c → Seated l (some h') i t
       → Seated (put lines c l t.cell) (get_elem? (set homes c h') t.cell) i t
-  seated_here lines homes c l h' i t lt e s =
-      subst (λ (p : Line T × maybe.Option (maybe.Option (Option T))). Seated p.0 p.1 i t)
-      (λ z. (sym (ap (put lines c l) e ∙ put_here lines c l) z, sym (ap (get_elem? (set homes c h')) e ∙ set_here homes c h' lt) z)) s
+  seated_here lines homes c l h' i t lt e s = search (rules, put, put_here, set_here)
 
   seated_else : (lines : ℕ → Line T) (homes : List (maybe.Option (Option T))) (c : ℕ) (l : Line T) (h' : maybe.Option (Option T)) (i : ℕ) (t : Ticket) → t.cell ≢ c → Seated (lines t.cell) (get_elem? homes t.cell) i t
       → Seated (put lines c l t.cell) (get_elem? (set homes c h') t.cell) i t
-  seated_else lines homes c l h' i t n s =
-      subst (λ (p : Line T × maybe.Option (maybe.Option (Option T))). Seated p.0 p.1 i t)
-      (λ z. (sym (put_else lines c l t.cell n) z, sym (set_else homes c t.cell h' n) z)) s
+  seated_else lines homes c l h' i t n s = search (rules, put_else, set_else)
 
   -- another seat's ticket
   seated_on : (lines : ℕ → Line T) (homes : List (maybe.Option (Option T))) (id c : ℕ) (l : Line T) (h h' : maybe.Option (Option T)) → Grows id (lines c) l h h' → get_elem? homes c ≡ some h → (i : ℕ) (t : Ticket) → i ≢ id
       → Seated (lines t.cell) (get_elem? homes t.cell) i t → Seated (put lines c l t.cell) (get_elem? (set homes c h') t.cell) i t
-  seated_on lines homes id c l h h' g at i t ne s0 = dite (ℕ_discrete t.cell c)
-      (λ (e : t.cell ≡ c).
-      let s : Seated (lines c) (get_elem? homes c) i t = subst (λ x. Seated (lines x) (get_elem? homes x) i t) e s0 in
-      let other : (lines c).holder t.number ≢ id = λ q. ne (sym s.mine ∙ q) in
-      let k = g.least t.number s.least s.drawn other in
-      let m = g.next in let d = s.drawn in
-      seated_here lines homes c l h' i t (at_lt homes c h at) e record {
-        mine = k.1 ∙ s.mine;
-        least = k.0;
-        drawn = omega arith;
-        turn = λ q. let y = s.turn q in let z = g.turn t.number s.drawn other y.0 (some-injective h maybe.none (sym at ∙ y.1)) in (z.0, ap some z.1);
-        ahead = λ q. let y = s.ahead q in omega arith;
-      })
-      (λ (n : t.cell ≢ c). seated_else lines homes c l h' i t n s0)
+  seated_on lines homes id c l h h' g at i t ne s0 = search (rules, seated_here, at_lt, seated_else)
 
 waits_one : (c n : ℕ) (b d : Bool) → waits c (Some (ticket c n b d)) ≡ 1
 waits_one c n b d = rw (eq-eqb c c refl) refl
@@ -103,25 +71,10 @@ module _ {T K : Type 0} where
 
   -- a view with no ticket for the cell c
   has_else : (views : List (View T K)) (id : ℕ) (v w : View T K) (c j n : ℕ) → get_elem? views id ≡ some v → out c v ≡ 0 → HasTicket views j c n → HasTicket (set views id w) j c n
-  has_else views id v w c j n at none (u, e, b, d, is) = (
-    u,
-    set_else views id j w (λ q.
-        let same : u ≡ v = same_at views id u v (ap (get_elem? views) (sym q) ∙ e) at in
-        let one : out c v ≡ 1 = ap (out c) (sym same) ∙ ap (waits c) is ∙ waits_one c n b d in omega (arith, one, none)) ∙ e,
-    b,
-    d,
-    is,
-  )
+  has_else views id v w c j n at none h9 = search (rules, set_else, same_at, waits_one)
 
   turn_else : (views : List (View T K)) (id : ℕ) (v w : View T K) (c j n : ℕ) → get_elem? views id ≡ some v → out c v ≡ 0 → HasTicketTurn views j c n → HasTicketTurn (set views id w) j c n
-  turn_else views id v w c j n at none (u, e, d, is) = (
-    u,
-    set_else views id j w (λ q.
-        let same : u ≡ v = same_at views id u v (ap (get_elem? views) (sym q) ∙ e) at in
-        let one : out c v ≡ 1 = ap (out c) (sym same) ∙ ap (waits c) is ∙ waits_one c n true d in omega (arith, one, none)) ∙ e,
-    d,
-    is,
-  )
+  turn_else views id v w c j n at none h9 = search (rules, set_else, same_at, waits_one)
 
   -- a view that keeps its ticket's number
   pub has_same : (views : List (View T K)) (id : ℕ) (v w : View T K) (t : Ticket) (b' d' : Bool) (c j n : ℕ) → get_elem? views id ≡ some v → v.ticket ≡ Some t → w.ticket ≡ Some (ticket t.cell t.number b' d') → HasTicket views j c n → HasTicket (set views id w) j c n

@@ -1,9 +1,7 @@
 -- Chairs are made and taken in.
-use Rattle.std.proofs.Common.{◌≡◌, ◌≢◌, ℕ, zero, suc, ◌+◌, ◌^◌, ◌<◌, ◌≤◌, true, Option, None, Some, List, [], ◌∷◌, ◌++◌, length, map, replicate, set, get_or, refl, ap, sym, ◌∙◌, subst, ⊎_elim, arith}
+use Rattle.std.proofs.Common.{rules, ◌≡◌, ◌≢◌, ℕ, zero, suc, ◌+◌, ◌^◌, ◌<◌, ◌≤◌, true, Option, None, Some, List, [], ◌∷◌, ◌++◌, length, map, replicate, set, get_or, refl, ap, sym, ◌∙◌, subst, ⊎_elim, arith}
 use mathlib.Core.Option as maybe
 use mathlib.Core.Option.{some, some-injective, some-ne-none}
-use mathlib.Core.Logic.{dite}
-use native.Mathlib.Decide.{ℕ_discrete}
 use lib.ListN.{get_elem?}
 use Rattle.std.proofs.lemmas.{Bool.Decides.{nat_tests}, Option.{none-some}}
 use Rattle.atomic_table.{specs.Table.{Splits, Joins}, proofs.Lists.{at_set, set_else, at_longer, at_snoc}}
@@ -128,8 +126,7 @@ length_zeros zero = refl
 length_zeros (suc n) = ap suc (length_zeros n)
 
 first_known : {T K : Type 0} (key : K) (chairs : ℕ) (lines : ℕ → Line T) (homes : List (maybe.Option (Option T))) (id : ℕ) (v : View T K) → get_elem? (opener key chairs ∷ []) id ≡ some v → KnowsLine key lines homes id v
-first_known key chairs lines homes zero v e = subst (KnowsLine key lines homes 0) (some-injective (opener key chairs) v e) record { key_is = λ k h. sym (some_is h); seated = λ t h. absurd (none-some t h); part = λ t h. absurd (none-some t h); stand = tt; nothing = λ h. refl }
-first_known key chairs lines homes (suc id) v e = absurd (some-ne-none v (sym e))
+first_known key chairs lines homes h4 v e = search (rules, some_is, none-some)
 
 below_zero : (n : ℕ) → below n 0 ≡ 0
 below_zero n = grind (arith, nat_tests)
@@ -173,9 +170,7 @@ module _ {T K : Type 0} (fits : K → ℕ → T → Type 0) (key : K) (chairs : 
   alone j u ne e = omega (arith, total_two part views id j v u at e ne, r.parts, all)
 
   nobody : (c : ℕ) → total (out c) views ≡ 0
-  nobody c = total_none (out c) views (λ j u e. dite (ℕ_discrete j id)
-      (λ (z : j ≡ id). ap (waits c) (ap (λ (x : View T K). x.ticket) (same_at views id u v (ap (get_elem? views) (sym z) ∙ e) at) ∙ none))
-      (λ (z : j ≢ id). omega (arith, out_le c u.parts u.ticket (λ t h. (r.known j u e).part t h), alone j u z e)))
+  nobody c = search (rules, total_none, same_at, out_le, alone)
 
   pub ends_served : (c : ℕ) → c < length homes → (r.lines c).served ≡ (r.lines c).next
   ends_served c lt = let h = there homes c lt in omega (arith, (r.queues c h.0 h.1).line, nobody c)
@@ -189,13 +184,7 @@ module _ {T K : Type 0} (fits : K → ℕ → T → Type 0) (key : K) (chairs : 
   weightless c h e = ap (weight_at_home {T = T}) (empty_at c h e)
 
   pub ends_even : given v ≡ taken v
-  ends_even = omega (
-    arith,
-    r.balance,
-    total_alone given views id v at (λ j u ne e. ap (total gave) ((r.known j u e).nothing (alone j u ne e))),
-    total_alone taken views id v at (λ j u ne e. ap (total took) ((r.known j u e).nothing (alone j u ne e))),
-    total_none weight_at_home homes weightless,
-  )
+  ends_even = search (rules, total_alone, alone, total_none, weightless)
 
   pub ends_empty : (c : ℕ) → c < length homes → get_elem? homes c ≡ some (maybe.some None)
   ends_empty c lt = let h = there homes c lt in h.1 ∙ ap (λ (x : maybe.Option (Option T)). some x) (empty_at c h.0 h.1)

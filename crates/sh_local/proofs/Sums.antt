@@ -1,8 +1,6 @@
 -- Sums over views, and functions that are changed at one place.
-use Rattle.std.proofs.Common.{◌≡◌, ◌≢◌, ℕ, zero, suc, ◌+◌, ◌<◌, ◌≤◌, ◌==◌, if◌then◌else◌, List, [], ◌∷◌, ◌++◌, length, set, refl, ap, sym, ◌∙◌, subst, arith, eq-eqb, ne_eqb}
+use Rattle.std.proofs.Common.{rules, ◌≡◌, ◌≢◌, ℕ, zero, suc, ◌+◌, ◌<◌, ◌≤◌, ◌==◌, if◌then◌else◌, List, [], ◌∷◌, ◌++◌, length, set, refl, ap, sym, ◌∙◌, subst, arith, eq-eqb, ne_eqb}
 use mathlib.Core.Option.{some, some-injective, some-ne-none}
-use mathlib.Core.Logic.{dite}
-use native.Mathlib.Decide.{ℕ_discrete}
 use lib.ListN.{get_elem?}
 use Rattle.sh_local.specs.Calls.{total}
 
@@ -48,9 +46,7 @@ module _ {A : Type 0} where
   put_else f c x d n = subst (λ b. (if b then x else f d) ≡ f d) (sym (ne_eqb d c n)) refl
 
   pub at_put : (P : A → Type 0) (f : ℕ → A) (c : ℕ) (x : A) (d : ℕ) → (d ≡ c → P x) → (d ≢ c → P (f d)) → P (put f c x d)
-  at_put P f c x d here else_ = dite (ℕ_discrete d c)
-      (λ (e : d ≡ c). subst P (sym (ap (put f c x) e ∙ put_here f c x)) (here e))
-      (λ (n : d ≢ c). subst P (sym (put_else f c x d n)) (else_ n))
+  at_put h0 f c x d here else_ = search (rules, put_here, put_else)
 
   pub same_at : (xs : List A) (i : ℕ) (a b : A) → get_elem? xs i ≡ some a → get_elem? xs i ≡ some b → a ≡ b
   same_at xs i a b e f = some-injective a b (sym e ∙ f)

@@ -1,5 +1,5 @@
 -- The chairs that are taken in, one after another.
-use Rattle.std.proofs.Common.{◌≡◌, ℕ, Option, None, List, [], ◌∷◌, ◌++◌, length, ap, sym, subst, arith, length-append}
+use Rattle.std.proofs.Common.{rules, ◌≡◌, ℕ, Option, None, List, [], ◌∷◌, ◌++◌, length, ap, sym, subst, arith, length-append}
 use Rattle.atomic_table.specs.{Table.{Seen, Final}, Seated.{TableId}}
 use Rattle.sh_local.specs.{declared.view.{ChairCall.{ChairCall}, View.{View}}, Calls.{gave, took, drew_at, draws_of, turned_at, turns_of, total, given, taken, both}, Lines.{Line, AllStand}}
 use Rattle.sh_local.{specs.Chairs.{Sitting, AllFree, AllTold, AllNone, TakenIn, Gathered}, proofs.Sums.{total_append, total_snoc}}
@@ -30,15 +30,7 @@ module _ {T K : Type 0} where
   }
 
   pub taken_first : (chairs now : List (Sitting T K)) (x : Sitting T K) → chairs ≡ now ++ x ∷ [] → x.view.ticket ≡ None → x.view.parts ≡ 1 → TakenIn chairs now x.view
-  taken_first chairs now x is none part = record {
-    none = none;
-    parts = omega (arith, ap length is, length-append now (x ∷ []), part);
-    gives = let f : Sitting T K → ℕ = λ s. given s.view in omega (arith, ap (total f) is, total_snoc f now x);
-    takes = let f : Sitting T K → ℕ = λ s. taken s.view in omega (arith, ap (total f) is, total_snoc f now x);
-    draws = λ c n. let f : Sitting T K → ℕ = λ s. draws_of c n s.view in omega (arith, ap (total f) is, total_snoc f now x);
-    turns = λ c n. let f : Sitting T K → ℕ = λ s. turns_of c n s.view in omega (arith, ap (total f) is, total_snoc f now x);
-    told = λ lines s k. subst (AllTold lines) (sym is) (all_told_snoc lines now x k s);
-  }
+  taken_first chairs now x is none part = search (rules, length-append, total_snoc, all_told_snoc)
 
   module _ (fits : K → ℕ → T → Type 0) (key : K) (chairs : ℕ) (words : List ℕ) (slots : List (Option T)) (id : ℕ) (v : View T K) (all : List (Sitting T K)) (t : TakenIn all [] v) (long : length all ≡ chairs) (f : Final (Seen (Holds fits key chairs) id v) words slots) where
     parts_are : v.parts ≡ chairs

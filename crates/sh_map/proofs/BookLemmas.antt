@@ -1,5 +1,5 @@
 -- A book that gains an entry or a Done.
-use Rattle.std.{proofs.Common.{◌≡◌, ◌⊎◌, ℕ, ◌<◌, ◌≤◌, List, [], ◌∷◌, ◌++◌, length, length-append, get_or, Option, Some, sym, ap, ◌∙◌, inl, inr, arith}, specs.Prelude.{slice_get, All, Any}}
+use Rattle.std.{proofs.Common.{rules, ◌≡◌, ◌⊎◌, ℕ, ◌<◌, ◌≤◌, List, [], ◌∷◌, ◌++◌, length, length-append, get_or, Option, Some, sym, ap, ◌∙◌, inl, inr, arith}, specs.Prelude.{slice_get, All, Any}}
 use Rattle.std.proofs.lemmas.{Bool.{cases_lt, cases_eq}, List.{get_or_append_left, Elements.{All-push, All-weaker}, Quantifiers.{all_pairs_push}}, Option.{slice_get_within, slice_get-get_or}}
 use Rattle.sh_logic.proofs.{Options.{some_is}, Lists.{slice_get-append_left, slice_get-push_back}}
 use Rattle.sh_map.specs.{declared.{log.Entry.{Entry}, call.{Call.{Call}, Reply.{Reply}}, book.{Row.{Row}, Done.{Done}}}, Map.{get}, Log.{map_of, map_at, IsNext}}
@@ -36,12 +36,7 @@ module _ (log : List Entry) (e : Entry) where
   Answers-push d h = record { within = omega (arith, h.within, length-append log (e ∷ [])); row = row_later d d.call d.reply h.within h.row }
 
   pub IsLeastPoint-push : (first key : ℕ) (had : Option (List ℕ)) (p : ℕ) → IsLeastPoint log first key had p → IsLeastPoint (log ++ e ∷ []) first key had p
-  IsLeastPoint-push first key had p h = record {
-    from = h.from;
-    within = omega (arith, h.within, length-append log (e ∷ []));
-    here = had_later p key had h.within h.here;
-    least = λ q above below is. h.least q above below (sym (ap (λ m. get m key) (map_at-push log e q (omega (arith, h.within)))) ∙ is);
-  }
+  IsLeastPoint-push first key had p h = search (rules, length-append, had_later, map_at-push)
 
   -- an entry that is its seat's last is so still, or it has a Done, if the new entry's seat has no other without one
   last_stays : (dones : List Done) (i : ℕ) (f : Entry) → slice_get log i ≡ Some f → IsLastOfSeat log i → ((i : ℕ) (f : Entry) → slice_get log i ≡ Some f → f.seat ≡ e.seat → Any (IsOwn i) dones) → Any (IsOwn i) dones ⊎ IsLastOfSeat (log ++ e ∷ []) i

@@ -1,5 +1,5 @@
 -- The least number of a call that breaks a rule, and what a book is that breaks none.
-use Rattle.std.proofs.Common.{◌≡◌, ◌↔◌, ◌⊎◌, ℕ, Bool, true, ◌+◌, ◌<◌, ◌≤◌, List, [], ◌∷◌, ◌++◌, length, get_or, take, Option, Some, None, min, MatchOption, inl, inr, refl, sym, ap, subst, ◌∙◌, arith}
+use Rattle.std.proofs.Common.{rules, ◌≡◌, ◌↔◌, ◌⊎◌, ℕ, Bool, ◌+◌, ◌<◌, ◌≤◌, List, [], ◌∷◌, ◌++◌, length, get_or, take, Option, Some, None, min, MatchOption, inl, inr, refl, sym, ap, subst, ◌∙◌, arith}
 use Rattle.std.{specs.Prelude.{slice_get, IsTrue}, proofs.lemmas.{List.{take-append-le, take_all, get_or_default}, Bool.{cases_lt}, Option.{slice_get_within, slice_get-get_or}}}
 use Rattle.sh_logic.proofs.Lists.{slice_get-append_left, slice_get-push_back, slice_get-push_end}
 use Rattle.sh_map.{specs.{declared.book.Done.{Done}, Judge.{AllFit, IsLeastUnfit}, Tables.{AreKept}}, proofs.WalkLemmas.{one_more}}
@@ -15,10 +15,7 @@ module _ (Fits : List Done → Done → Type 0) (xs : List Done) (d : Done) wher
 
   -- a call that breaks it in the longer list is an old one or the new one
   breaks_back : (i : ℕ) (x : Done) → slice_get (xs ++ d ∷ []) i ≡ Some x → (Fits (take i (xs ++ d ∷ [])) x → ⊥) → ((slice_get xs i ≡ Some x) × (Fits (take i xs) x → ⊥)) ⊎ ((d ≡ x) × (Fits xs d → ⊥))
-  breaks_back i x here breaks = elim (slice_get-push_back xs d x i here) [
-    | inl old ↦ inl (old, λ fits. breaks (subst (λ l. Fits l x) (sym (before_stays i (omega (arith, slice_get_within xs i x old)))) fits))
-    | inr new ↦ inr (new.1, λ fits. breaks (subst (λ l. Fits l x) (sym (ap (λ k. take k (xs ++ d ∷ [])) new.0 ∙ before_stays (length xs) (omega arith) ∙ take_all (length xs) xs (omega arith))) (subst (Fits xs) new.1 fits)))
-  ]
+  breaks_back i x here breaks = search (rules, slice_get-push_back, before_stays, slice_get_within, take_all)
 
   fits_forth : (i : ℕ) (x : Done) → slice_get xs i ≡ Some x → (Fits (take i xs) x → ⊥) → Fits (take i (xs ++ d ∷ [])) x → ⊥
   fits_forth i x here breaks fits = breaks (subst (λ l. Fits l x) (before_stays i (omega (arith, slice_get_within xs i x here))) fits)
@@ -65,7 +62,4 @@ module _ (Fits : List Done → Done → Type 0) (dones : List Done) (at : ℕ) (
 
 -- what was kept of a call that was read
 pub kept_at : (Fits : List Done → Done → Type 0) (dones : List Done) (kept : List Bool) (at : ℕ) (d : Done) (b : Bool) → AreKept Fits dones kept → at < length dones → d ≡ get_or dones at d → b ≡ get_or kept at b → IsTrue b ↔ Fits (take at dones) d
-kept_at Fits dones kept at d b h in_range read is =
-    let same : get_or kept at true ≡ b = get_or_default kept at true b (omega (arith, h.long)) ∙ sym is in
-    let told = h.each at d (slice_get-get_or dones at d in_range ∙ ap Some (sym read)) in
-    (λ yes. told.0 (same ∙ yes), λ fits. sym same ∙ told.1 fits)
+kept_at h0 dones kept at d b h in_range read is = search (rules, get_or_default, slice_get-get_or)

@@ -1,5 +1,5 @@
 -- The last entry of a key.
-use Rattle.std.{proofs.Common.{◌≡◌, ◌≢◌, ◌⊎◌, ℕ, zero, suc, ◌<◌, List, [], ◌∷◌, Some, None, inl, inr, refl, sym, ap, subst, ◌∙◌, arith}, specs.{Prelude.{slice_get}, Ordering.{nat_cmp}}}
+use Rattle.std.{proofs.Common.{rules, ◌≡◌, ◌≢◌, ◌⊎◌, ℕ, zero, suc, ◌<◌, List, [], ◌∷◌, Some, None, inl, inr, refl, sym, ap, subst, ◌∙◌, arith}, specs.{Prelude.{slice_get}, Ordering.{nat_cmp}}}
 use Rattle.std.{specs.FinMap.{empty, get-empty}, proofs.lemmas.Bool.{cases_eq}}
 use Rattle.sh_map.specs.{declared.{log.{Change.{Change, TheVariants.{Put, Del}}, Entry.{Entry}}, call.{Call.{Call}, Reply.{Reply}}, book.Done.{Done}}, Map.{Map, get}}
 use Rattle.sh_map.{specs.{Log.{change_key, left_value, changed, map_from, map_of}, Book.{AnswersAt, Answers}, Laws.{IsLastOfKey, HasNoEntry}}, proofs.LogLemmas.{changed_other}}
@@ -48,12 +48,10 @@ last_or_none (x ∷ log) key = elim (last_or_none log key) [
 
 -- a value is left by a put, and none by a delete
 pub put_left : (change : Change) (key : ℕ) (value : List ℕ) → change_key change ≡ key → left_value change ≡ Some value → change ≡ Put key value
-put_left (Put k v) key value of_key left = cc
-put_left (Del k) key value of_key left = absurd (cc)
+put_left change key value of_key left = search rules
 
 pub del_left : (change : Change) (key : ℕ) → change_key change ≡ key → left_value change ≡ None → change ≡ Del key
-del_left (Put k v) key of_key left = absurd (cc)
-del_left (Del k) key of_key left = ap Del of_key
+del_left change key of_key left = search rules
 
 -- what a map has came from the key's last entry
 pub value_from : (log : List Entry) (key : ℕ) (value : List ℕ) → get (map_of log) key ≡ Some value → (i : ℕ) × (e : Entry) × IsLastOfKey log key i e × (e.change ≡ Put key value)

@@ -1,11 +1,9 @@
 -- A book is lawful where it breaks no rule.
-use Rattle.std.{proofs.Common.{◌≡◌, ℕ, suc, ◌+◌, ◌<◌, ◌≤◌, List, [], ◌∷◌, length, get_or, take, Some, refl, sym, subst, arith, length-take-le}, specs.Prelude.{slice_get, AllPairs}}
+use Rattle.std.{proofs.Common.{rules, ◌≡◌, ℕ, suc, ◌+◌, ◌<◌, ◌≤◌, List, [], ◌∷◌, length, get_or, take, Some, refl, sym, subst, arith, length-take-le}, specs.Prelude.{slice_get, AllPairs}}
 use Rattle.std.proofs.lemmas.{List.{get_or-take}, Option.{slice_get_within, slice_get-get_or, get_or_from_slice_get}}
 use Rattle.sh_map.specs.{declared.{call.{Call.{Call}, Reply.{Reply}}, log.Entry.{Entry}, book.Done.{Done}, misfit.Misfit.{Misfit}}, Map.{Map}, Log.{changed, map_from, IsNext, IsLegalFrom}}
 use Rattle.sh_map.specs.{Book.{AnswersAt, Answers, IsLawful}, Judge.{AnswersAside, RowsAnswer, FitsReply, FitsRows, FitsOrder, FollowsOnSeat, AllFit, AllEntriesFit, IsFirstMisfit}}
 use Rattle.sh_map.proofs.LogLemmas.{IsLegal-at}
-use Rattle.sh_map.specs.declared.call.Call.TheVariants as call
-use Rattle.sh_map.specs.declared.call.Reply.TheVariants as reply
 use Rattle.sh_map.specs.declared.misfit.Misfit.TheVariants as misfit
 
 legal_from : (m : Map) (log : List Entry) → ((i : ℕ) (e : Entry) → slice_get log i ≡ Some e → IsNext (map_from m (take i log)) e) → IsLegalFrom m log
@@ -13,16 +11,13 @@ legal_from m [] h = tt
 legal_from m (e ∷ log) h = (h 0 e refl, legal_from (changed m e.change) log (λ i x is. h (suc i) x is))
 
 answers_whole : (log : List Entry) (d : Done) (asked : Call) (answer : Reply) → AnswersAside log d asked answer → RowsAnswer log d asked answer → AnswersAt log d asked answer
-answers_whole log d (call.Range low high) (reply.Rows upto) aside rows = (aside.0, aside.1, rows.1)
-answers_whole log d asked answer aside rows = aside
+answers_whole log d asked answer aside rows = search rules
 
 answers_aside : (log : List Entry) (d : Done) (asked : Call) (answer : Reply) → AnswersAt log d asked answer → AnswersAside log d asked answer
-answers_aside log d (call.Range low high) (reply.Rows upto) h = (h.0, h.1)
-answers_aside log d asked answer h = h
+answers_aside log d asked answer h = search rules
 
 answers_rows : (log : List Entry) (d : Done) (asked : Call) (answer : Reply) → d.point < length log + 1 → AnswersAt log d asked answer → RowsAnswer log d asked answer
-answers_rows log d (call.Range low high) (reply.Rows upto) within h = (omega arith, h.2)
-answers_rows log d asked answer within h = tt
+answers_rows log d asked answer within h = search rules
 
 module _ (log : List Entry) (dones : List Done) where
   module _ (entries : AllEntriesFit log dones) (replies : AllFit (FitsReply log) dones) (rows : AllFit (FitsRows log) dones) (ordered : AllFit FitsOrder dones) where

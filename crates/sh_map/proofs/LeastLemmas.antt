@@ -1,21 +1,15 @@
 -- The least point of a reply is the first at which the map has this at the key.
-use Rattle.std.{proofs.Common.{◌≡◌, ◌≢◌, ℕ, zero, suc, ◌+◌, ◌-◌, ◌<◌, ◌≤◌, Bool, true, false, List, length, Option, Some, None, refl, ap, subst, arith}, specs.Prelude.{if◌then◌else◌}}
+use Rattle.std.{proofs.Common.{rules, ◌≡◌, ◌≢◌, ℕ, zero, suc, ◌+◌, ◌-◌, ◌<◌, ◌≤◌, Bool, true, false, List, length, Option, refl, subst, arith}, specs.Prelude.{if◌then◌else◌}}
 use mathlib.Core.Logic.{dite}
 use native.Mathlib.Decide.{ℕ_discrete}
 use Rattle.std.proofs.lemmas.Slice.Eq.{bytes_eq-Decides}
 use Rattle.sh_map.specs.{declared.log.Entry.{Entry}, Map.{get}, Log.{map_at}, Points.{had_same, least_from, least_point, IsLeastPoint}}
 
 same_is : (a b : Option (List ℕ)) → had_same a b ≡ true → a ≡ b
-same_is None None e = refl
-same_is None (Some b) e = cc
-same_is (Some a) None e = cc
-same_is (Some a) (Some b) e = ap Some ((bytes_eq-Decides a b).0 e)
+same_is a b e = search (rules, bytes_eq-Decides)
 
 is_same : (a b : Option (List ℕ)) → a ≡ b → had_same a b ≡ true
-is_same None None e = refl
-is_same None (Some b) e = cc
-is_same (Some a) None e = cc
-is_same (Some a) (Some b) e = (bytes_eq-Decides a b).1 (cc)
+is_same a b e = search (rules, bytes_eq-Decides)
 
 module _ (log : List Entry) (first key : ℕ) (had : Option (List ℕ)) where
   abbrev At : ℕ → Type 0

@@ -1,7 +1,7 @@
 -- A log that gains an entry.
-use Rattle.std.proofs.Common.{◌≡◌, ◌≢◌, ◌<◌, ◌+◌, ◌-◌, sym, drop, Result, Ok, Err, ◌∙◌, ℕ, zero, suc, ◌≤◌, List, [], ◌∷◌, ◌++◌, length, get_or, take, Some, refl, ap, subst, arith}
+use Rattle.std.proofs.Common.{rules, ◌≡◌, ◌≢◌, ◌<◌, ◌+◌, ◌-◌, sym, drop, Result, ◌∙◌, ℕ, zero, suc, ◌≤◌, List, [], ◌∷◌, ◌++◌, length, get_or, take, Some, refl, ap, subst, arith}
 use Rattle.std.{specs.{Prelude.{slice_get, OnOk}, FinMap.{empty}}, proofs.{Math.Seq.{take-add}, lemmas.List.{take_more, take-append-le, take_all}}}
-use Rattle.sh_map.{proofs.WalkLemmas.{one_more}, specs.{declared.log.{Change.{Change, TheVariants.{Put, Del}}, Entry.{Entry}}, Map.{Map, get}}}
+use Rattle.sh_map.{proofs.WalkLemmas.{one_more}, specs.{declared.log.{Change.{Change}, Entry.{Entry}}, Map.{Map, get}}}
 use Rattle.sh_map.{specs.Log.{change_key, changed, map_from, map_of, map_at, IsNext, IsLegalFrom, IsLegal}, proofs.MapLemmas.{get-put_other, get-del_other}}
 
 pub map_from-append : (m : Map) (log more : List Entry) → map_from m (log ++ more) ≡ map_from (map_from m log) more
@@ -20,8 +20,7 @@ map_at-length log = ap map_of (take_all (length log) log (omega arith))
 
 -- a change of another key leaves a key
 pub changed_other : (m : Map) (change : Change) (q : ℕ) → q ≢ change_key change → get (changed m change) q ≡ get m q
-changed_other m (Put key value) q differ = get-put_other m key q value differ
-changed_other m (Del key) q differ = get-del_other m key q differ
+changed_other m change q differ = search (rules, get-put_other, get-del_other)
 
 legal_from-append : (m : Map) (log : List Entry) (e : Entry) → IsLegalFrom m log → IsNext (map_from m log) e → IsLegalFrom m (log ++ e ∷ [])
 legal_from-append m [] e h next = (next, tt)
@@ -60,5 +59,4 @@ map_at_on log a b le =
     sym (map_from-append empty (take a log) (take (b - a) (drop a log))) ∙ sym (ap map_of (take-add a (b - a) log)) ∙ ap (map_at log) end
 
 pub ok_weaker : {T E P Q : Type 0} → (P → Q) → (r : Result T E) → OnOk r P → OnOk r Q
-ok_weaker f (Ok x) h = f h
-ok_weaker f (Err e) h = tt
+ok_weaker f h1 h = search rules

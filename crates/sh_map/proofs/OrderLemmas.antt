@@ -1,7 +1,7 @@
 -- Bounds of the calls so far, and rules that are kept.
-use Rattle.std.proofs.Common.{◌≡◌, ◌↔◌, ℕ, ◌+◌, ◌<◌, ◌≤◌, Bool, true, List, [], ◌∷◌, ◌++◌, length, get_or, take, max, Some, inl, inr, sym, ap, subst, ◌∙◌, arith, length-append}
-use Rattle.std.{specs.{Prelude.{IsTrue, unwrap_or}, Ordering.{nat_cmp}, Map.{lookup}, BTreeMap.{BTreeMap, is_at, Updates}}, proofs.lemmas.Bool.{cases_eq}}
-use Rattle.std.proofs.lemmas.{List.{take-append-le, take_all, get_or_append_left, get_or_push, Elements.{All-nil}}, Option.{slice_get_within}}
+use Rattle.std.proofs.Common.{rules, ◌≡◌, ◌↔◌, ℕ, ◌+◌, ◌<◌, ◌≤◌, Bool, true, List, [], ◌∷◌, ◌++◌, length, get_or, take, max, Some, inl, inr, sym, ap, subst, ◌∙◌, arith, length-append}
+use Rattle.std.{specs.{Prelude.{IsTrue, unwrap_or}, Ordering.{nat_cmp}, BTreeMap.{BTreeMap, Updates}}, proofs.lemmas.Bool.{cases_eq}}
+use Rattle.std.proofs.lemmas.{List.{take-append-le, take_all, get_or_append_left, get_or_push}, Option.{slice_get_within}}
 use Rattle.std.specs.BTreeMap as tree
 use Rattle.sh_logic.proofs.Lists.{slice_get-push_back}
 use Rattle.sh_map.{specs.{declared.book.Done.{Done}, Book.{made}, Judge.{FitsOrder}, Tables.{AreKept, AreBounds}}, proofs.{MapLemmas.{apart_test}, WalkLemmas.{all_push, one_more}}}
@@ -10,10 +10,7 @@ abbrev Ends : ℕ → ℕ → Done → Type 0
 Ends seat first x = x.seat ≡ seat → x.point + made x.call x.reply ≤ first
 
 pub bounds_none : (ends : BTreeMap ℕ ℕ) → ends.entries ≡ [] → AreBounds [] 0 ends
-bounds_none ends empty = record {
-  number = λ n. (λ _. All-nil (λ x. x.n < n), λ _. omega arith);
-  end = λ seat first. (λ _. All-nil (Ends seat first), λ _. subst (λ o. unwrap_or o 0 ≤ first) (sym (ap (lookup (is_at (nat_cmp seat))) empty)) (omega arith));
-}
+bounds_none ends empty = search rules
 
 module _ (before : List Done) (above : ℕ) (ends : BTreeMap ℕ ℕ) (h : AreBounds before above ends) (d : Done) where
   -- a test of the bounds is one of the order

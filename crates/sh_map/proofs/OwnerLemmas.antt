@@ -1,5 +1,5 @@
 -- Tables of owners.
-use Rattle.std.proofs.Common.{◌≡◌, ◌≢◌, ◌↔◌, ◌⊎◌, ℕ, ◌+◌, ◌<◌, Bool, true, false, List, [], ◌∷◌, ◌++◌, length, get_or, set, take, replicate, Option, Some, None, inl, inr, refl, sym, ap, subst, ◌∙◌, arith, eq-eqb, length-take-le}
+use Rattle.std.proofs.Common.{rules, ◌≡◌, ◌≢◌, ◌↔◌, ◌⊎◌, ℕ, ◌+◌, ◌<◌, Bool, true, false, List, [], ◌∷◌, ◌++◌, length, get_or, set, take, replicate, Option, Some, None, inl, inr, sym, ap, subst, ◌∙◌, arith, eq-eqb, length-take-le}
 use Rattle.std.specs.{Prelude.{slice_get, Any, IsTrue, MatchOption, nat_eq}, Option.{option_eq}, Ordering.{nat_cmp}, Map.{lookup}, BTreeMap.{BTreeMap, is_at, Updates}}
 use Rattle.std.proofs.lemmas.{Bool.{cases_lt, cases_eq, eqb-true}, List.{get_or-set_same, get_or-set_other, get_or-replicate, length-replicate, length-set}}
 use Rattle.std.proofs.lemmas.Option.{slice_get_within, slice_get-get_or}
@@ -9,10 +9,7 @@ use Rattle.sh_map.{specs.{declared.{log.Entry.{Entry}, book.Done.{Done}}, Book.{
 use Rattle.sh_map.proofs.WalkLemmas.{any_push, one_more}
 
 pub owned_none : (n : ℕ) (owned : List Bool) → owned ≡ replicate n false → AreOwned n [] owned
-owned_none n owned is = record {
-  long = ap length is ∙ length-replicate n false;
-  each = λ i lt. (λ yes. absurd (let no : get_or owned i true ≡ false = ap (λ l. get_or l i true) is ∙ get_or-replicate n i false true lt in cc), λ some. absurd (omega (arith, some.2)));
-}
+owned_none n owned is = search (rules, length-replicate, get_or-replicate)
 
 -- a walk over the calls, one on, which was read
 module _ (n : ℕ) (dones : List Done) (at : ℕ) (d : Done) (in_range : at < length dones) (read : d ≡ get_or dones at d) (owned : List Bool) (h : AreOwned n (take at dones) owned) where
@@ -38,36 +35,17 @@ last_none lasts empty = record { each = λ seat. subst (λ o. MatchOption o (Has
 
 module _ (log : List Entry) (e : Entry) (seat : ℕ) (differ : seat ≢ e.seat) where
   none_push : HasNoPlace log seat → HasNoPlace (log ++ e ∷ []) seat
-  none_push none j f is same = elim (slice_get-push_back log e f j is) [
-    | inl old ↦ none j f old same
-    | inr new ↦ differ (sym same ∙ ap (λ (x : Entry). x.seat) (sym new.1))
-  ]
+  none_push none j f is same = search (rules, slice_get-push_back)
 
   last_push : (i : ℕ) → IsLastPlace log seat i → IsLastPlace (log ++ e ∷ []) seat i
-  last_push i h = record {
-    here = (h.here.0, slice_get-append_left log (e ∷ []) i h.here.0 h.here.1, h.here.2);
-    last = λ j f later is same. elim (slice_get-push_back log e f j is) [
-      | inl old ↦ h.last j f later old same
-      | inr new ↦ differ (sym same ∙ ap (λ (x : Entry). x.seat) (sym new.1))
-    ];
-  }
+  last_push i h = search (rules, slice_get-append_left, slice_get-push_back)
 
   place_push : (o : Option ℕ) → MatchOption o (HasNoPlace log seat) (λ i. IsLastPlace log seat i) → MatchOption o (HasNoPlace (log ++ e ∷ []) seat) (λ i. IsLastPlace (log ++ e ∷ []) seat i)
   place_push None h = none_push h
   place_push (Some i) h = last_push i h
 
 lasts_push : (log : List Entry) (e : Entry) (old new : BTreeMap ℕ ℕ) → AreLastPlaces log old → Updates nat_cmp old new e.seat (Some (length log)) → AreLastPlaces (log ++ e ∷ []) new
-lasts_push log e old new h updates = record {
-  each = λ seat.
-      let P : Option ℕ → Type 0 = λ o. MatchOption o (HasNoPlace (log ++ e ∷ []) seat) (λ i. IsLastPlace (log ++ e ∷ []) seat i) in
-      elim (cases_eq seat e.seat) [
-        | inl same ↦ subst P (sym (ap (tree.get nat_cmp new) same ∙ updates.1)) (record {
-          here = (e, slice_get-push_end log e, sym same);
-          last = λ j f later is. absurd (elim (slice_get-push_back log e f j is) [ inl before ↦ omega (arith, slice_get_within log j f before) | inr end ↦ omega (arith, end.0) ]);
-        })
-        | inr differ ↦ subst P (sym (updates.2 seat (apart_test e.seat seat (λ is. differ (sym is))))) (place_push log e seat differ (tree.get nat_cmp old seat) (h.each seat))
-      ];
-}
+lasts_push log e old new h updates = search (rules, cases_eq, slice_get-push_end, slice_get-push_back, slice_get_within, apart_test, place_push)
 
 -- a walk over the log, one on, which was read
 pub lasts_more : (log : List Entry) (at : ℕ) (e : Entry) (old new : BTreeMap ℕ ℕ) → at < length log → e ≡ get_or log at e → AreLastPlaces (take at log) old → Updates nat_cmp old new e.seat (Some at) → AreLastPlaces (take (at + 1) log) new
@@ -77,22 +55,7 @@ lasts_more log at e old new in_range read h updates =
 
 -- a test of a seat's last place is one of whether an entry is its last
 last_decides : (log : List Entry) (at : ℕ) (e : Entry) (o : Option ℕ) → slice_get log at ≡ Some e → MatchOption o (HasNoPlace log e.seat) (λ i. IsLastPlace log e.seat i) → IsTrue (option_eq nat_eq o (Some at)) ↔ IsLastOfSeat log at
-last_decides log at e None here none = (λ yes. absurd (cc), λ last. absurd (none at e here refl))
-last_decides log at e (Some i) here h = (
-  λ yes j x f later xi fj same.
-      let is : i ≡ at = eqb-true i at yes in
-      h.last j f (omega arith) fj (same ∙ ap (λ (y : Entry). y.seat) (some_is (sym xi ∙ here))),
-  λ last. elim (cases_eq i at) [
-    | inl is ↦ eq-eqb i at is
-    | inr differ ↦ absurd (elim (cases_lt i at) [
-      | inl before ↦ h.last at e before here refl
-      | inr behind ↦ last i e h.here.0 (omega arith) here h.here.1 h.here.2
-    ])
-  ],
-)
+last_decides log at e o here none = search (rules, eqb-true, some_is, cases_eq, eq-eqb, cases_lt)
 
 pub owner_decides : (log : List Entry) (dones : List Done) (owned : List Bool) (lasts : BTreeMap ℕ ℕ) (at : ℕ) (e : Entry) (o : Option ℕ) → at < length log → e ≡ get_or log at e → AreOwned (length log) dones owned → AreLastPlaces log lasts → (IsTrue (get_or owned at true) → ⊥) → o ≡ tree.get nat_cmp lasts e.seat → (b : Bool) → b ≡ option_eq nat_eq o (Some at) → IsTrue b ↔ (Any (IsOwn at) dones ⊎ IsLastOfSeat log at)
-owner_decides log dones owned lasts at e o in_range read are_owned are_last free found b is =
-    let here : slice_get log at ≡ Some e = slice_get-get_or log at e in_range ∙ ap Some (sym read) in
-    let told = last_decides log at e o here (subst (λ r. MatchOption r (HasNoPlace log e.seat) (λ i. IsLastPlace log e.seat i)) (sym found) (are_last.each e.seat)) in
-    (λ yes. inr (told.0 (sym is ∙ yes)), λ own. elim own [ inl some ↦ absurd (free ((are_owned.each at in_range).1 some)) | inr last ↦ is ∙ told.1 last ])
+owner_decides log dones owned lasts at e o in_range read are_owned are_last free found b is = search (rules, slice_get-get_or, last_decides)

@@ -1,5 +1,5 @@
 -- When each key of a range has a point.
-use Rattle.std.proofs.Common.{◌≡◌, ◌↔◌, ◌⊎◌, ℕ, suc, ◌+◌, ◌-◌, ◌<◌, ◌≤◌, Bool, List, [], ◌∷◌, length, get_or, take, drop, map, Option, Some, None, Result, Ok, Err, IfOk, inl, inr, refl, sym, ap, subst, ◌∙◌, arith, length-drop, length-take-le}
+use Rattle.std.proofs.Common.{rules, ◌≡◌, ◌↔◌, ◌⊎◌, ℕ, suc, ◌+◌, ◌-◌, ◌<◌, ◌≤◌, Bool, List, [], ◌∷◌, length, get_or, take, drop, map, Option, None, Result, IfOk, inl, inr, refl, sym, ap, subst, ◌∙◌, arith, length-drop, length-take-le}
 use Rattle.std.specs.{Prelude.{IsTrue, IsSome, Contains, All, AllPairs}, Ordering.{nat_cmp}, Cmp.{nat_cmp_total}, FinMap.{empty, find, get-from_entries}, declared.alloc.AllocError.{AllocError}}
 use Rattle.std.{proofs.{lemmas.{Bool.{cases_eq}, List.Elements.{All-contains}}, Math.Seq.{take-add, take-take}}, specs.BTreeSet.{BTreeSet}}
 use Rattle.sh_map.specs.{declared.{log.Entry.{Entry}, book.Row.{Row}}, Map.{Map, get, row_pair}, Log.{map_from, map_of, map_at}, Book.{AnswersRange}, Rows.{RowHasPoint}}
@@ -20,8 +20,7 @@ lacks : (m : Map) (rows : List Row) (key : ℕ) → find nat_cmp key (map row_pa
 lacks m rows key no_row no_value = no_value ∙ sym (get-from_entries nat_cmp_total (map row_pair rows) key ∙ no_row)
 
 some_or_none : (o : Option (List ℕ)) → IsSome o ⊎ (o ≡ None)
-some_or_none None = inr refl
-some_or_none (Some v) = inl refl
+some_or_none o = search rules
 
 -- where the rows' keys and those that stand in the map are given, all keys have a point, and the other way round
 module _ (m : Map) (log : List Entry) (rows : List Row) (keys : List ℕ) (low upto : ℕ) (met : BTreeSet ℕ) (are_met : AreMet log rows met) where
@@ -74,5 +73,4 @@ module _ (log : List Entry) (a b low upto : ℕ) (rows : List Row) (ordered : a 
 
   -- a test of the keys' points is one of the range
   pub range_decides : (r : Result Bool AllocError) → AllPairs (λ x y. x.key < y.key) rows → All (λ x. (low ≤ x.key) × (x.key < upto)) rows → IfOk r (λ yes. IsTrue yes ↔ ((key : ℕ) → RowHasPoint (map_of (take a log)) (take (b - a) (drop a log)) rows low upto key)) → IfOk r (λ yes. IsTrue yes ↔ ((b ≤ length log) × AnswersRange log a b low upto rows))
-  range_decides (Ok answered) rising inside told = (λ t. (within, range_from_points rising inside (told.0 t)), λ h. told.1 (points_from_range h.1))
-  range_decides (Err e) rising inside told = tt
+  range_decides r rising inside told = search (rules, range_from_points, points_from_range)

@@ -1,7 +1,7 @@
 -- What rows and points say of a range.
-use Rattle.std.proofs.Common.{◌≡◌, ◌↔◌, ◌⊎◌, ℕ, zero, suc, ◌+◌, ◌-◌, ◌<◌, ◌≤◌, true, false, List, [], ◌∷◌, length, get_or, take, map, Option, inl, inr, refl, sym, ap, subst, ◌∙◌, arith, length-take-le}
+use Rattle.std.proofs.Common.{rules, ◌≡◌, ◌↔◌, ◌⊎◌, ℕ, zero, suc, ◌+◌, ◌-◌, ◌<◌, ◌≤◌, true, List, [], ◌∷◌, length, get_or, take, map, Option, inl, inr, refl, sym, ap, subst, ◌∙◌, arith, length-take-le}
 use Rattle.std.{proofs.lemmas.{List.{take_more, get_or-take, get_or_default}, Bool.{cases_eq}}, specs.{Prelude.{T, IsTrue, AllPairs, Any}, Ordering.{nat_cmp}, FinMap.Entries.{below_all}}}
-use Rattle.std.{proofs.lemmas.List.Quantifiers.{all_pairs_push}, specs.{List.{list_any}, BTreeMap.{is_at}, BTreeSet.{BTreeSet, contains, Updates}}}
+use Rattle.std.{proofs.lemmas.List.Quantifiers.{all_pairs_push}, specs.{BTreeSet.{BTreeSet, contains, Updates}}}
 use Rattle.sh_logic.proofs.Tests.{both}
 use Rattle.sh_map.specs.{declared.{log.Entry.{Entry}, book.Row.{Row}}, Map.{Map, get, row_pair}, Log.{change_key, left_value, changed, map_from}, Rows.{IsRising, Becomes}}
 use Rattle.sh_map.{specs.Tables.{AreMet, IsGivenValue, given_value}, proofs.{MapLemmas.{apart_test}, WalkLemmas.{any_push, one_more}, LogLemmas.{changed_other}, ReplyLemmas.{changed_here}}}
@@ -61,12 +61,7 @@ given_becomes m log rows met key are_met = (
 )
 
 pub met_none : (rows : List Row) (met : BTreeSet ℕ) → met.keys ≡ [] → AreMet [] rows met
-met_none rows met empty = record {
-  each = λ key. (
-    λ yes. absurd (let no : contains nat_cmp met key ≡ false = ap (list_any (is_at (nat_cmp key))) empty in cc),
-    λ some. absurd (omega (arith, some.2)),
-  );
-}
+met_none rows met empty = search rules
 
 -- a walk over the entries, one on, which was read
 module _ (log : List Entry) (at : ℕ) (e : Entry) (in_range : at < length log) (read : e ≡ get_or log at e) (rows : List Row) (met : BTreeSet ℕ) (h : AreMet (take at log) rows met) where
@@ -80,15 +75,7 @@ module _ (log : List Entry) (at : ℕ) (e : Entry) (in_range : at < length log) 
   })
 
   pub met_more : (key : ℕ) (new : BTreeSet ℕ) → key ≡ change_key e.change → left_value e.change ≡ given_value rows key → Updates nat_cmp met new key true → AreMet (take (at + 1) log) rows new
-  met_more key new is left updates = met_push new (λ q. elim (cases_eq q key) [
-    | inl same ↦ (
-      λ _. inr (sym is ∙ sym same, left ∙ ap (given_value rows) (sym same)),
-      λ _. ap (contains nat_cmp new) same ∙ updates.1,
-    )
-    | inr differ ↦
-        let stays : contains nat_cmp new q ≡ contains nat_cmp met q = updates.2 q (apart_test key q (λ e. differ (sym e))) in
-        (λ yes. inl (sym stays ∙ yes), λ some. elim some [ inl old ↦ stays ∙ old | inr here ↦ absurd (differ (sym here.0 ∙ sym is)) ])
-  ])
+  met_more key new is left updates = search (rules, met_push, cases_eq, apart_test)
 
   pub met_same : (left_value e.change ≡ given_value rows (change_key e.change) → ⊥) → AreMet (take (at + 1) log) rows met
   met_same other = met_push met (λ q. (λ yes. inl yes, λ some. elim some [ inl old ↦ old | inr here ↦ absurd (other (here.1 ∙ ap (given_value rows) (sym here.0))) ]))

@@ -1,11 +1,10 @@
 -- What a key has after a log.
-use Rattle.std.proofs.Common.{◌≡◌, ℕ, ◌+◌, ◌<◌, List, length, get_or, sym, ap, ◌∙◌}
-use Rattle.sh_map.{specs.{declared.log.{Change.{Change, TheVariants.{Put, Del}}, Entry.{Entry}}, Map.{Map, get}, Log.{change_key, left_value, changed, map_at}}, proofs.MapLemmas.{get-put, get-del}}
+use Rattle.std.proofs.Common.{rules, ◌≡◌, ℕ, ◌+◌, ◌<◌, List, length, get_or, sym, ap, ◌∙◌}
+use Rattle.sh_map.{specs.{declared.log.{Change.{Change}, Entry.{Entry}}, Map.{Map, get}, Log.{change_key, left_value, changed, map_at}}, proofs.MapLemmas.{get-put, get-del}}
 use Rattle.sh_map.proofs.LogLemmas.{map_more}
 
 pub changed_here : (m : Map) (change : Change) → get (changed m change) (change_key change) ≡ left_value change
-changed_here m (Put key value) = get-put m key value
-changed_here m (Del key) = get-del m key
+changed_here m change = search (rules, get-put, get-del)
 
 -- a walk over a log, one entry on, which was read
 module _ (log : List Entry) (at : ℕ) (e : Entry) (in_range : at < length log) (read : e ≡ get_or log at e) where
@@ -14,7 +13,4 @@ module _ (log : List Entry) (at : ℕ) (e : Entry) (in_range : at < length log) 
 
 -- a change is known by its key and what it leaves
 pub same_change : (a b : Change) → change_key a ≡ change_key b → left_value a ≡ left_value b → a ≡ b
-same_change (Put key value) (Put other given) k v = cc
-same_change (Put key value) (Del other) k v = absurd (cc)
-same_change (Del key) (Put other given) k v = absurd (cc)
-same_change (Del key) (Del other) k v = ap Del k
+same_change a b k v = search rules

@@ -1,5 +1,5 @@
 -- What a search finds among rising rows, and what an edit there makes of the map.
-use Rattle.std.proofs.Common.{◌≡◌, ◌≢◌, ℕ, zero, suc, ◌<◌, ◌≤◌, cond, List, [], ◌∷◌, length, get_or, set, map, Some, None, Result, Ok, Err, IfOk, IfErr, Less, Equal, Greater, refl, sym, ap, ◌∙◌, subst, arith}
+use Rattle.std.proofs.Common.{rules, ◌≡◌, ◌≢◌, ℕ, zero, suc, ◌<◌, ◌≤◌, cond, List, [], ◌∷◌, length, get_or, set, map, Some, None, Result, Ok, Err, IfOk, IfErr, Less, Equal, Greater, refl, sym, ap, ◌∙◌, subst, arith}
 use Rattle.std.specs.{Prelude.{T}, List.{insert, remove, Sorted.{IsSearchInRange, IsBinarySearchResult, IsNonDecreasingBy}}, Ordering.{nat_cmp, ordering_index, is_lt, eq_by_cmp}}
 use Rattle.std.{specs.Cmp.{nat_cmp_is, nat_cmp_total}, proofs.lemmas.{Cmp.{ranked}, List.Sorted.{IsNonDecreasingBy-from_default}, Bool.Decides.{nat_tests}}}
 use Rattle.std.specs.FinMap.{find, is_sorted, entries, from_entries, get-from_entries, entries-from_sorted, entries-insert, get-from_sorted, same_entries_map, empty, empty_of_len, len-entries}
@@ -8,11 +8,7 @@ use Rattle.sh_logic.proofs.Tests.{first, second, both}
 use Rattle.sh_map.{specs.{Map.{get, del, row_pair, put as map_put}, declared.book.Row.{Row}, Rows.{nothing, IsRising, map_of_rows, row_key, IsRowAt, IsGapFor}}, proofs.MapLemmas.{apart_test, is_del}}
 
 pub less : (x y : ℕ) → T (is_lt (nat_cmp x y)) → x < y
-less x y h = elim (nat_cmp x y) as (λ r. r ≡ nat_cmp x y → T (is_lt r) → x < y) [
-  | Less ↦ λ e t. ranked x y Less e
-  | Equal ↦ λ e t. absurd t
-  | Greater ↦ λ e t. absurd t
-] refl h
+less x y h = search (rules, ranked)
 
 below_first : (x : ℕ) (rows : List Row) (i : ℕ) → T (below_all nat_cmp x (map row_pair rows)) → i < length rows → x < row_key rows i
 below_first x [] i h lt = absurd (omega arith)
@@ -109,8 +105,7 @@ map_of_no_rows = empty_of_len (map_of_rows []) (len-entries (map_of_rows []) ∙
 
 -- what the map has, by a search
 pub get_found : (rows : List Row) (key i : ℕ) (read : Row) → IsRising rows → IsRowAt rows key i → read ≡ get_or rows i read → Some read.value ≡ get (map_of_rows rows) key
-get_found rows key i read rising at is =
-    sym (get_rows rows key rising ∙ find_at rows key i rising at ∙ ap (λ (r : Row). Some r.value) (sym (is ∙ get_or_default rows i read nothing at.in_range)))
+get_found rows key i read rising at is = search (rules, get_rows, find_at, get_or_default)
 
 pub get_missed : (rows : List Row) (key i : ℕ) → IsRising rows → IsGapFor rows key i → None ≡ get (map_of_rows rows) key
 get_missed rows key i rising gap = sym (get_rows rows key rising ∙ find_in_gap rows key i gap)
@@ -145,9 +140,7 @@ find_removed_other (r ∷ rows) key zero q at differ = rw (apart_test q r.key (�
 find_removed_other (r ∷ rows) key (suc i) q at differ = ap (cond (eq_by_cmp nat_cmp q r.key) (Some r.value)) (find_removed_other rows key i q (at_tail r rows key i at) differ)
 
 pub view_removed : (rows : List Row) (key i : ℕ) → IsRising rows → IsRowAt rows key i → map_of_rows (remove rows i) ≡ del (map_of_rows rows) key
-view_removed rows key i rising at = is_del _ _ key
-    (get_rows (remove rows i) key (rising_removed rows i rising) ∙ find_removed rows key i rising at)
-    (λ q differ. get_rows (remove rows i) q (rising_removed rows i rising) ∙ find_removed_other rows key i q at differ ∙ sym (get_rows rows q rising))
+view_removed rows key i rising at = search (rules, is_del, get_rows, rising_removed, find_removed, find_removed_other)
 
 -- the rows are the map's entries
 pub entries_are : (rows : List Row) → IsRising rows → map row_pair rows ≡ entries (map_of_rows rows)

@@ -1,10 +1,10 @@
 -- A sweep over finished calls in the order of their points.
-use Rattle.std.proofs.Common.{◌≡◌, ◌↔◌, ◌⊎◌, ℕ, ◌+◌, ◌<◌, Bool, true, List, [], ◌∷◌, ◌++◌, length, get_or, set, take, replicate, Some, inl, inr, refl, sym, ap, subst, ◌∙◌, arith, length-append, length-take-le}
+use Rattle.std.proofs.Common.{rules, ◌≡◌, ◌↔◌, ◌⊎◌, ℕ, ◌+◌, ◌<◌, Bool, true, List, [], ◌∷◌, ◌++◌, length, get_or, set, take, replicate, Some, inl, inr, refl, sym, ap, subst, ◌∙◌, arith, length-append, length-take-le}
 use Rattle.std.{specs.{Prelude.{slice_get, All, Any, IsTrue}, List.Sorted.{IsPermutation}}, proofs.lemmas.Bool.{cases_eq}}
-use Rattle.std.proofs.lemmas.List.{get_or-set_same, get_or-set_other, get_or-replicate, length-replicate, length-set, Elements.{All-nil, All-push}, Sorted.{All-permutation, Contains-permutation}}
+use Rattle.std.proofs.lemmas.List.{get_or-replicate, length-replicate, length-set, Elements.{All-nil, All-push}, Sorted.{All-permutation, Contains-permutation}}
 use Rattle.std.proofs.lemmas.Option.{get_or_from_slice_get, slice_get_within}
 use Rattle.sh_logic.proofs.Lists.{slice_get-push_back}
-use Rattle.sh_map.specs.declared.{log.Entry.{Entry}, book.Done.{Done}, sweep.{Part.{Part}, Due.{Due}}, call.{Call.{Call, TheVariants.{Get, Put, Del, Range}}, Reply.{Reply}}}
+use Rattle.sh_map.specs.declared.{log.Entry.{Entry}, book.Done.{Done}, sweep.{Part.{Part}, Due.{Due}}, call.{Call.{Call}, Reply.{Reply}}}
 use Rattle.sh_map.{specs.{Judge.{AsksNothing, FitsPart, RowsAnswer}, Tables.{AreKept}}, proofs.WalkLemmas.{any_from, any_push, one_more}}
 use Rattle.sh_map.specs.declared.sweep.Part.TheVariants as part
 
@@ -49,14 +49,10 @@ module _ (part : Part) where
   }
 
 rows_fit : (log : List Entry) (d : Done) (asked : Call) (answer : Reply) → AsksNothing part.Rows asked → RowsAnswer log d asked answer
-rows_fit log d (Get key) answer none = tt
-rows_fit log d (Put key value) answer none = tt
-rows_fit log d (Del key) answer none = tt
-rows_fit log d (Range low high) answer none = absurd none
+rows_fit log d asked answer none = search rules
 
 nothing_fits : (part : Part) (log : List Entry) (d : Done) → AsksNothing part d.call → FitsPart part log d
-nothing_fits part.Reply log d none = absurd none
-nothing_fits part.Rows log d none = rows_fit log d d.call d.reply none
+nothing_fits part log d none = search (rules, rows_fit)
 
 same_Done : {x y : Done} → Some x ≡ Some y → x ≡ y
 same_Done h = cc
@@ -76,18 +72,7 @@ module _ (part : Part) (log : List Entry) (dones : List Done) where
   swept_none kept kept_is = record { long = ap length kept_is ∙ length-replicate (length dones) true; each = λ k d lt. absurd (omega arith); idle = λ j d here none x is. (λ _. subst (FitsPart part log) (same_Done (sym here ∙ is)) (nothing_fits part log d none), λ _. ap (λ l. get_or l j true) kept_is ∙ get_or-replicate (length dones) j true true (slice_get_within dones j d here)) }
 
   right_at : (kept : List Bool) (b : Bool) (i : ℕ) (x : Done) → length kept ≡ length dones → i < length dones → x ≡ get_or dones i x → (IsTrue b ↔ FitsPart part log x) → (j : ℕ) → (j ≡ i) ⊎ IsRight part log dones kept j → IsRight part log dones (set kept i b) j
-  right_at kept b i x long in_range read told j h d is = elim (cases_eq j i) [
-    | inl same ↦
-        let is_x : x ≡ d = read ∙ get_or_from_slice_get dones i d x (subst (λ k. slice_get dones k ≡ Some d) same is) in
-        let has : get_or (set kept i b) j true ≡ b = ap (λ k. get_or (set kept i b) k true) same ∙ get_or-set_same kept i b true (omega (arith, long)) in
-        (λ yes. subst (FitsPart part log) is_x (told.0 (sym has ∙ yes)), λ fits. has ∙ told.1 (subst (FitsPart part log) (sym is_x) fits))
-    | inr differ ↦
-        let stays : get_or (set kept i b) j true ≡ get_or kept j true = get_or-set_other kept i j b true differ in
-        elim h [
-          | inl same ↦ absurd (differ same)
-          | inr old ↦ let t = old d is in (λ yes. t.0 (sym stays ∙ yes), λ fits. stays ∙ t.1 fits)
-        ]
-  ]
+  right_at kept b i x long in_range read told j h d is = search (rules, cases_eq, get_or_from_slice_get)
 
   -- a walk over the calls due, one on, which was read
   pub swept_more : (due : List Due) (at : ℕ) (one : Due) (kept : List Bool) (b : Bool) (x : Done) → at < length due → one ≡ get_or due at one → AreSwept part log dones (take at due) kept → one.place < length dones → x ≡ get_or dones one.place x → (IsTrue b ↔ FitsPart part log x) → AreSwept part log dones (take (at + 1) due) (set kept one.place b)

@@ -1,6 +1,6 @@
 -- What a tree of keys and values says as a map.
-use Rattle.std.proofs.Common.{◌≡◌, ℕ, ◌+◌, ◌<◌, ◌≤◌, List, [], ◌∷◌, ◌++◌, length, map, take, get_or, Some, None, inl, inr, refl, sym, ap, subst, ◌∙◌, cond, true, arith, Less, Equal, false}
-use Rattle.std.specs.{Prelude.{All, Contains, IsSome, slice_get}, declared.ops.Bound.TheVariants.{Included, Excluded}, Ordering.{nat_cmp, eq_by_cmp, is_gt}, Cmp.{nat_cmp_total, nat_cmp_is}}
+use Rattle.std.proofs.Common.{rules, ◌≡◌, ℕ, ◌+◌, ◌<◌, ◌≤◌, List, [], ◌∷◌, ◌++◌, length, map, take, get_or, Some, None, refl, sym, ap, subst, ◌∙◌, cond, true, Less, false}
+use Rattle.std.specs.{Prelude.{All, Contains, IsSome, slice_get}, declared.ops.Bound.TheVariants.{Included, Excluded}, Ordering.{nat_cmp, eq_by_cmp, is_gt}, Cmp.{nat_cmp_total}}
 use Rattle.std.specs.{FinMap.{find, from_entries, get-from_entries}, Map.{lookup, keys_of}, BTreeMap.{BTreeMap, is_at, Updates, Range.{IsInRange, entries_between, range_contains}}}
 use Rattle.std.proofs.lemmas.Map.{Keys.{le_from_not_gt}, Entries.{lookup-filter-keys}, Views.{range_contains-from_IsInRange, Contains-keys_from_lookup, tells_apart}, Lookups.{exact_unsigned}}
 use Rattle.std.proofs.lemmas.{List.{append-nil, append_assoc, map-append, Elements.{All-map}}, Bool.{cases_lt}, Cmp.{ranked}, Option.{get_or_from_slice_get, slice_get-get_or, slice_get_within}}
@@ -30,10 +30,7 @@ pub keys_all : (old : List ℕ) (rest : List (ℕ × List ℕ)) (all : List ℕ)
 keys_all old rest all h is = sym (append-nil old) ∙ ap (λ es. old ++ keys_of es) (sym is) ∙ h
 
 not_gt_from_le : (a b : ℕ) → a ≤ b → is_gt (nat_cmp a b) ≡ false
-not_gt_from_le a b h = elim (cases_lt a b) [
-  | inl below ↦ ap is_gt (sym (nat_cmp_is a b Less below))
-  | inr above ↦ let same : a ≡ b = omega arith in ap is_gt (sym (nat_cmp_is a b Equal same))
-]
+not_gt_from_le a b h = search (rules, cases_lt)
 
 -- the keys of the part from low up to but without upto
 module _ (t : BTreeMap ℕ (List ℕ)) (low upto : ℕ) (part : List (ℕ × List ℕ)) where

@@ -1,6 +1,6 @@
 -- clap finds no fault exactly where the words make uses, each at most once.
-use Rattle.std.proofs.Common.{◌≡◌, Bool, true, false, not, ◌==◌, ℕ, List, [], ◌∷◌, ◌++◌, map, Option, Some, None, refl, ap, ap₂, sym, ◌∙◌, append-nil, append_assoc}
-use Rattle.std.{specs.{Prelude.{fold, slice_get, unwrap_or}, List.{list_all}, Option.{option_map_or}, Str.{chars}}, proofs.lemmas.List.{map-append}}
+use Rattle.std.proofs.Common.{rules, ◌≡◌, Bool, true, false, not, ◌==◌, ℕ, List, [], ◌∷◌, ◌++◌, map, Option, Some, None, refl, ap, ap₂, sym, ◌∙◌, append-nil, append_assoc}
+use Rattle.std.{specs.{Prelude.{fold, slice_get}, List.{list_all}, Option.{option_map_or}, Str.{chars}}, proofs.lemmas.List.{map-append}}
 use Rattle.clap.{proofs.WalkLemmas.{both}, specs.{Faults.{repeat_fault, settle_fault, turn_fault, walk_fault}, Kinds.{Kinds, or_else}, Lexer.{long_of, short_of}}}
 use Rattle.clap.specs.Walk.{Row, Rule, Walk, arg_by_id, has_row, settled, settled_rows, used, walked}
 use Rattle.sh_logic.proofs.Tests.{or_false}
@@ -18,12 +18,10 @@ unfoldable pub rows_end : List Rule → Walk → List Text → List Row
 rows_end c w words = (settled c (fold (walked c []) w words).held).rows
 
 pub nil_both : (a b : Kinds) → or_else a b ≡ [] → (a ≡ []) × (b ≡ [])
-nil_both [] b e = (refl, e)
-nil_both (k ∷ ks) b e = cc
+nil_both a b e = search rules
 
 or_else_assoc : (a b c : Kinds) → or_else (or_else a b) c ≡ or_else a (or_else b c)
-or_else_assoc [] b c = refl
-or_else_assoc (k ∷ ks) b c = refl
+or_else_assoc a b c = search rules
 
 rest_more : (c : List Rule) (w : Walk) (word : Text) (words : List Text)
     → rest_fault c w (word ∷ words) ≡ or_else (turn_fault (shape_with c) [] w word) (rest_fault c (walked c [] w word) words)
@@ -51,11 +49,7 @@ rest_within n id rows = end_is n (held rows (Some (id, [])))
 -- ---- repeats
 
 repeat_nil : (name : Text) (rows : List Row) → repeat_fault false name rows ≡ [] → has_row name rows ≡ false
-repeat_nil name rows nil = go (has_row name rows) refl
-  where
-    go : (b : Bool) → has_row name rows ≡ b → has_row name rows ≡ false
-    go true e = let bad = simp e at nil in cc
-    go false e = e
+repeat_nil name rows nil = search rules
 
 no_repeat : (name : Text) (rows : List Row) → has_row name rows ≡ false → repeat_fault false name rows ≡ []
 no_repeat name rows none = simp none
@@ -91,12 +85,7 @@ pub record After (n : Names) (seen : List Use) (waiting : Option Text) (words : 
 add : (n : Names) (seen : List Use) (name : Text) (v waiting : Option Text) (words rest : List Text) (end later : List Row) → has_use name seen ≡ false
     → uses_from n waiting words ≡ with_use name v (uses_from n None rest) → end ≡ later
     → After n (seen ++ record { name = name; value = v } ∷ []) None rest later → After n seen waiting words end
-add n seen name v waiting words rest end later none reads same h = record {
-  uses = record { name = name; value = v } ∷ h.uses;
-  are = reads ∙ ap (with_use name v) h.are;
-  once = simp none h.once;
-  rows = same ∙ h.rows ∙ ap (map row_for) (append_assoc seen (record { name = name; value = v } ∷ []) h.uses);
-}
+add n seen name v waiting words rest end later none reads same h = search (rules, row_for, append_assoc)
 
 -- what is taken between two options settles the last one
 settles : (n : Names) (words : List Text) (rows : List Row) (p : Option (Text × List Text)) → has_end words ≡ false
@@ -247,12 +236,7 @@ abbrev pub all_plain : List Use → Bool
 all_plain us = list_all (λ u. option_map_or is_plain u.value true) us
 
 plain_word : (w : Text) → is_plain w ≡ true → (is_end w ≡ false) × (long_of w ≡ None) × (short_of w ≡ None)
-plain_word [] e = (refl, refl, refl)
-plain_word (x ∷ xs) e = go (x == 45) refl
-  where
-    go : (b : Bool) → (x == 45) ≡ b → (is_end (x ∷ xs) ≡ false) × (long_of (x ∷ xs) ≡ None) × (short_of (x ∷ xs) ≡ None)
-    go true i = let bad : false ≡ true = simp i at e in cc
-    go false i = (simp i, simp i, simp i)
+plain_word w e = search rules
 
 -- a first use, and the rest
 record Split (n : Names) (seen : List Use) (name : Text) (v : Option Text) (words : List Text) (us : List Use) : Type 0 where
@@ -265,31 +249,11 @@ record Split (n : Names) (seen : List Use) (name : Text) (v : Option Text) (word
   others : all_plain rest ≡ true
 
 pub not_true : (b : Bool) → not b ≡ true → b ≡ false
-not_true true e = cc
-not_true false e = refl
+not_true b e = search rules
 
 split : (n : Names) (seen : List Use) (name : Text) (v : Option Text) (words : List Text) (us : List Use) → with_use name v (uses_from n None words) ≡ Some us
     → is_once_after seen us ≡ true → all_plain us ≡ true → Split n seen name v words us
-split n seen name v words us reads once plain = go (uses_from n None words) refl
-  where
-    u : Use
-    u = record { name = name; value = v }
-
-    go : (o : Option (List Use)) → uses_from n None words ≡ o → Split n seen name v words us
-    go None e = let bad : None ≡ Some us = sym (ap (with_use name v) e) ∙ reads in cc
-    go (Some rest) e =
-        let same : u ∷ rest ≡ us = ap (λ o. unwrap_or o []) (sym (ap (with_use name v) e) ∙ reads) in
-        let once-parts = both (not (has_use name seen)) (is_once_after (seen ++ u ∷ []) rest) (ap (is_once_after seen) same ∙ once) in
-        let plain-parts = both (option_map_or is_plain v true) (all_plain rest) (ap all_plain same ∙ plain) in
-        record {
-          rest = rest;
-          reads = e;
-          is = sym same;
-          first = not_true (has_use name seen) once-parts.0;
-          once = once-parts.1;
-          plain = plain-parts.0;
-          others = plain-parts.1;
-        }
+split n seen name v words us reads once plain = search (rules, both, not_true)
 
 abbrev pub ReadBetween : Names → List Text → Type 0
 ReadBetween n words = (rows : List Row) (p : Option (Text × List Text)) (seen us : List Use) → settled_rows (rules_built n) p rows ≡ map row_for seen

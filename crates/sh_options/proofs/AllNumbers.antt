@@ -1,9 +1,9 @@
 -- Each option's value is a number just where each value of the uses is.
-use Rattle.std.{proofs.Common.{◌≡◌, Bool, true, false, not, ◌&&◌, List, [], ◌∷◌, ◌++◌, Option, Some, None, refl, ap, ap₂, sym, ◌∙◌, append_assoc, arith}, specs.Prelude.{option_and_then, if◌then◌else◌}}
+use Rattle.std.{proofs.Common.{rules, ◌≡◌, Bool, true, false, not, ◌&&◌, List, [], ◌∷◌, ◌++◌, Option, Some, None, refl, ap, ap₂, sym, ◌∙◌, append_assoc, arith}, specs.Prelude.{if◌then◌else◌}}
 use Rattle.std.{specs.{List.{list_all}, Option.{option_map_or}, Str.{bytes_eq}}, proofs.lemmas.{Bool.{not-true}, Grind.{common_steps}}}
 use Rattle.clap.{specs.{Words.{first_value, found_of}, declared.parser.matches.ArgMatches.{ArgMatches}}, proofs.WalkLemmas.{both}}
 use Rattle.sh_logic.proofs.Tests.{or_false}
-use Rattle.sh_options.{specs.{Holds.{Holds, Told}, Uses.{Names, Text, Use, all_numbers, has_use, is_among, is_lawful, is_once_after, told_by, told_if, option_value}}, proofs.Agree.{not_true}}
+use Rattle.sh_options.{specs.{Holds.{Holds, Told}, Uses.{Names, Text, Use, all_numbers, has_use, is_among, is_lawful, is_once_after, told_by, option_value}}, proofs.Agree.{not_true}}
 use Rattle.sh_options.proofs.{Tables.{bytes_eq_self, same_text}, Values.{is_fit, uses_fit}}
 use Rattle.sh_sheet.specs.Number.{is_number}
 
@@ -55,10 +55,7 @@ each_numbers n seen (u ∷ us) once fit each =
         sym (ap is_right (first_use seen us u none)) ∙ each u.name among
 
 same_bool : (a b : Bool) → (a ≡ true → b ≡ true) → (b ≡ true → a ≡ true) → a ≡ b
-same_bool true true f g = refl
-same_bool true false f g = sym (f refl)
-same_bool false true f g = g refl
-same_bool false false f g = refl
+same_bool a b f g = search rules
 
 abbrev pub reads_right : ArgMatches → Text → Bool
 reads_right m name = is_right (first_value (found_of m) name)
@@ -74,8 +71,7 @@ checks_are n words m h lawful =
     (λ all. all_of Q n.options (λ name. numbers_each h.uses name all))
 
 told_is : (n : Names) (words : List Text) (m : ArgMatches) (h : Holds n words m) (b : Bool) → all_numbers h.uses ≡ b → told_by n words ≡ (if b then Some h.uses else None)
-told_is n words m h true e = let once = h.once in ap (λ o. option_and_then told_if o) h.are ∙ (simp (once, e))
-told_is n words m h false e = let once = h.once in ap (λ o. option_and_then told_if o) h.are ∙ (simp (once, e))
+told_is n words m h b e = search rules
 
 pub told_at : (n : Names) (words : List Text) (m : ArgMatches) → Holds n words m → is_lawful n ≡ true → (b : Bool) → b ≡ list_all (reads_right m) n.options → b ≡ true → Told n words m
 told_at n words m h lawful b is good = record {

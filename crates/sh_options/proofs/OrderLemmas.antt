@@ -1,6 +1,6 @@
 -- The order, by what the parse tells.
-use Rattle.std.{proofs.Common.{◌≡◌, ◌<◌, ◌-◌, ◌^◌, ℕ, Bool, List, [], ◌∷◌, Option, Some, None, true, false, refl, ap, ap₂, sym, subst, ◌∙◌, arith}, specs.Prelude.{option_and_then, codes}}
-use Rattle.std.{specs.Str.{bytes_eq}, proofs.lemmas.Bool.Decides.{nat_tests}}
+use Rattle.std.{proofs.Common.{rules, ◌≡◌, ◌<◌, ◌-◌, ◌^◌, ℕ, Bool, List, Option, Some, None, false, refl, ap, ap₂, sym, subst, ◌∙◌, arith}, specs.Prelude.{option_and_then}}
+use Rattle.std.{proofs.lemmas.Bool.Decides.{nat_tests}}
 use Rattle.clap.specs.{Words.{found_of}, declared.parser.matches.{ArgMatches.{ArgMatches}, Found.{Found}}}
 use Rattle.sh_logic.proofs.Tests.{or_false}
 use Rattle.sh_base.specs.{Faults.{fault_of, first_outside, outside}, Setting.{pool_words}, declared.config.{ConfigFault.{ConfigFault, TheVariants.{TooLarge}}, ConfigParts.{ConfigParts}}}
@@ -11,14 +11,10 @@ use Rattle.sh_options.specs.Uses.{Names, Text, Use, is_among, told_by}
 -- ---- the programs' own options
 
 flag_of_a_run : (name : Text) → is_among name (names_for Replay).flags ≡ false → is_among name (names_for Run).flags ≡ false
-flag_of_a_run name e =
-    let parts = or_false (bytes_eq (codes "map") name) (is_among name (codes "events" ∷ [])) e in
-    let first = parts.0 in
-    simp first
+flag_of_a_run name e = search (rules, or_false)
 
 pub reads_as : (mode : Mode) (us : List Use) (f : Found) → ReadsUses (names_for mode) us f → ReadsAs f us
-reads_as Run us f r = record { values = λ name e. r.values name (flag_of_a_run name e); map = r.flags (codes "map") refl; known = false; events = r.flags (codes "events") refl }
-reads_as Replay us f r = record { values = r.values; map = r.flags (codes "map") refl; known = true; events = r.flags (codes "events") refl }
+reads_as mode us f r = search (rules, flag_of_a_run)
 
 -- ---- numbers in 32 bits
 

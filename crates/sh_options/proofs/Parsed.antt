@@ -1,7 +1,6 @@
 -- What a parse of the command says of the words, in our own terms.
-use Rattle.std.proofs.Common.{◌≡◌, Bool, true, false, not, ◌&&◌, ◌||◌, List, [], ◌∷◌, Option, Some, None, refl, ap, ap₂, sym, ◌∙◌, inl, inr, subst, arith}
+use Rattle.std.proofs.Common.{rules, ◌≡◌, Bool, true, false, ◌&&◌, ◌||◌, List, [], ◌∷◌, Option, Some, None, refl, ap, ap₂, sym, ◌∙◌, inl, inr, subst}
 use Rattle.std.specs.{Prelude.{fold, if◌then◌else◌, nat_le, nat_lt, unwrap_or, length}, List.{list_all, list_any, count_by}, Option.{option_map_or}, Str.{bytes_eq}}
-use Rattle.std.proofs.lemmas.Bool.Decides.{nat_tests}
 use Rattle.clap.specs.{Faults.{built_fault, fault_of, is_free_app, is_simple_and_free}, Kinds.{HasKind, Kinds}}
 use Rattle.clap.specs.Simple.{App, HasMatchesOf, built, is_buildable, is_ready, is_ready_leaf, is_simple, matches_of}
 use Rattle.clap.specs.{Walk.{first_of, is_early_multiple, nothing_held, one_of, with_default, rows_after}, Words.{found_of, kind_of}, declared.error.Error.{Error}}
@@ -9,7 +8,7 @@ use Rattle.clap.{specs.declared.{error.kind.ErrorKind.TheVariants.{OutOfMemory},
 use Rattle.clap.proofs.WalkLemmas.{both, first_value-rows, one_text-rows}
 use Rattle.sh_logic.proofs.Tests.{false_right}
 use Rattle.sh_options.specs.{Command.{app_for, app_with, flag_rule, has_end, is_end, option_rule}, Holds.{Holds}}
-use Rattle.sh_options.specs.Uses.{Names, Said, Text, Use, after_word, all_numbers, asks, gives, is_among, is_lawful, is_once, said_of, spelled, strange, told_by, told_if, uses_from, uses_of, with_use}
+use Rattle.sh_options.specs.Uses.{Names, Said, Text, Use, after_word, all_numbers, asks, gives, is_lawful, is_once, said_of, spelled, strange, told_by, uses_from, uses_of, with_use}
 use Rattle.sh_options.proofs.{Agree.{all_plain, is_plain, not_true, read_both, rest_fault, rows_end, taken_both}, Steps.{between, flag_built, option_built, shape_with}}
 use Rattle.sh_options.proofs.{Tables.{built_is, end_fault, of_rules, rules_built, same_text}, Values.{flag_is, uses_fit, value_is}}
 use Rattle.sh_sheet.specs.Number.{is_number}
@@ -65,12 +64,10 @@ holds_at n a words m e ends free has =
 -- ---- refusals
 
 number_plain : (v : Text) → is_number v ≡ true → is_plain v ≡ true
-number_plain [] e = refl
-number_plain (x ∷ xs) e = grind (arith, nat_tests)
+number_plain v e = search rules
 
 value_plain : (v : Option Text) → option_map_or is_number v true ≡ true → option_map_or is_plain v true ≡ true
-value_plain None e = refl
-value_plain (Some v) e = number_plain v e
+value_plain v e = search (rules, number_plain)
 
 pub numbers_plain : (us : List Use) → all_numbers us ≡ true → all_plain us ≡ true
 numbers_plain [] e = refl
@@ -80,19 +77,7 @@ numbers_plain (u ∷ us) e =
 
 -- uses that are told are taken
 pub told_parts : (n : Names) (words : List Text) (us : List Use) → told_by n words ≡ Some us → (uses_of n words ≡ Some us) × (is_once us ≡ true) × (all_numbers us ≡ true)
-told_parts n words us e = go (uses_of n words) refl e
-  where
-    inner : (o : List Use) (a b : Bool) → is_once o ≡ a → all_numbers o ≡ b → told_if o ≡ Some us → uses_of n words ≡ Some o
-        → (uses_of n words ≡ Some us) × (is_once us ≡ true) × (all_numbers us ≡ true)
-    inner o true true i j is all =
-        let same : o ≡ us = ap (λ x. unwrap_or x []) (simp (i, j) at is) in
-        (all ∙ ap Some same, sym (ap is_once same) ∙ i, sym (ap all_numbers same) ∙ j)
-    inner o true false i j is all = let bad = simp (i, j) at is in cc
-    inner o false b i j is all = let bad = simp i at is in cc
-
-    go : (o : Option (List Use)) → uses_of n words ≡ o → Rattle.std.specs.Prelude.option_and_then told_if o ≡ Some us → (uses_of n words ≡ Some us) × (is_once us ≡ true) × (all_numbers us ≡ true)
-    go None is told = cc
-    go (Some o) is told = inner o (is_once o) (all_numbers o) refl refl told is
+told_parts n words us e = search rules
 
 pub told_faultless : (n : Names) (words : List Text) (us : List Use) → has_end words ≡ false → told_by n words ≡ Some us → fault_of (app_for n) words ≡ []
 told_faultless n words us ends e =
@@ -100,8 +85,7 @@ told_faultless n words us ends e =
     fault_is n words ∙ (read_both n words ends).0 [] None [] us refl refl reads once (numbers_plain us numbers)
 
 none_if : {X : Type 0} (o : Option X) → ((x : X) → o ≡ Some x → ⊥) → o ≡ None
-none_if None never = refl
-none_if (Some x) never = absurd (never x refl)
+none_if h0 never = search rules
 
 no_kind : (kinds : Kinds) (x : Error) → kinds ≡ [] → HasKind kinds x → kind_of x ≡ OutOfMemory
 no_kind kinds x none has = elim (subst (λ (ks : Kinds). HasKind ks x) none has) [ inl memory ↦ memory | inr among ↦ absurd among ]
@@ -131,11 +115,7 @@ end_named n o ws us never e = go (said_of n o) e
     go strange reads = cc
 
 end_word : (n : Names) (w : Text) → is_lawful n ≡ true → is_end w ≡ true → said_of n (spelled w) ≡ strange
-end_word n w lawful e =
-    let (none, more) = both (not (is_among [] n.options)) _ lawful in
-    let no_option = not_true (is_among [] n.options) none in
-    let no_flag = not_true (is_among [] n.flags) (both (not (is_among [] n.flags)) _ more).0 in
-    ap (λ t. said_of n (spelled t)) (same_text w (45 ∷ 45 ∷ []) e) ∙ (simp (no_option, no_flag))
+end_word n w lawful e = search (rules, both, not_true, same_text)
 
 end_value : (w : Text) → is_end w ≡ true → is_number w ≡ false
 end_value w e = ap is_number (same_text w (45 ∷ 45 ∷ []) e)

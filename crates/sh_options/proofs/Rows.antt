@@ -1,6 +1,6 @@
 -- The rows of clap that uses make, and how a word is read on both sides.
-use Rattle.std.{proofs.Common.{◌≡◌, Bool, true, false, List, [], ◌∷◌, ◌++◌, map, Option, Some, None, codes, refl, ap, sym, ◌∙◌, append-nil, arith}, specs.{Prelude.{unwrap_or}, Str.{bytes_eq}}, proofs.lemmas.Grind.{common_steps}}
-use Rattle.clap.specs.{Lexer.{long_of}, Walk.{Row, at_row, has_row, more_values, reading_by, used, with_values, without}, declared.builder.value_parser.Reading.TheVariants.{AsWritten}}
+use Rattle.std.{proofs.Common.{rules, ◌≡◌, Bool, true, false, List, [], ◌∷◌, ◌++◌, map, Option, Some, None, codes, refl, ap, sym, ◌∙◌, append-nil}, specs.{Prelude.{unwrap_or}, Str.{bytes_eq}}}
+use Rattle.clap.specs.{Lexer.{long_of}, Walk.{Row, at_row, has_row, used, without}, declared.builder.value_parser.Reading.TheVariants.{AsWritten}}
 use Rattle.clap.{specs.declared.parser.matches.ValueSource.TheVariants.{CommandLine}, proofs.WalkLemmas.{list_any-map}}
 use Rattle.sh_logic.proofs.Tests.{or_false}
 use Rattle.sh_options.{specs.{Command.{is_end}, Uses.{Names, Text, Use, asks, gives, has_use, is_among, said_of, spelled, strange}}, proofs.Steps.{flag_built, option_built}}
@@ -24,21 +24,15 @@ gone id rows none = at_row_none id (λ _. []) [] rows none ∙ append-nil rows
 
 -- a first use goes to the end of the rows
 pub option_used : (name v : Text) (rows : List Row) → has_row name rows ≡ false → used (option_built name) (v ∷ []) rows ≡ rows ++ row_for (record { name = name; value = Some v }) ∷ []
-option_used name v rows none =
-    ap (with_values name (reading_by (option_built name)) CommandLine (v ∷ [])) (gone name rows none)
-    ∙ at_row_none name (more_values CommandLine (v ∷ [])) (row_for (record { name = name; value = Some v }) ∷ []) rows none
+option_used name v rows none = search (rules, option_built, gone, at_row_none)
 
 pub flag_used : (name : Text) (rows : List Row) → has_row name rows ≡ false → used (flag_built name) [] rows ≡ rows ++ row_for (record { name = name; value = None }) ∷ []
-flag_used name rows none =
-    ap (with_values name (reading_by (flag_built name)) CommandLine (codes "true" ∷ [])) (gone name rows none)
-    ∙ at_row_none name (more_values CommandLine (codes "true" ∷ [])) (row_for (record { name = name; value = None }) ∷ []) rows none
+flag_used name rows none = search (rules, flag_built, codes, gone, at_row_none)
 
 -- ---- one word on both sides
 
 spelled_is : (word : Text) → is_end word ≡ false → spelled word ≡ long_of word
-spelled_is [] e = refl
-spelled_is (x ∷ []) e = grind (arith, common_steps)
-spelled_is (x ∷ y ∷ rest) e = grind (arith, common_steps)
+spelled_is word e = search rules
 
 -- what a word is to a program with these names
 pub data Word (n : Names) (word : Text) : Type 0 where

@@ -1,5 +1,5 @@
 -- What clap makes of one word, where it stands between two options or waits for a value.
-use Rattle.std.{proofs.Common.{◌≡◌, true, false, ℕ, List, [], ◌∷◌, Option, Some, None, codes, refl, ap, ◌∙◌}, specs.{Prelude.{slice_get}, Str.{bytes_eq, chars}}}
+use Rattle.std.{proofs.Common.{rules, ◌≡◌, true, false, ℕ, List, [], ◌∷◌, Option, Some, None, codes, refl}, specs.{Prelude.{slice_get}, Str.{bytes_eq, chars}}}
 use Rattle.clap.specs.{Faults.{flags_fault, repeat_fault, settle_fault, turn_fault}, Kinds.{Kinds, or_else}, Lexer.{long_of, short_of}}
 use Rattle.clap.specs.{declared.error.kind.ErrorKind.TheVariants.{InvalidValue, TooManyValues, UnknownArgument}, Simple.{Shape, filled, new_shape, with_index}}
 use Rattle.clap.specs.Walk.{Held, Row, Rule, Text, Walk, arg_by_id, arg_by_index, arg_by_long, arg_by_short, bundle_met, idle, option, settled_rows, used, walked}
@@ -27,15 +27,13 @@ abbrev pub within : Text → List Row → Walk
 within name rows = record { held = held rows (Some (name, [])); waiting = option name; position = 1; is_trailing = false; stopped = None }
 
 pub or_else_nil : (a : Kinds) → or_else a [] ≡ a
-or_else_nil [] = refl
-or_else_nil (k ∷ ks) = refl
+or_else_nil a = search rules
 
 module _ (c : List Rule) (rows : List Row) (p : Option (Text × List Text)) (word : Text) (not_end : is_end word ≡ false) where
   -- `--name=value`
   pub joined_fault : (name v : Text) → long_of word ≡ Some (name, Some v) → arg_by_long c name ≡ Some (option_built name)
       → turn_fault (shape_with c) [] (between rows p) word ≡ or_else (settle_fault c false (held rows p)) (repeat_fault false name (settled_rows c p rows))
-  joined_fault name v reads known =
-      simp (not_end, reads, known) (or_else_nil _ ∙ ap (or_else (settle_fault c false (held rows p))) (or_else_nil (repeat_fault false name (settled_rows c p rows))))
+  joined_fault name v reads known = search (rules, or_else_nil)
 
   pub joined_walked : (name v : Text) → long_of word ≡ Some (name, Some v) → arg_by_long c name ≡ Some (option_built name)
       → walked c [] (between rows p) word ≡ between (used (option_built name) (v ∷ []) (settled_rows c p rows)) None
@@ -55,8 +53,7 @@ module _ (c : List Rule) (rows : List Row) (p : Option (Text × List Text)) (wor
   -- `--name`, of a flag
   pub flag_fault : (name : Text) → long_of word ≡ Some (name, None) → arg_by_long c name ≡ Some (flag_built name)
       → turn_fault (shape_with c) [] (between rows p) word ≡ or_else (settle_fault c false (held rows p)) (repeat_fault false name (settled_rows c p rows))
-  flag_fault name reads known =
-      simp (not_end, reads, known) (or_else_nil _ ∙ ap (or_else (settle_fault c false (held rows p))) (or_else_nil (repeat_fault false name (settled_rows c p rows))))
+  flag_fault name reads known = search (rules, or_else_nil)
 
   pub flag_walked : (name : Text) → long_of word ≡ Some (name, None) → arg_by_long c name ≡ Some (flag_built name)
       → walked c [] (between rows p) word ≡ between (used (flag_built name) [] (settled_rows c p rows)) None
@@ -105,8 +102,7 @@ module _ (c : List Rule) (rows : List Row) (id word : Text) (not_end : is_end wo
 
   pub wait_option : (name : Text) (v : Option Text) → long_of word ≡ Some (name, v) → arg_by_long c name ≡ Some (option_built name)
       → turn_fault (shape_with c) [] (within id rows) word ≡ InvalidValue ∷ []
-  wait_option name None reads known = simp (not_end, reads, known, mine)
-  wait_option name (Some v) reads known = simp (not_end, reads, known, mine)
+  wait_option name v reads known = search rules
 
   pub wait_flag : (name : Text) → long_of word ≡ Some (name, None) → arg_by_long c name ≡ Some (flag_built name)
       → turn_fault (shape_with c) [] (within id rows) word ≡ InvalidValue ∷ []

@@ -1,5 +1,5 @@
 -- What clap finds in the rules of a list of options and a list of flags.
-use Rattle.std.{proofs.Common.{◌≡◌, Bool, true, false, not, ◌&&◌, ◌||◌, ℕ, List, [], ◌∷◌, ◌++◌, map, Option, Some, None, refl, ap, ap₂, ◌∙◌}, specs.Prelude.{if◌then◌else◌}}
+use Rattle.std.{proofs.Common.{rules, ◌≡◌, Bool, true, false, not, ◌&&◌, ◌||◌, ℕ, List, [], ◌∷◌, ◌++◌, map, Option, Some, None, refl, ap, ap₂, ◌∙◌}, specs.Prelude.{if◌then◌else◌}}
 use Rattle.std.{specs.{List.{list_any}, Str.{bytes_eq}}, proofs.lemmas.Slice.Eq.{bytes_eq-Decides}}
 use Rattle.clap.specs.{Faults.{check_fault, default_fault, defaults_fault, settle_fault}, Kinds.{Kinds, or_else}, Simple.{built, filled_from}}
 use Rattle.clap.specs.Walk.{Held, Row, Rule, arg_by_id, arg_by_index, arg_by_long, arg_by_short, finished, has_row, settled}
@@ -79,12 +79,10 @@ module _ (n : Names) where
 -- ---- after the walk
 
 either_way : (b : Bool) (k : Kinds) → k ≡ [] → (if b then [] else k) ≡ []
-either_way true k e = refl
-either_way false k e = e
+either_way b k e = search rules
 
 or_true : (b : Bool) → (b || true) ≡ true
-or_true true = refl
-or_true false = refl
+or_true b = search rules
 
 no_default : (rows : List Row) (t : Text) → default_fault rows (option_built t) ≡ []
 no_default rows t = let given = or_true (has_row t rows) in simp given

@@ -1,5 +1,5 @@
 -- What the getters read after the parse, by the uses.
-use Rattle.std.proofs.Common.{◌≡◌, Bool, true, false, ◌&&◌, List, [], ◌∷◌, ◌++◌, map, Option, Some, None, codes, refl, ap, ap₂, sym, ◌∙◌, option_map, arith}
+use Rattle.std.proofs.Common.{rules, ◌≡◌, Bool, true, false, List, [], ◌∷◌, ◌++◌, map, Option, Some, None, codes, refl, ap, ap₂, sym, ◌∙◌, option_map, arith}
 use Rattle.std.proofs.lemmas.Grind.{common_steps}
 use Rattle.std.specs.{Prelude.{fold, if◌then◌else◌, slice_get, unwrap_or, option_and_then, find, is_some}, List.{list_all}, Str.{bytes_eq}}
 use Rattle.clap.specs.{Walk.{Row, first_of, has_row, more_values, one_of, row_text, with_default}, declared.builder.value_parser.Reading.TheVariants.{AsWritten}}
@@ -17,8 +17,7 @@ first_some (Some x) o = Some x
 first_some None o = o
 
 first_none : {X : Type 0} (o : Option X) → first_some o None ≡ o
-first_none None = refl
-first_none (Some x) = refl
+first_none h0 = search rules
 
 row_at_more : (id : Text) (rows : List Row) (r : Row) → row_at id (rows ++ r ∷ []) ≡ first_some (row_at id rows) (row_at id (r ∷ []))
 row_at_more id [] r = refl
@@ -38,11 +37,7 @@ flag_kept : (rows : List Row) (f : Text) → has_row f rows ≡ true → with_de
 flag_kept rows f some = simp some
 
 option_kept : (rows : List Row) (o : Text) → with_default rows (option_built o) ≡ rows
-option_kept rows o = go (has_row o rows) refl
-  where
-    go : (b : Bool) → has_row o rows ≡ b → with_default rows (option_built o) ≡ rows
-    go true e = simp e
-    go false e = simp e
+option_kept rows o = search (rules, option_built)
 
 options_kept : (os fs : List Text) (rows : List Row) → fold with_default rows (map option_built os ++ map flag_built fs) ≡ fold with_default rows (map flag_built fs)
 options_kept [] fs rows = refl
@@ -94,10 +89,7 @@ is_fit n u = if is_some u.value then is_among u.name n.options else is_among u.n
 
 fit_uses : (n : Names) (name : Text) (v : Option Text) (o : Option (List Use)) (us : List Use) → is_fit n (record { name = name; value = v }) ≡ true
     → ((rest : List Use) → o ≡ Some rest → list_all (is_fit n) rest ≡ true) → with_use name v o ≡ Some us → list_all (is_fit n) us ≡ true
-fit_uses n name v None us fit rest e = cc
-fit_uses n name v (Some us') us fit rest e =
-    let same : record { name = name; value = v } ∷ us' ≡ us = ap (λ o. unwrap_or o []) e in
-    sym (ap (list_all (is_fit n)) same) ∙ ap₂ (λ a b. a && b) fit (rest us' refl)
+fit_uses n name v o us fit rest e = search rules
 
 abbrev FitFrom : Names → List Text → Type 0
 FitFrom n words = (us : List Use) → uses_from n None words ≡ Some us → list_all (is_fit n) us ≡ true
@@ -107,16 +99,11 @@ FitWithin n words = (id : Text) (us : List Use) → is_among id n.options ≡ tr
 
 fit_named : (n : Names) (name : Text) (v : Option Text) (words : List Text) (us : List Use) (a b : Bool) → is_among name n.options ≡ a → is_among name n.flags ≡ b
     → FitFrom n words → FitWithin n words → after_word (said_by n name v) (λ waiting. uses_from n waiting words) ≡ Some us → list_all (is_fit n) us ≡ true
-fit_named n name (Some v) words us true b i j next inner e = let reads = simp i at e in fit_uses n name (Some v) (uses_from n None words) us i next reads
-fit_named n name (Some v) words us false b i j next inner e = let reads = simp i at e in cc
-fit_named n name None words us true b i j next inner e = let reads = simp i at e in inner name us i reads
-fit_named n name None words us false true i j next inner e = let reads = simp (i, j) at e in fit_uses n name None (uses_from n None words) us j next reads
-fit_named n name None words us false false i j next inner e = let reads = simp (i, j) at e in cc
+fit_named n name v words us a b i j next inner e = search (rules, fit_uses)
 
 fit_said : (n : Names) (o : Option (Text × Option Text)) (words : List Text) (us : List Use) → FitFrom n words → FitWithin n words
     → after_word (said_of n o) (λ waiting. uses_from n waiting words) ≡ Some us → list_all (is_fit n) us ≡ true
-fit_said n None words us next inner e = cc
-fit_said n (Some p) words us next inner e = fit_named n p.0 p.1 words us (is_among p.0 n.options) (is_among p.0 n.flags) refl refl next inner e
+fit_said n o words us next inner e = search (rules, fit_named)
 
 fit_both : (n : Names) (words : List Text) → FitFrom n words × FitWithin n words
 unfolding uses_from

@@ -12,10 +12,7 @@ of_pool bytes place w h = search rules
 
 -- what the code found in the words is so of the bytes
 pub refused_of : (bytes : List ℕ) (p : ConfigParts) (words : List ℕ) (found : Option FirstPlace) (place : FirstPlace) → found ≡ Some place → HasWords bytes × (p ≡ parts_spelled bytes) → words ≡ numbers_spelled 8 (pool_words p) (drop 56 bytes) → MatchOption found (IsGoodPool p words) (λ x. IsPoolFault p words x) → IsFirstPlace bytes place
-refused_of bytes p words found place is w e m =
-    let bad : IsPoolFault p words place = subst (λ (o : Option FirstPlace). MatchOption o (IsGoodPool p words) (λ x. IsPoolFault p words x)) is m in
-    let at : IsPoolFault (parts_spelled bytes) words place = subst (λ (q : ConfigParts). IsPoolFault q words place) w.1 bad in
-    of_pool bytes place w.0 (subst (λ (ws : List ℕ). IsPoolFault (parts_spelled bytes) ws place) (words_is bytes words p w.1 e) at)
+refused_of bytes p words found place is w e m = search (rules, of_pool, words_is)
 
 pub lawful_of : (bytes : List ℕ) (p : ConfigParts) (words other : List ℕ) (found : Option FirstPlace) (rows : List Row) → AreBytes bytes → IsSetting p → HasWords bytes × (p ≡ parts_spelled bytes) → words ≡ numbers_spelled 8 (pool_words p) (drop 56 bytes) → other ≡ words → found ≡ None → MatchOption found (IsGoodPool p words) (λ x. IsPoolFault p words x) → ((levels : List (List ℕ)) → IsTree p other levels → map row_pair rows ≡ entries (map_in p other levels)) → IsTreePicture bytes p rows
 lawful_of bytes p words other found rows h setting w e same is m pairs =

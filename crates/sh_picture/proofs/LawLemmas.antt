@@ -1,14 +1,14 @@
 -- A picture reads back; and of a tree's picture no place says that it isn't lawful.
 use Rattle.std.specs.Prelude.{slice_index}
-use Rattle.std.proofs.Common.{◌≡◌, ℕ, ◌+◌, ◌*◌, ◌^◌, ◌<◌, List, [], ◌∷◌, ◌++◌, None, Some, length, map, drop, refl, sym, ap, subst, ◌∙◌, length-append, append_assoc, arith}
+use Rattle.std.proofs.Common.{rules, ◌≡◌, ℕ, ◌+◌, ◌*◌, ◌^◌, ◌<◌, List, [], ◌∷◌, ◌++◌, None, Some, length, map, drop, refl, sym, ap, subst, ◌∙◌, length-append, append_assoc, arith}
 use Rattle.std.{specs.{List.{flat_map, AllByRecursion}, FinMap.{entries}}, proofs.lemmas.List.{append-nil, drop_at, get_or_append_left}}
 use Rattle.byteorder.specs.{Endian.{big_bytes, big_number}, Numbers.{big_number-reads_back, length-bytes_high_first}}
 use Rattle.sh_logic.proofs.Lists.{from_each}
-use Rattle.sh_base.{specs.{declared.config.ConfigParts.{ConfigParts}, Parts.{parts_of}, Setting.{pool_words, IsRanged, IsSetting}, Faults.{fault_of}}, proofs.FaultLemmas.{size_decides}}
+use Rattle.sh_base.{specs.{declared.config.ConfigParts.{ConfigParts}, Setting.{pool_words, IsRanged, IsSetting}, Faults.{fault_of}}, proofs.FaultLemmas.{size_decides}}
 use Rattle.sh_map.specs.{Map.{row_pair}, declared.book.Row.{Row}}
 use Rattle.sh_tree.{specs.Tree.{leaves_of, map_in, IsTree}, proofs.ChainLemmas.{trees_are_one}}
 use Rattle.sh_picture.specs.declared.{place.FirstPlace.{FirstPlace, TheVariants.{Short, Magic, Setting, Length, Zero, Lock, Root, Chain, Pair, Twice}}, verdict.Verdict.{Verdict}}
-use Rattle.sh_picture.specs.{declared.verdict.Verdict.TheVariants.{Lawful, Refused}, Picture.{header_of, magic, number_in, numbers_spelled, setting_numbers, parts_spelled, picture_of, words_in}}
+use Rattle.sh_picture.specs.{Picture.{header_of, magic, number_in, numbers_spelled, setting_numbers, parts_spelled, picture_of, words_in}}
 use Rattle.sh_picture.specs.{Walk.{IsWalked}, Tree.{AllLead, AllOnce, IsFirstAstray, IsFirstTwice}, Fault.{IsFirstPlace, IsIdle, IsPoolFault}, Verdict.{HasMapOf, IsTreePicture, VerdictOf}}
 use Rattle.sh_picture.proofs.{PictureLemmas.{header_long, words_long}, WalkLemmas.{walked_one, walked_stops}, TreeLemmas.{tree_walked, IsWalkedTree}}
 
@@ -139,9 +139,7 @@ module _ (p : ConfigParts) (words : List ℕ) (levels : List (List ℕ)) (settin
       (parts, h.rows_are ∙ (λ t. entries (map_in (parts t) (words_are t) (same t))))
 
   pub lawful_verdict : (verdict : Verdict) → VerdictOf (picture_of p words) verdict → HasMapOf p words levels verdict
-  lawful_verdict (Lawful cfg rows) h = same_map (parts_of cfg) rows h
-  lawful_verdict (Refused place) h = no_place place h
+  lawful_verdict verdict h = search (rules, same_map, no_place)
 
 pub lawful_alone : (bytes : List ℕ) (p : ConfigParts) (rows : List Row) (place : FirstPlace) → IsTreePicture bytes p rows → IsFirstPlace bytes place → ⊥
-lawful_alone bytes p rows place h k =
-    no_place p h.words h.levels h.setting h.long h.small h.idle h.tree place (subst (λ (b : List ℕ). IsFirstPlace b place) h.picture k)
+lawful_alone bytes p rows place h k = search (rules, no_place)

@@ -1,6 +1,6 @@
 -- What looking through levels, nodes and keys has found so far.
 use Rattle.std.specs.Prelude.{slice_get, slice_index}
-use Rattle.std.proofs.Common.{◌≡◌, ◌≢◌, ◌⊎◌, ℕ, zero, suc, ◌+◌, ◌<◌, true, List, Vec, Global, [], ◌∷◌, ◌++◌, Some, length, map, get_or, set, take, refl, sym, ap, subst, ◌∙◌, inl, inr, arith}
+use Rattle.std.proofs.Common.{rules, ◌≡◌, ◌≢◌, ◌⊎◌, ℕ, zero, suc, ◌+◌, ◌<◌, true, List, Vec, Global, [], ◌∷◌, ◌++◌, Some, length, map, get_or, set, take, refl, sym, ap, subst, ◌∙◌, inl, inr, arith}
 use Rattle.std.proofs.lemmas.{Bool.{cases_eq, cases_lt, eq-eqb}, List.{get_or-set_same, get_or-set_other, get_or-map, take_more}, Option.{get_or_from_slice_get}}
 use Rattle.sh_logic.proofs.Lists.{all_at}
 use Rattle.sh_base.specs.{Setting.{IsNode}, declared.config.ConfigParts.{ConfigParts}}
@@ -12,10 +12,7 @@ use Rattle.sh_edit.specs.Held.{key_at, HasKeysOnce}
 
 -- ---- one good number more
 pub good_more : (Good : ℕ → Type 0) (n : ℕ) → ((i : ℕ) → i < n → Good i) → Good n → (i : ℕ) → i < n + 1 → Good i
-good_more Good n h g i lt = elim (cases_lt i n) [
-  | inl below ↦ h i below
-  | inr ge ↦ let e : n ≡ i = omega (arith, ge, lt) in subst Good e g
-]
+good_more h0 n h g i lt = search (rules, cases_lt)
 
 -- ---- marks
 in_push : (ns : List ℕ) (n m : ℕ) → is_in (ns ++ n ∷ []) m ≡ true → (is_in ns m ≡ true) ⊎ (n ≡ m)
@@ -30,22 +27,10 @@ in_last [] n = in_head n []
 in_last (x ∷ ns) n = in_more x n (ns ++ n ∷ []) (in_last ns n)
 
 pub marked_more : (ns marks : List ℕ) (n mark : ℕ) → n < length marks → AreMarked ns mark marks → AreMarked (ns ++ n ∷ []) mark (set marks n mark)
-marked_more ns marks n mark within h = record {
-  all = λ m among. elim (cases_eq m n) [
-    | inl e ↦ ap (λ k. get_or (set marks n mark) k 0) e ∙ get_or-set_same marks n mark 0 within
-    | inr ne ↦ get_or-set_other marks n m mark 0 ne ∙ elim (in_push ns n m among) [ inl old ↦ h.all m old | inr e ↦ absurd (ne (sym e)) ]
-  ];
-  none_else = λ m is. elim (cases_eq m n) [
-    | inl e ↦ subst (λ (k : ℕ). is_in (ns ++ n ∷ []) k ≡ true) (sym e) (in_last ns n)
-    | inr ne ↦ in_front ns (n ∷ []) m (h.none_else m (sym (get_or-set_other marks n m mark 0 ne) ∙ is))
-  ];
-}
+marked_more ns marks n mark within h = search (rules, cases_eq, get_or-set_same, get_or-set_other, in_push, in_last, in_front)
 
 pub under_more : (marks : List ℕ) (n mark : ℕ) → n < length marks → AreUnder (mark + 1) marks → AreUnder (mark + 1) (set marks n mark)
-under_more marks n mark within h = λ m. elim (cases_eq m n) [
-  | inl e ↦ omega (arith, ap (λ k. get_or (set marks n mark) k 0) e, get_or-set_same marks n mark 0 within)
-  | inr ne ↦ omega (arith, get_or-set_other marks n m mark 0 ne, h m)
-]
+under_more marks n mark within h = search (rules, cases_eq, get_or-set_same, get_or-set_other)
 
 pub marks_step : (nodes marks : List ℕ) (i mark : ℕ) → i < length nodes → get_or nodes i 0 < length marks → AreMarked (take i nodes) mark marks → AreMarked (take (i + 1) nodes) mark (set marks (get_or nodes i 0) mark)
 marks_step nodes marks i mark below within h = subst (λ (l : List ℕ). AreMarked l mark (set marks (get_or nodes i 0) mark)) (sym (take_more nodes i 0 below)) (marked_more (take i nodes) marks (get_or nodes i 0) mark within h)

@@ -8,10 +8,7 @@ use Rattle.sh_picture.specs.{Fault.{HasMagic, HasSetting, HasWords, IsFirstPlace
 use Rattle.sh_picture.{specs.declared.place.FirstPlace.TheVariants.{Short, Magic, Setting, Length, Zero, Lock, Root, Chain, Pair, Twice}, proofs.WalkLemmas.{unsound_one, walked_one, walked_stops}}
 
 pub first_one : (Good : ℕ → Type 0) (count a b : ℕ) → IsFirstBad Good count a → IsFirstBad Good count b → a ≡ b
-first_one Good count a b h k = elim (cases_lt a b) [
-  | inl lt ↦ absurd (h.here (k.before a lt))
-  | inr ge ↦ elim (cases_lt b a) [ inl gt ↦ absurd (k.here (h.before b gt)) | inr le ↦ omega (arith, ge, le) ]
-]
+first_one h0 count a b h k = search (rules, cases_lt)
 
 module _ (p : ConfigParts) (words : List ℕ) where
   astray_one : (ls ms : List (List ℕ)) (n i m j : ℕ) → IsWalked p words ls → IsWalked p words ms → IsFirstAstray p words ls n i → IsFirstAstray p words ms m j → (n ≡ m) × (i ≡ j)

@@ -1,6 +1,6 @@
 -- Numbers as bytes and back, and the parts of a picture.
 use Rattle.std.specs.Prelude.{slice_index}
-use Rattle.std.proofs.Common.{◌≡◌, ℕ, zero, suc, ◌+◌, ◌*◌, ◌/◌, ◌^◌, ◌<◌, ◌≤◌, List, [], ◌∷◌, ◌++◌, length, get_or, take, drop, refl, sym, ap, ◌∙◌, inl, inr, length-append, length-drop, append_assoc, ◌-◌, arith}
+use Rattle.std.proofs.Common.{rules, ◌≡◌, ℕ, zero, suc, ◌+◌, ◌*◌, ◌^◌, ◌<◌, ◌≤◌, List, [], ◌∷◌, ◌++◌, length, get_or, take, drop, refl, sym, ap, ◌∙◌, length-append, length-drop, append_assoc, ◌-◌, arith}
 use Rattle.std.{specs.List.{flat_map}, proofs.{Math.Nat.{add-mul, mod-lt, mul-le-mul_right, one-le-pow}, lemmas.Bool.{cases_lt}}}
 use Rattle.std.proofs.lemmas.List.{append-nil, drop_all, take_at, drop_at, take_rest, take-append-drop, drop-drop, get_or-drop, get_or-take, ext_get_or, length-take-le}
 use borrow.Rule.Slice.PartMut.{put_mid}
@@ -44,18 +44,7 @@ numbers_read width bytes (x ∷ xs) h =
 
 -- ---- bytes are those of the numbers that they spell
 same_parts : (a b m r s : ℕ) → r < m → s < m → a * m + r ≡ b * m + s → (a ≡ b) × (r ≡ s)
-same_parts a b m r s rm sm e = elim (cases_lt a b) [
-  | inl lt ↦ absurd (less a b r s rm lt e)
-  | inr ge ↦ elim (cases_lt b a) [
-    | inl gt ↦ absurd (less b a s r sm gt (sym e))
-    | inr le ↦ let ab : a ≡ b = omega (arith, ge, le) in (ab, let f : a * m ≡ b * m = ap (λ n. n * m) ab in omega (arith, e, f))
-  ]
-]
-  where
-    less : (a b r s : ℕ) → r < m → a < b → a * m + r ≡ b * m + s → ⊥
-    less a b r s rm lt e =
-        let le : (a + 1) * m ≤ b * m = mul-le-mul_right m (omega (arith, lt)) in
-        omega (arith, le, add-mul a 1 m, rm, e)
+same_parts a b m r s rm sm e = search (rules, cases_lt, mul-le-mul_right, add-mul)
 
 pub same_bytes : (n : ℕ) (xs ys : List ℕ) → length xs ≡ n → length ys ≡ n → AreBytes xs → AreBytes ys → big_number n xs ≡ big_number n ys → xs ≡ ys
 same_bytes zero [] [] lx ly hx hy e = refl
@@ -83,10 +72,7 @@ words_long (w ∷ words) = length-append (big_bytes 8 w) (flat_map (big_bytes 8)
 -- ---- what is written into slices
 -- a slice whose first n elements are `head`, and behind them `ys`
 pub put_behind : {X : Type 0} (n k : ℕ) (head rest ys : List X) → length head ≡ n → length rest ≤ k → put_mid n k (head ++ rest) ys ≡ head ++ ys
-put_behind n k head rest ys is long =
-    let front : take n (head ++ rest) ≡ head = take_at head rest n is in
-    let none : drop k (drop n (head ++ rest)) ≡ [] = drop_all k (drop n (head ++ rest)) (rw (drop_at head rest n is) long) in
-    rw (front, none, append-nil) refl
+put_behind n k head rest ys is long = search (rules, take_at, drop_all, drop_at, append-nil)
 
 -- ---- what is read
 pub number_is : (bytes : List ℕ) (i result : ℕ) → i < 12 → result ≡ big_number 4 (take (length bytes - (8 + 4 * i)) (drop (8 + 4 * i) bytes)) → result ≡ number_in bytes i
@@ -117,8 +103,7 @@ words_small count bytes h i = numbers_small 8 count (drop 56 bytes) (bytes_behin
 
 -- ---- the bytes of the numbers that were read are the bytes
 byte_small : (n x : ℕ) → byte_at n x < 256
-byte_small zero x = mod-lt x (omega arith)
-byte_small (suc n) x = mod-lt (x / 256 ^ suc n) (omega arith)
+byte_small n x = search (rules, mod-lt)
 
 are_bytes : (n x : ℕ) → AreBytes (big_bytes n x)
 are_bytes zero x k = omega arith
@@ -150,9 +135,7 @@ numbers_back width (suc count) bytes long h =
 
 -- ---- a picture is that of its setting and its words
 magic_front : (bytes : List ℕ) → 8 ≤ length bytes → ((i : ℕ) → i < 8 → slice_index bytes i ≡ slice_index magic i) → take 8 bytes ≡ magic
-magic_front bytes long h =
-    let size : length (take 8 bytes) ≡ 8 = length-take-le 8 bytes long in
-    ext_get_or 0 (take 8 bytes) magic size (λ i below. get_or-take 8 bytes i 0 (omega (arith, below, size)) ∙ h i (omega (arith, below, size)))
+magic_front bytes long h = search (rules, length-take-le, ext_get_or, get_or-take)
 
 setting_spelled : (bytes : List ℕ) → setting_numbers (parts_spelled bytes) ≡ numbers_spelled 4 12 (drop 8 bytes)
 unfolding number_in

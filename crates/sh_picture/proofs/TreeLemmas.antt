@@ -1,6 +1,6 @@
 -- Levels that are walked, whose pairs all lead below and whose leaves have each key once, are a tree; and a tree's are
 -- like that.
-use Rattle.std.proofs.Common.{◌≡◌, ◌≢◌, ℕ, zero, suc, ◌+◌, ◌-◌, ◌^◌, ◌<◌, ◌≤◌, true, false, List, [], ◌∷◌, ◌++◌, length, refl, sym, ap, subst, ◌∙◌, inl, inr, arith}
+use Rattle.std.proofs.Common.{rules, ◌≡◌, ◌≢◌, ℕ, zero, suc, ◌+◌, ◌-◌, ◌^◌, ◌<◌, ◌≤◌, true, false, List, [], ◌∷◌, ◌++◌, length, refl, sym, ap, subst, ◌∙◌, inl, inr, arith}
 use Rattle.std.{specs.List.{concat, AllByRecursion}, proofs.lemmas.Bool.{cases_eq, eq-eqb}}
 use Rattle.sh_logic.proofs.Lists.{all_at, all_join, from_each}
 use Rattle.sh_base.specs.declared.config.ConfigParts.{ConfigParts}
@@ -125,14 +125,10 @@ module _ (p : ConfigParts) (words : List ℕ) where
       ((chain.0, inners_on level (length (d ∷ rest)) d c (omega arith) (λ z. omega (arith, z)) on (lead_all (c ∷ d ∷ rest) 0 (lead 0 (omega arith))), below.0), chain.1)
 
   some_levels : (levels : List (List ℕ)) (n : ℕ) → length levels ≡ suc n → levels ≢ []
-  some_levels [] n h = λ e. omega (arith, h)
-  some_levels (l ∷ levels) n h = λ e. absurd (cc)
+  some_levels levels n h = search rules
 
   pub walked_tree : (levels : List (List ℕ)) → IsSpelled p words (root_of words) → IsWalked p words levels → AllLead p words levels → AllOnce p words (leaves_of levels) → IsTree p words levels
-  walked_tree levels root h lead once =
-      let some : root_of words ≢ 0 = λ z. omega (arith, z, root.node.first) in
-      let lawful = down_lawful (root_of words) levels h.comes_to (some_levels levels _ h.top) h.down some lead once in
-      record { root = lawful.1; lawful = lawful.0; apart = (down_apart (root_of words) levels h.comes_to h.down some).0 }
+  walked_tree levels root h lead once = search (rules, down_lawful, some_levels, down_apart)
 
   -- ---- and a tree's levels are walked
   chain_along : (level low : ℕ) (ns : List ℕ) → IsChain p words low ns → AllByRecursion (IsOn level) ns → IsAlong p words level (first_of ns) low ns 0 (2 ^ 64 - 1)
@@ -158,8 +154,7 @@ module _ (p : ConfigParts) (words : List ℕ) where
       (below.0, (record { high = 2 ^ 64 - 1; along = chain_along level 0 c h.0 (on_inners level (length (d ∷ rest)) 0 d c (omega arith) h.0 h.1) }, subst (λ (f : ℕ). IsDown p words 0 f (d ∷ rest) below.0) (sym child) below.1))
 
   head_on : (level : ℕ) (ns : List ℕ) → IsChain p words 0 ns → AllByRecursion (IsOn level) ns → IsOn level (first_of ns)
-  head_on level [] h on = absurd (omega (arith, h))
-  head_on level (n ∷ ns) h on = on.0
+  head_on level ns h on = search rules
 
   -- the top level's first node spells an image of the top level
   top_on : (levels : List (List ℕ)) → AreLevels p words levels → IsOn (length levels - 1) (first_of (top_of levels))

@@ -1,5 +1,5 @@
 -- The walk along the levels, step by step; and that it goes one way.
-use Rattle.std.proofs.Common.{◌≡◌, ◌⊎◌, ℕ, suc, ◌+◌, List, [], ◌∷◌, ◌++◌, length, refl, sym, ap, subst, ◌∙◌, inl, inr, length-append, arith}
+use Rattle.std.proofs.Common.{rules, ◌≡◌, ◌⊎◌, ℕ, suc, ◌+◌, List, [], ◌∷◌, ◌++◌, length, refl, sym, ap, subst, ◌∙◌, inl, inr, length-append, arith}
 use Rattle.sh_base.specs.declared.config.ConfigParts.{ConfigParts}
 use Rattle.sh_tree.specs.Nodes.{high_at, next_at}
 use Rattle.sh_picture.specs.{Walk.{first_child, root_of, IsAlong, IsDown, IsLevel, IsSoundNode, IsUnsound, IsWalked}, Walks.{StopsAt}}
@@ -12,8 +12,7 @@ module _ (p : ConfigParts) (words : List ℕ) where
 
   -- the same where the names of its parts differ
   pub along_here : (level number low : ℕ) (ns ms : List ℕ) (a b high other : ℕ) → ns ≡ ms → a ≡ b → high ≡ other → IsAlong p words level number low ms b other → IsAlong p words level number low ns a high
-  along_here level number low ns ms a b high other e f g h =
-      subst (λ (l : List ℕ). IsAlong p words level number low l a high) (sym e) (subst (λ (n : ℕ). IsAlong p words level number low ms n high) (sym f) (subst (IsAlong p words level number low ms b) (sym g) h))
+  along_here level number low ns ms a b high other e f g h = search rules
 
   level_to : (a b first : ℕ) (ns : List ℕ) → a ≡ b → IsLevel p words a first ns → IsLevel p words b first ns
   level_to a b first ns e h = subst (λ (l : ℕ). IsLevel p words l first ns) e h
@@ -30,8 +29,7 @@ module _ (p : ConfigParts) (words : List ℕ) where
   Ends level low number = (number ≡ 0) ⊎ (IsSoundNode p words level low number → ⊥)
 
   sound_ends : (level low number : ℕ) → IsSoundNode p words level low number → Ends level low number → ⊥
-  sound_ends level low number s (inl z) = omega (arith, z, s.spelled.node.first)
-  sound_ends level low number s (inr un) = un s
+  sound_ends level low number s h4 = search rules
 
   pub along_one : (level number low : ℕ) (ns ms : List ℕ) (a b high other : ℕ) → IsAlong p words level number low ns a high → Ends level high a → IsAlong p words level number low ms b other → Ends level other b → (ns ≡ ms) × (a ≡ b)
   along_one level number low [] [] a b high other h x k y = (refl, h.0 ∙ sym k.0)

@@ -1,27 +1,16 @@
 -- A call of a pass, from its begin to its end.
-use Rattle.std.proofs.Common.{◌≡◌, ◌≤◌, ℕ, length, Bool, true, false, Option, Some, None, List, [], ◌∷◌, ◌++◌, refl, ap, sym, ◌∙◌, subst, append-nil, append_assoc}
+use Rattle.std.proofs.Common.{rules, ◌≡◌, ◌≤◌, ℕ, length, Bool, true, false, Option, Some, None, List, [], ◌∷◌, ◌++◌, refl, ap, sym, ◌∙◌, subst, append-nil, append_assoc}
 use Rattle.sh_map.specs.declared.{call.{Call.{Call}, Reply.{Reply}}, log.Entry.{Entry}, book.Done.{Done}}
-use Rattle.sh_client.{specs.{Machine.{Machine}, Rests.{has_ended, is_resting, reply_of, rests, rows_told}, declared.state.Phase.{Phase, TheVariants.{Ended as AtEnd}}}, proofs.BeginLemmas.{has_begun}}
+use Rattle.sh_client.{specs.{Machine.{Machine}, Rests.{has_ended, is_resting, reply_of, rests, rows_told}, declared.state.Phase.{Phase}}, proofs.BeginLemmas.{has_begun}}
 use Rattle.sh_client.proofs.Wanting.{ended_in, going_in}
-use Rattle.sh_core.specs.Actors.{Actor, done_of}
+use Rattle.sh_core.specs.Actors.{done_of}
 use Rattle.sh_core_says.specs.Books.{HasAnswers}
 use Rattle.sh_pool_rule.{specs.Views.{view_seat, Begins}, proofs.BufferLemmas.{lives_few, told_few, HasFewRows}}
 use Rattle.sh_pool.specs.{Calls.{HasServed, IsServing}, Passes.{life_of, IsPass, pass_actor, PoolTable, Standing}, Pools.{IsOfTables}, Turns.{step_of, GoesOrEnds, TookTurn}}
 use Rattle.sh_pool.{specs.declared.state.Step.TheVariants.{Going, Done as Ended}, proofs.Steps.{begun_actor, begun_as, begun_setting}}
 
 pub begun_serves : (p : Standing) (call : Call) → IsPass p → is_resting p.client ≡ true → IsServing call p (begun_as p call)
-begun_serves p call i rest =
-    let has = has_begun p.client call in
-    let is = begun_actor p call i rest in
-    record {
-      busy = has.busy;
-      call_is = has.call_is;
-      seat_is = refl;
-      seen = ([], sym (append-nil p.view.seen));
-      dones = ap (λ (a : Actor). a.dones) is;
-      first = ap (λ (a : Actor). a.first) is;
-      number = ap (λ (a : Actor). a.number) is;
-    }
+begun_serves p call i rest = search (rules, has_begun, begun_actor, append-nil)
 
 begins_more : (xs ys zs : List Entry) → Begins xs ys → Begins ys zs → Begins xs zs
 begins_more xs ys zs b c = (b.0 ++ c.0, c.1 ∙ ap (λ (es : List Entry). es ++ c.0) b.1 ∙ append_assoc xs b.0 c.0)
@@ -35,6 +24,7 @@ goes_serves p q r call s t none =
       call_is = t.call ∙ s.call_is;
       seat_is = t.seat_is ∙ s.seat_is;
       seen = begins_more p.view.seen q.view.seen r.view.seen s.seen t.seen;
+      cards = t.cards ∙ s.cards;
       dones = g.0 ∙ s.dones;
       first = g.1 ∙ s.first;
       number = g.2 ∙ s.number;
@@ -67,25 +57,22 @@ ends_served p q r call reply s t some rest pass =
       pass = pass;
       same_seat = t.seat_is ∙ s.seat_is;
       seen = begins_more p.view.seen q.view.seen r.view.seen s.seen t.seen;
+      cards = t.cards ∙ s.cards;
       answered = subst (λ (k : ℕ). HasAnswers r.view.seen k (pass_actor r)) (t.seat_is ∙ s.seat_is) t.answered;
       rests = rest;
     }
 
 pub pool_begun : (laid : Option PoolTable) (p : Standing) (call : Call) → IsOfTables laid p → IsOfTables laid (begun_as p call)
-pool_begun None p call h = absurd h
-pool_begun (Some t) p call h = record { table = h.table; setting = begun_setting p.client call ∙ h.setting; chair = h.chair }
+pool_begun laid p call h = search (rules, begun_setting)
 
 pub not_ended : (o : Option Reply) → step_of o ≡ Going → o ≡ None
-not_ended None e = refl
-not_ended (Some r) e = absurd (cc)
+not_ended o e = search rules
 
 pub ended_with : (o : Option Reply) (r : Reply) → step_of o ≡ Ended r → o ≡ Some r
-ended_with None r e = absurd (cc)
-ended_with (Some x) r e = cc
+ended_with o r e = search rules
 
 end_rests : (ph : Phase) → has_ended ph ≡ true → rests ph ≡ true
-end_rests AtEnd e = refl
-end_rests ph e = absurd (cc)
+end_rests ph e = search rules
 
 pub reply_rests : (m : Machine) (reply : Reply) → reply_of m ≡ Some reply → is_resting m ≡ true
 reply_rests m reply e = end_rests m.phase ((ended_rests m reply e).0)

@@ -1,12 +1,12 @@
 -- Which cell a pass's lock has, and which right fits there.
-use Rattle.std.proofs.{Common.{◌≡◌, ℕ, ◌/◌, ◌%◌, ◌<◌, ◌≤◌, Option, Some, None, ap, sym, ◌∙◌, subst}, lemmas.Nat.{div-mul-add, mod-mul-add}}
+use Rattle.std.proofs.{Common.{rules, ◌≡◌, ℕ, ◌/◌, ◌%◌, ◌<◌, ◌≤◌, Option, Some, ap, sym, ◌∙◌}, lemmas.Nat.{div-mul-add, mod-mul-add}}
 use Rattle.atomic_table.specs.Seated.{TableId}
 use Rattle.sh_base.specs.{declared.config.ConfigParts.{ConfigParts}, Parts.{parts_of}, Layout.{compute_of, lock_of}}
 use Rattle.sh_client.specs.declared.state.Want.TheVariants as want
 use Rattle.sh_client.{specs.{Machine.{Machine}, Wants.{want_of}}, proofs.Wanting.{leaving, looking}}
 use Rattle.sh_core.specs.Actors.{Actor}
 use Rattle.sh_local.specs.Chairs.{CellTable, FitsAt}
-use Rattle.sh_pool_rule.specs.{Views.{lock_right, view_seat}, Rights.{depth_of, right_by, right_in, IsHanding, MeetsRight}}
+use Rattle.sh_pool_rule.specs.{Views.{lock_right, view_seat}, Rights.{depth_of, right_by, IsHanding, MeetsRight}}
 use Rattle.sh_pool.specs.{Handed.{Handed}, Fitting.{cell_for, FitsCell}, Passes.{AreCellsOf, IsPass, pass_actor, Standing}, Turns.{cell_of}, declared.right.Knower.{Knower}}
 
 pub cell_parts : (p : ConfigParts) (lock c : ℕ) → c < p.computes → (cell_for p lock c / p.computes ≡ lock) × (cell_for p lock c % p.computes ≡ c)
@@ -14,12 +14,10 @@ unfolding cell_for
 cell_parts p lock c lt = (div-mul-add lock p.computes c lt, mod-mul-add lock p.computes c lt)
 
 pub fits_cell : (z : TableId) (p : ConfigParts) (cells : Option (CellTable Knower)) (cell : ℕ) (r : Handed) → AreCellsOf z p cells → FitsAt (λ key n x. FitsCell (parts_of key.cfg) key.seat.table_id n x) cells cell r → FitsCell p z cell r
-fits_cell z p None cell r are f = absurd are
-fits_cell z p (Some t) cell r are f = subst (λ (q : ConfigParts × TableId). FitsCell q.0 q.1 cell r) (λ k. (are.2 k, are.1 k)) f
+fits_cell z p cells cell r are f = search rules
 
 pub cell_fits : (z : TableId) (p : ConfigParts) (cells : Option (CellTable Knower)) (cell : ℕ) (r : Handed) → AreCellsOf z p cells → FitsCell p z cell r → FitsAt (λ key n x. FitsCell (parts_of key.cfg) key.seat.table_id n x) cells cell r
-cell_fits z p None cell r are f = absurd are
-cell_fits z p (Some t) cell r are f = subst (λ (q : ConfigParts × TableId). FitsCell q.0 q.1 cell r) (λ k. (sym are.2 k, sym are.1 k)) f
+cell_fits z p cells cell r are f = search rules
 
 module _ (p : Standing) (i : IsPass p) (a : Actor) (is : a ≡ pass_actor p) (s : ConfigParts) (setting : p.client.setting ≡ s) (lock cell : ℕ) (at : cell ≡ cell_of p lock) where
   abbrev C : ℕ
@@ -49,15 +47,10 @@ module _ (p : Standing) (i : IsPass p) (a : Actor) (is : a ≡ pass_actor p) (s 
   hands_of depth wants = let l = leaving p.client lock (Some depth) wants in record { node = l.node; depth = depth; behind = l.after; phase = ap (λ (m : Machine). m.phase) client_is ∙ l.phase_is }
 
   carried_is : (depth : ℕ) → want_of p.client ≡ want.Leave lock (Some depth) → right_by a.client ≡ Some (lock_right lock C depth)
-  carried_is depth wants = let l = leaving p.client lock (Some depth) wants in
-      ap right_by client_is ∙ ap (right_in p.client) l.phase_is ∙ (λ k. Some (lock_right (l.lock_is k) C depth))
+  carried_is depth wants = search (rules, leaving, client_is)
 
   pub depth_is : (depth : ℕ) → want_of p.client ≡ want.Leave lock (Some depth) → depth_of (right_by a.client) ≡ Some depth
   depth_is depth wants = ap depth_of (carried_is depth wants)
 
   pub fits_of : (z : TableId) (r : Handed) (depth : ℕ) → want_of p.client ≡ want.Leave lock (Some depth) → depth ≤ p.client.setting.bound → r.table ≡ z → r.view.right ≡ right_by a.client → r.depth ≡ depth → FitsCell s z cell r
-  fits_of z r depth wants le table right d = record {
-    table = table;
-    right = right ∙ carried_is depth wants ∙ (λ k. Some (lock_right (sym lock_at k) (sym compute_at k) (sym d k)));
-    within = subst (λ (n : ℕ). n ≤ s.bound) (sym d) (subst (λ (q : ConfigParts). depth ≤ q.bound) setting le);
-  }
+  fits_of z r depth wants le table right d = search (rules, carried_is, lock_at, compute_at)

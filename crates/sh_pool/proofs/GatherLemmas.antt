@@ -1,5 +1,5 @@
 -- Passes that are taken in, from the last to the first; and what the rule says where all are.
-use Rattle.std.proofs.Common.{◌≡◌, ◌≢◌, ℕ, zero, suc, ◌==◌, ◌+◌, ◌<◌, ◌≤◌, Bool, true, Option, None, Some, List, [], ◌∷◌, ◌++◌, length, map, drop, take, refl, ap, sym, ◌∙◌, subst, ⊎_elim, inl, inr, arith, length-append, eq-eqb, ne_eqb, append_assoc}
+use Rattle.std.proofs.Common.{rules, ◌≡◌, ◌≢◌, ℕ, zero, suc, ◌==◌, ◌+◌, ◌<◌, ◌≤◌, Bool, true, Option, None, Some, List, [], ◌∷◌, ◌++◌, length, map, drop, take, refl, ap, sym, ◌∙◌, subst, ⊎_elim, inl, inr, arith, length-append, eq-eqb, ne_eqb, append_assoc}
 use Rattle.std.{specs.{Prelude.{if◌then◌else◌, Any}, List.{AllByRecursion}}, proofs.{Math.Nat.{div-lt_iff_lt-mul}, num.Products.{mul-le}, lemmas.{List.{length-drop}, Bool.{cases_eq, cases_lt}}}}
 use mathlib.Core.Option.{some, some-injective, some-ne-none}
 use lib.ListN.{get_elem?}
@@ -9,11 +9,12 @@ use Rattle.sh_map.specs.declared.log.Entry.{Entry}
 use Rattle.sh_client.specs.{Machine.{Machine}, Rests.{is_resting}}
 use Rattle.sh_core.specs.{Actors.{Actor}, Core.{AreSame}, Keeps.{skips_counted}}
 use Rattle.sh_core_says.specs.Rest.{sum_below}
+use Rattle.sh_logic.proofs.Lists.{all_weaker}
 use Rattle.sh_local.{specs.{Calls.{given, taken, total}, Chairs.{AllFree, AreAll, CellTable, Sitting}}, proofs.Sums.{total_snoc}}
-use Rattle.sh_pool_rule.specs.{declared.view.{PassView.{PassView}, Member.{Member}}, Rights.{joined_view}, Rule.{KeepsPool}, Views.{member, view_seat, AllBegin, Begins, In}}
-use Rattle.sh_pool_rule.proofs.{Changed.{begins_all}, JoinLemmas.{ends_so, in_back, in_either, in_front, EndsSo}}
+use Rattle.sh_pool_rule.specs.{declared.view.{PassView.{PassView}, Card.{Card}, Member.{Member}, Past.{Past}}, Notes.{IsCard, IsFront, IsPast, KnowsNotes}, Rights.{joined_view, lengths_of, past_of}, Rule.{KeepsPool}, Views.{member, view_seat, Begins, In}}
+use Rattle.sh_pool_rule.proofs.{Changed.{begins_all}, JoinLemmas.{ends_so, in_back, in_either, in_front, EndsSo}, NoteLemmas.{front_more}}
 use Rattle.sh_pool.proofs.Steps.{calls_ended, no_ticket}
-use Rattle.sh_pool.specs.{Handed.{Handed}, Passes.{pass_actor, AreCellsOf, IsChairOf, IsPass, PoolTable, Standing}, Pools.{AreReady}, Gathering.{chairs_in, gathered_view, member_of, seats_of, told_of, AreAllPasses, AreTakenIn, HasItsCalls, IsGatheredFrom, PassesHave}, declared.right.Knower.{Knower}}
+use Rattle.sh_pool.specs.{Handed.{Handed}, Passes.{pass_actor, AreCellsOf, IsChairOf, IsPass, PoolTable, Standing}, Pools.{AreReady}, Cards.{HasItsNotes, HeardFrom}, Gathering.{chairs_in, gathered_view, member_of, seats_of, told_of, AreAllPasses, AreTakenIn, HasItsCalls, IsGatheredFrom, PassesHave}, declared.right.Knower.{Knower}}
 
 abbrev Chair : Type 0
 Chair = Sitting Handed Knower
@@ -145,9 +146,29 @@ all_parts : {X : Type 0} (P : X → Type 0) (xs ys : List X) → AllByRecursion 
 all_parts P [] ys h = (tt, h)
 all_parts P (x ∷ xs) ys h = let r = all_parts P xs ys h.1 in ((h.0, r.0), r.1)
 
-fronts_of : (log : List Entry) (qs : List Standing) → AllBegin (gathered_view qs).pasts log → AllByRecursion (λ (q : Standing). Begins q.view.seen log) qs
-fronts_of log [] h = tt
-fronts_of log (q ∷ qs) h = let s = all_parts (λ (es : List Entry). Begins es log) (gathered_view qs).pasts (q.view.seen ∷ []) h in (s.1.0, fronts_of log qs s.0)
+pasts_of : (Q : Past → Type 0) (qs : List Standing) → AllByRecursion Q (gathered_view qs).pasts → AllByRecursion (λ (q : Standing). Q (past_of (told_of q))) qs
+pasts_of Q [] h = tt
+pasts_of Q (q ∷ qs) h = let s = all_parts Q (gathered_view qs).pasts (past_of (told_of q) ∷ []) h in (s.1.0, pasts_of Q qs s.0)
+
+-- ---- what was noted
+
+heard_from : (noted : ℕ → Card) (v : PassView) (seen : List Entry) (c : Card) (rs : List Standing) → KnowsNotes noted v → IsCard noted seen c → ((m : Member) → In m (map member_of rs) → In m v.members) → AllByRecursion (λ (r : Standing). IsPast noted v.members (past_of (told_of r))) rs → HeardFrom rs c
+heard_from noted v seen c [] h i has pasts = tt
+heard_from noted v seen c (r ∷ rs) h i has pasts = (
+  (λ e. let k : ℕ = view_seat r.view in let there : In (member k (pass_actor r)) v.members = has (member_of r) (0, refl) in record {
+    dones = front_more c.dones (noted c.seat).dones (pass_actor r).dones i.dones (subst (λ (j : ℕ). IsFront (noted j).dones (pass_actor r).dones) e (h.dones k (pass_actor r) there));
+    learnt = front_more c.learnt (noted c.seat).learnt (lengths_of r.view.cards) i.learnt (subst (λ (j : ℕ). IsFront (noted j).learnt (lengths_of r.view.cards)) e pasts.0.own);
+    holds = i.holds;
+  }),
+  heard_from noted v seen c rs h i (λ m t. has m (suc t.0, t.1)) pasts.1,
+)
+
+notes_of : (noted : ℕ → Card) (qs : List Standing) → KnowsNotes noted (gathered_view qs) → AllByRecursion (HasItsNotes qs) qs
+notes_of noted qs h =
+    let v : PassView = gathered_view qs in
+    let pasts = pasts_of (IsPast noted v.members) qs h.pasts in
+    all_weaker (λ (q : Standing). IsPast noted v.members (past_of (told_of q))) (HasItsNotes qs) qs
+    (λ q g. all_weaker (IsCard noted q.view.seen) (HeardFrom qs) q.view.cards (λ c i. heard_from noted v q.view.seen c qs h i (has_on qs) pasts) g.cards) pasts
 
 longest_in : (log : List Entry) (q : Standing) (qs : List Standing) → AllByRecursion (λ (x : Standing). Begins x.view.seen log) (q ∷ qs) → length log ≤ length (gathered_view (q ∷ qs)).seen → Any (λ (x : Standing). x.view.seen ≡ log) (q ∷ qs)
 longest_in log q [] h le = (0, q, omega arith, refl, begins_all q.view.seen log h.0 le)
@@ -231,7 +252,7 @@ module _ (t : PoolTable) where
         let rest = e.rest in
         let within = seats_within e.ok qs passes all.ready in
         let once : (k : ℕ) → k < all_seats P → count qs k ≡ 1 = one_each (all_seats P) (count qs) (λ k lt. let s = seat_has k lt in count_some qs k s.0 s.1.0 s.1.1) (parts_sum (all_seats P) (λ q. 1) qs within ∙ ones qs ∙ all.long) in
-        let fronts = fronts_of v.seen qs e.pasts in
+        let fronts = pasts_of (λ (g : Past). Begins g.seen v.seen) qs e.pasts in
         let some_ = mul-le 1 1 P.computes P.seats e.ok.ranged.computes.0 e.ok.ranged.seats.0 in
         record {
           log = v.seen;
@@ -243,6 +264,7 @@ module _ (t : PoolTable) where
           causes = e.causes;
           skipped = rest.unposted (part skips qs) (λ k lt. let s = seat_has k lt in inl (s.0, s.1, part_alone qs k s.0 s.1.0 passes (once k lt) s.1.1)) ∙ parts_sum (all_seats P) skips qs within;
           calls = calls_of qs passes all.ready;
+          notes = notes_of e.noted qs e.notes;
         }
 
     pub closes : (views : List PassView) (r : KeepsPool P words views) (id : ℕ) (u : PassView) → get_elem? views id ≡ some u → u ≡ v → total (λ (c : Chair). given c.view) (chairs_in qs) ≡ total (λ (c : Chair). taken c.view) (chairs_in qs) → IsGatheredFrom P qs words
@@ -251,18 +273,10 @@ module _ (t : PoolTable) where
 -- ---- a pass more is taken in
 
 pub taken_more : (qs rest ps : List Standing) (q : Standing) (v w : PassView) (cs ds : List Chair) → AreTakenIn qs rest v cs → rest ≡ ps ++ q ∷ [] → w ≡ joined_view v (told_of q) → ds ≡ cs ++ q.chair ∷ [] → IsPass q → AreTakenIn qs ps w ds
-taken_more qs rest ps q v w cs ds t is view chairs i = record {
-  back = q ∷ t.back;
-  whole = t.whole ∙ ap (λ (xs : List Standing). xs ++ t.back) is ∙ append_assoc ps (q ∷ []) t.back;
-  view = view ∙ ap (λ (x : PassView). joined_view x (told_of q)) t.view;
-  chairs_are = chairs ∙ ap (λ (x : List Chair). x ++ q.chair ∷ []) t.chairs_are;
-  passes = (i, t.passes);
-}
+taken_more qs rest ps q v w cs ds t is view chairs i = search (rules, append_assoc)
 
 pub taken_all : (qs rest : List Standing) (v : PassView) (cs : List Chair) → AreTakenIn qs rest v cs → rest ≡ [] → (v ≡ gathered_view qs) × (cs ≡ chairs_in qs) × AllByRecursion IsPass qs
-taken_all qs rest v cs t none =
-    let is : t.back ≡ qs = sym (t.whole ∙ ap (λ (xs : List Standing). xs ++ t.back) none) in
-    (t.view ∙ ap gathered_view is, t.chairs_are ∙ ap chairs_in is, subst (AllByRecursion IsPass) is t.passes)
+taken_all qs rest v cs t none = search rules
 
 -- a word more of the table
 take_more : (xs : List ℕ) (i x : ℕ) → get_elem? xs i ≡ some x → take i xs ++ x ∷ [] ≡ take (suc i) xs

@@ -1,5 +1,5 @@
 -- A pool that is laid: the passes of its seats, one after another.
-use Rattle.std.proofs.Common.{◌≡◌, ℕ, zero, suc, ◌+◌, ◌-◌, ◌<◌, ◌≤◌, false, Option, None, Some, List, [], ◌∷◌, ◌++◌, length, length-append, replicate, refl, ap, sym, ◌∙◌, arith, subst}
+use Rattle.std.proofs.Common.{rules, ◌≡◌, ℕ, zero, suc, ◌+◌, ◌-◌, ◌<◌, ◌≤◌, false, Option, None, Some, List, [], ◌∷◌, ◌++◌, length, length-append, replicate, refl, ap, sym, ◌∙◌, arith, subst}
 use Rattle.std.proofs.{Math.Nat.{div-lt_iff_lt-mul}, lemmas.List.{length-replicate}}
 use mathlib.Core.Option.{some}
 use lib.ListN.{get_elem?}
@@ -23,7 +23,7 @@ members_are p k v lt m =
 pub maker_makes : (p : ConfigParts) (id k : ℕ) (v : PassView) → k < all_seats p → IsMaker p k (all_seats p - k) v → Splits (Pooled p) id v (less_first v) (first_alone v)
 maker_makes p id k v lt m =
     let is = members_are p k v lt m in
-    making p id v k (all_seats p - suc k) (ap (λ (u : PassView). u.members) is) (ap (λ (u : PassView). u.gave) is, ap (λ (u : PassView). u.took) is)
+    making p id v k (all_seats p - suc k) (ap (λ (u : PassView). u.members) is) (ap (λ (u : PassView). u.gave) is, ap (λ (u : PassView). u.took) is) (ap (λ (u : PassView). u.pasts) is) (ap (λ (u : PassView). u.cards) is)
 
 pub maker_left : (p : ConfigParts) (k : ℕ) (v : PassView) → k < all_seats p → IsMaker p k (all_seats p - k) v → IsMaker p (suc k) (all_seats p - suc k) (less_first v)
 maker_left p k v lt m = record { is = ap less_first (members_are p k v lt m) }
@@ -34,16 +34,13 @@ maker_alone p k v lt m = ap first_alone (members_are p k v lt m)
 -- ---- the cells
 
 pub chairs_map : (cells : Option (CellTable Knower)) (P Q : CellTable Knower → Type 0) → HasChairs cells P → ((r : CellTable Knower) → P r → Q r) → HasChairs cells Q
-chairs_map None P Q h f = absurd h
-chairs_map (Some r) P Q h f = f r h
+chairs_map cells h1 h2 h f = search rules
 
 pub chairs_and : (cells : Option (CellTable Knower)) (P Q R : CellTable Knower → Type 0) → HasChairs cells P → HasChairs cells Q → ((r : CellTable Knower) → P r → Q r → R r) → HasChairs cells R
-chairs_and None P Q R h k f = absurd h
-chairs_and (Some r) P Q R h k f = f r h k
+chairs_and cells h1 h2 h3 h k f = search rules
 
 pub chairs_use : (cells : Option (CellTable Knower)) (P : CellTable Knower → Type 0) (G : Type 0) → HasChairs cells P → ((r : CellTable Knower) → P r → G) → G
-chairs_use None P G h f = absurd h
-chairs_use (Some r) P G h f = f r h
+chairs_use cells h1 h2 h f = search rules
 
 -- ---- a pass
 
@@ -52,23 +49,7 @@ unfolding compute_of
 compute_within p ok k lt = (div-lt_iff_lt-mul (omega (arith, ok.ranged.seats))).1 lt
 
 pub fresh_is : (z : TableId) (p : ConfigParts) (r : CellTable Knower) (k : ℕ) → compute_of p k < p.computes → IsPass (fresh_pass z p r k)
-fresh_is z p r k within = record {
-  here = refl;
-  seat_is = refl;
-  within = within;
-  heard = omega arith;
-  may = tt;
-  tied = refl;
-  lived = record { client = refl; ends = refl };
-  calls = refl;
-  no_right = refl;
-  sits = refl;
-  before = λ e. absurd (cc);
-  ended = λ e. tt;
-  gave = refl;
-  took = refl;
-  answered = fresh_stays p k;
-}
+fresh_is z p r k within = search (rules, fresh_stays)
 
 pub made_pass : (z : TableId) (p : ConfigParts) (r : CellTable Knower) (k : ℕ) (t : TableId) (m : Machine) (v : PassView) (c : Sitting Handed Knower) → t ≡ z → m ≡ fresh_machine p k → v ≡ record (bare_view []) { members = member k (entered p k) ∷ [] } → c ≡ fresh_chair r.table r.key → record { table = t; client = m; begun = false; view = v; chair = c } ≡ fresh_pass z p r k
 made_pass z p r k t m v c te me ve ce = λ i. record { table = te i; client = me i; begun = false; view = ve i; chair = ce i }
@@ -96,26 +77,16 @@ abbrev Chair : Type 0
 Chair = Sitting Handed Knower
 
 pub made_none : (t : PoolTable) (v : PassView) (chairs : List Chair) (ps : List Standing) → v ≡ opening_view t.setting → ps ≡ [] → HasChairs t.cells (λ (r : CellTable Knower). chairs ≡ replicate (all_seats t.setting) (fresh_chair r.table r.key)) → AreMade t 0 v chairs ps
-made_none t v chairs ps is none h =
-    let e : all_seats t.setting ≡ all_seats t.setting - 0 = omega arith in
-    record {
-      maker = record { is = is ∙ ap (λ (n : ℕ). record (bare_view []) { members = members_from t.setting 0 n }) e };
-      made = chairs_map t.cells (λ (r : CellTable Knower). chairs ≡ replicate (all_seats t.setting) (fresh_chair r.table r.key)) (λ (r : CellTable Knower). (chairs ≡ replicate (all_seats t.setting - 0) (fresh_chair r.table r.key)) × (ps ≡ [])) h (λ r c. (c ∙ ap (λ (n : ℕ). replicate n (fresh_chair r.table r.key)) e, none));
-      long = ap length none;
-    }
+made_none t v chairs ps is none h = search (rules, chairs_map)
 
 chair_left : (t : PoolTable) (seat : ℕ) (v : PassView) (chairs rest : List Chair) (ps : List Standing) (c : Chair) → AreMade t seat v chairs ps → seat < all_seats t.setting → chairs ≡ rest ++ c ∷ [] → HasChairs t.cells (λ (r : CellTable Knower). ((c ≡ fresh_chair r.table r.key) × (rest ≡ replicate (all_seats t.setting - suc seat) (fresh_chair r.table r.key))) × (ps ≡ fresh_passes t.table t.setting r 0 seat))
-chair_left t seat v chairs rest ps c m lt is =
-    let e : suc (all_seats t.setting - suc seat) ≡ all_seats t.setting - seat = omega (arith, lt) in
-    chairs_map t.cells (λ (r : CellTable Knower). (chairs ≡ replicate (all_seats t.setting - seat) (fresh_chair r.table r.key)) × (ps ≡ fresh_passes t.table t.setting r 0 seat)) _ m.made
-    (λ r h. (pop_same (fresh_chair r.table r.key) c (all_seats t.setting - suc seat) rest (ap (λ (n : ℕ). replicate n (fresh_chair r.table r.key)) e ∙ sym h.0 ∙ is), h.1))
+chair_left t seat v chairs rest ps c m lt is = search (rules, chairs_map, pop_same)
 
 pub chair_is : (t : PoolTable) (seat : ℕ) (v : PassView) (chairs rest : List Chair) (ps : List Standing) (c : Chair) → AreMade t seat v chairs ps → seat < all_seats t.setting → chairs ≡ rest ++ c ∷ [] → HasChairs t.cells (λ (r : CellTable Knower). c ≡ fresh_chair r.table r.key)
 chair_is t seat v chairs rest ps c m lt is = chairs_map t.cells _ (λ (r : CellTable Knower). c ≡ fresh_chair r.table r.key) (chair_left t seat v chairs rest ps c m lt is) (λ r h. h.0.0)
 
 pub some_chair : (t : PoolTable) (seat : ℕ) (v : PassView) (chairs : List Chair) (ps : List Standing) → AreMade t seat v chairs ps → seat < all_seats t.setting → length chairs ≡ 0 → ⊥
-some_chair t seat v chairs ps m lt none = chairs_use t.cells (λ (r : CellTable Knower). (chairs ≡ replicate (all_seats t.setting - seat) (fresh_chair r.table r.key)) × (ps ≡ fresh_passes t.table t.setting r 0 seat)) ⊥ m.made
-    (λ r h. let l = ap length h.0 ∙ length-replicate (all_seats t.setting - seat) (fresh_chair r.table r.key) in absurd (omega (arith, l, lt, none)))
+some_chair t seat v chairs ps m lt none = search (rules, chairs_use, length-replicate)
 
 pub made_more : (t : PoolTable) (seat : ℕ) (v w : PassView) (chairs rest : List Chair) (ps qs : List Standing) (c : Chair) (q : Standing) → AreMade t seat v chairs ps → seat < all_seats t.setting → chairs ≡ rest ++ c ∷ [] → qs ≡ ps ++ q ∷ []
     → HasChairs t.cells (λ (r : CellTable Knower). q ≡ fresh_pass t.table t.setting r seat) → IsMaker t.setting (suc seat) (all_seats t.setting - suc seat) w → AreMade t (suc seat) w rest qs
@@ -127,18 +98,14 @@ made_more t seat v w chairs rest ps qs c q m lt is more pass maker = record {
 }
 
 pub made_all : (t : PoolTable) (seat : ℕ) (v : PassView) (chairs : List Chair) (ps : List Standing) → AreMade t seat v chairs ps → all_seats t.setting ≤ seat → seat ≤ all_seats t.setting → AreNewPasses t ps
-made_all t seat v chairs ps m ge le =
-    let e : seat ≡ all_seats t.setting = omega (arith, ge, le) in
-    chairs_map t.cells (λ (r : CellTable Knower). (chairs ≡ replicate (all_seats t.setting - seat) (fresh_chair r.table r.key)) × (ps ≡ fresh_passes t.table t.setting r 0 seat)) (λ (r : CellTable Knower). ps ≡ fresh_passes t.table t.setting r 0 (all_seats t.setting)) m.made
-    (λ r h. h.1 ∙ ap (fresh_passes t.table t.setting r 0) e)
+made_all t seat v chairs ps m ge le = search (rules, chairs_map)
 
 fresh_ready : (t : PoolTable) (r : CellTable Knower) → t.cells ≡ Some r → (k n : ℕ) → AreReady t.setting (Some t) (fresh_passes t.table t.setting r k n)
 fresh_ready t r is k zero = tt
 fresh_ready t r is k (suc n) = ((record { table = refl; setting = refl; chair = subst (λ (o : Option (CellTable Knower)). IsChairOf o (fresh_chair r.table r.key)) (sym is) (refl, refl) }, refl, refl), fresh_ready t r is (suc k) n)
 
 ready_by : (t : PoolTable) (ps : List Standing) (o : Option (CellTable Knower)) → t.cells ≡ o → HasChairs o (λ (r : CellTable Knower). ps ≡ fresh_passes t.table t.setting r 0 (all_seats t.setting)) → AreReady t.setting (Some t) ps
-ready_by t ps None e h = absurd h
-ready_by t ps (Some r) e h = subst (AreReady t.setting (Some t)) (sym h) (fresh_ready t r e 0 (all_seats t.setting))
+ready_by t ps o e h = search (rules, fresh_ready)
 
 pub new_ready : (t : PoolTable) (ps : List Standing) → AreNewPasses t ps → AreReady t.setting (Some t) ps
 new_ready t ps h = ready_by t ps t.cells refl h

@@ -6,5 +6,7 @@ pub mod Cells
 pub mod Staying
 pub mod Acting
 pub mod CallLemmas
+pub mod RestLemmas
+pub mod SettledLemmas
 pub mod LayLemmas
 pub mod GatherLemmas

@@ -1,14 +1,12 @@
 -- The turns that a compute server answers.
-use Rattle.std.proofs.Common.{◌≡◌, ℕ, zero, suc, ◌+◌, ◌%◌, ◌^◌, Bool, true, false, Option, Some, None, List, [], ◌∷◌, ◌++◌, length, drop, refl, ap, sym, ◌∙◌, subst, inl, inr, arith, length-append}
+use Rattle.std.proofs.Common.{rules, ◌≡◌, ℕ, ◌+◌, ◌%◌, ◌^◌, Bool, true, false, Option, Some, None, List, [], ◌∷◌, ◌++◌, length, drop, refl, ap, sym, ◌∙◌, subst, arith, length-append}
 use Rattle.std.proofs.Math.ListN.{drop_of_length-le}
 use Rattle.sh_base.specs.{declared.config.ConfigParts.{ConfigParts}, Layout.{compute_of}}
 use Rattle.sh_decide.specs.declared.state.Aim.{Aim}
 use Rattle.sh_client.specs.declared.state.Want.TheVariants as want
-use Rattle.sh_client.specs.{declared.state.Phase.{Phase, TheVariants.{Draw, Look, Read, ReadLocked, Seek}}, Machine.{Machine}, Feeds.{fed_by, fed_in, turned_by, turned_in}, Giving.{makes}}
-use Rattle.sh_client.{specs.{InLine.{is_some, stand_of, MayHand, Served, Stand, Waits}, Rests.{is_resting}, Wants.{load_of, count_of, want_in, want_of}}, proofs.CachedLemmas.{fed_keeps, turned_keeps}}
+use Rattle.sh_client.specs.{declared.state.Phase.{Phase, TheVariants.{Look}}, Machine.{Machine}, Feeds.{fed_by, fed_in, turned_by, turned_in}, Giving.{makes}}
+use Rattle.sh_client.{specs.{InLine.{is_some, stand_of, MayHand, Served, Stand, Waits}, Rests.{is_resting}, Wants.{want_in, want_of}}, proofs.CachedLemmas.{fed_keeps, turned_keeps}}
 use Rattle.sh_client.proofs.{InLineLemmas.{count_is, count_stands, draw_stands, leave_stands, load_is, look_stands, not_elsewhere}, Wanting.{leaving, looking}}
-use Rattle.sh_alloc.specs.Walks.{walk_wants}
-use Rattle.sh_read.specs.Reads.{wanted}
 use Rattle.sh_core.specs.{Actors.{actor_stepped, actor_turned}, Core.{IsLocal}}
 use Rattle.sh_local.specs.declared.view.{View.{View}, ChairCall.{ChairCall, TheVariants.{Drew, Waited, Turned, Counted, Left}}}
 use Rattle.sh_local.{specs.{Calls.{counted, drew, gave, given, gone, held, taken, took, total, turned, waited}, Chairs.{HasTicketFor, Sitting}}, proofs.Sums.{total_snoc}}
@@ -28,11 +26,7 @@ pub draws : (p : Standing) (lock : ℕ) → IsPass p → want_of p.client ≡ wa
 draws p lock i wants = subst (SitsWhere p.client.setting (compute_of p.client.setting p.client.seat) p.chair.view) (draw_stands p.client 0 lock p.client.phase wants).0 i.sits
 
 draws_to : (m : Machine) (word lock : ℕ) (ph : Phase) → want_in m ph ≡ want.Draw lock → IsBefore (fed_in m word ph).phase
-draws_to m word lock (Draw aim node) e = tt
-draws_to m word lock (Read aim top) e = absurd (not_elsewhere (want.Draw lock) (λ h. h) (load_of (wanted m.setting m.registers.reads)) e (load_is (wanted m.setting m.registers.reads)))
-draws_to m word lock (ReadLocked aim depth) e = absurd (not_elsewhere (want.Draw lock) (λ h. h) (load_of (wanted m.setting m.registers.reads)) e (load_is (wanted m.setting m.registers.reads)))
-draws_to m word lock (Seek need) e = absurd (not_elsewhere (want.Draw lock) (λ h. h) (count_of (walk_wants m.setting m.registers.walk)) e (count_is (walk_wants m.setting m.registers.walk)))
-draws_to m word lock ph e = cc
+draws_to m word lock ph e = search (rules, not_elsewhere, load_is, count_is)
 
 pub draw_pass : (p : Standing) (c : Sitting Handed Knower) (lock n word : ℕ) → IsPass p → want_of p.client ≡ want.Draw lock → c.view ≡ drew p.chair.view (cell_for p.client.setting lock (compute_of p.client.setting p.client.seat)) n → word ≡ n % 2 ^ 64 → IsPass (standing p.table (fed_by p.client word) p.begun p.view c)
 draw_pass p c lock n word i wants is word_is =
@@ -56,7 +50,7 @@ wait_pass p c lock found i wants is =
     (subst (λ (m : Machine). SitsWhere p.client.setting C c.view (stand_of m)) (sym l.1) (subst (SitsWhere p.client.setting C c.view) (sym l.0) (subst (λ (v : View Handed Knower). SitsWhere p.client.setting C v (Waits lock)) (sym is) (refl, h.1, h.2))))
     (λ b. subst (λ (m : Machine). IsBefore m.phase) (sym l.1) (i.before b)) (λ t. absurd (some_none (sym (ap (λ (v : View Handed Knower). v.ticket) is) ∙ t))) refl refl
 
-turns_to : (m : Machine) (aim : Aim) (node : ℕ) → m.phase ≡ Look aim node → IsBefore (turned_by m None).phase
+pub turns_to : (m : Machine) (aim : Aim) (node : ℕ) → m.phase ≡ Look aim node → IsBefore (turned_by m None).phase
 turns_to m aim node e = subst (λ (ph : Phase). IsBefore (turned_in m None ph).phase) (sym e) tt
 
 pub served_pass : (p : Standing) (c : Sitting Handed Knower) (lock : ℕ) → IsPass p → want_of p.client ≡ want.Look lock → c.view ≡ turned p.chair.view None → IsPass (standing p.table (turned_by p.client None) p.begun p.view c)
@@ -97,7 +91,7 @@ take_pass p c lock r i wants is depth =
     let pt = i.took in
     moved_pass p w c m (actor_turned k (pass_actor p) s (depth_of r.view.right)) i refl
     (becomes_client k (pass_actor p) s [] (turned_by (pass_actor p).client (depth_of r.view.right)) ∙ (λ z. turned_by (sym i.tied z) (depth z)))
-    (ap untold_of none) (subst EndsLeft (sym none) tt) (omega (arith, ap length calls_are, length-append old (x ∷ []))) i.no_right (turn_lives p.client.setting k (life_of p) (pass_actor p) s (depth_of r.view.right) i.lived)
+    (ap untold_of none) (subst EndsLeft (sym none) tt) (omega (arith, ap length calls_are, length-append old (x ∷ []))) i.no_right i.alone (let a = looking p.client lock wants in turn_lives p.client.setting k (life_of p) (pass_actor p) s (depth_of r.view.right) a.aim a.node (ap (λ (x : Machine). x.phase) (sym i.tied) ∙ a.phase_is) i.lived)
     (turn_calls k (life_of p) (pass_actor p) s (depth_of r.view.right) i.calls (subst (λ (x : Machine). is_resting x ≡ false) i.tied (busy_at p.client p.client.phase (λ d. let q = sym wants ∙ d in absurd (cc)))))
     (let a = looking p.client lock wants in subst (λ (o : Option ℕ). StaysAnswered p.client.setting k s (actor_turned k (pass_actor p) s o)) (sym depth) (stays_taken p.client.setting k p.view.seen (drop (length p.view.seen) r.view.seen) (pass_actor p) a.aim a.node r.depth (answered_now p i) (ap (λ (x : Machine). x.phase) (sym i.tied) ∙ a.phase_is)))
     (turned_keeps p.client (Some r.depth)) (subst (SitsWhere p.client.setting C c.view) (sym l.2) (subst (λ (v : View Handed Knower). SitsWhere p.client.setting C v (Served lock false)) (sym is) ((refl, h.1, refl), (λ q. absurd (false_true q)))))
@@ -109,9 +103,7 @@ pub has_turn : (p : Standing) (lock : ℕ) → IsPass p → want_of p.client ≡
 has_turn p lock i wants = subst (SitsWhere p.client.setting (compute_of p.client.setting p.client.seat) p.chair.view) (count_stands p.client 0 lock p.client.phase wants).0 i.sits
 
 counts_sit : (p : ConfigParts) (C lock count : ℕ) (v : View Handed Knower) (k : Stand) → MayHand lock count k → HasTicketFor (cell_for p lock C) true v → SitsWhere p C (counted v count) k
-counts_sit p C lock zero v k is h = subst (SitsWhere p C (counted v 0)) (sym is) ((refl, h.1, refl), (λ q. absurd (false_true q)))
-counts_sit p C lock (suc count) v k (inl is) h = subst (SitsWhere p C (counted v (suc count))) (sym is) ((refl, h.1, refl), (λ q. refl))
-counts_sit p C lock (suc count) v k (inr is) h = subst (SitsWhere p C (counted v (suc count))) (sym is) ((refl, h.1, refl), (λ q. refl))
+counts_sit p h1 lock count v k is h = search (rules, false_true)
 
 pub count_pass : (p : Standing) (c : Sitting Handed Knower) (lock count : ℕ) → IsPass p → want_of p.client ≡ want.Waiting lock → c.view ≡ counted p.chair.view count → IsPass (standing p.table (fed_by p.client count) p.begun p.view c)
 count_pass p c lock count i wants is =
@@ -156,7 +148,7 @@ hand_pass p c lock depth r i wants is =
     subst (λ (b : Bool). IsPass (standing p.table m b w c)) (sym (leave_not_begun p lock (Some depth) i wants))
     (moved_pass p w c m (actor_stepped k (pass_actor p) p.view.seen 0) i refl
     (becomes_client k (pass_actor p) p.view.seen (makes (pass_actor p).client) (fed_by (pass_actor p).client 0) ∙ ap (λ (y : Machine). fed_by y 0) (sym i.tied))
-    (ap untold_of rest) (subst EndsLeft (sym rest) refl) (omega (arith, ap length calls_are, length-append old (x ∷ []))) i.no_right (word_lives p.client.setting k (life_of p) (pass_actor p) p.view.seen 0 i.lived)
+    (ap untold_of rest) (subst EndsLeft (sym rest) refl) (omega (arith, ap length calls_are, length-append old (x ∷ []))) i.no_right i.alone (word_lives p.client.setting k (life_of p) (pass_actor p) p.view.seen 0 (subst (λ (x : Machine). is_resting x ≡ false) i.tied (busy_at p.client p.client.phase (λ d. let q = sym wants ∙ d in absurd (cc)))) i.lived)
     (word_calls k (life_of p) (pass_actor p) p.view.seen 0 i.calls (subst (λ (x : Machine). is_resting x ≡ false) i.tied (busy_at p.client p.client.phase (λ d. let q = sym wants ∙ d in absurd (cc)))))
     (let a = leaving p.client lock (Some depth) wants in stays_handed p.client.setting k p.view.seen (pass_actor p) (stays_now p i) record { node = a.node; depth = depth; behind = a.after; phase = ap (λ (x : Machine). x.phase) (sym i.tied) ∙ a.phase_is })
     (fed_keeps p.client 0) (subst (SitsWhere p.client.setting C c.view) (sym l.1) (ap (λ (v : View Handed Knower). v.ticket) is)) (omega (arith, pg, g)) (omega (arith, pt, t)))

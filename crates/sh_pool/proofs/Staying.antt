@@ -1,5 +1,5 @@
 -- What a turn leaves as it was: the pool that the pass is of, and the call that its client serves.
-use Rattle.std.proofs.Common.{◌≡◌, ℕ, false, Option, None, Some, ap, sym, ◌∙◌, subst}
+use Rattle.std.proofs.Common.{rules, ◌≡◌, ℕ, false, Option, None, Some, ap, sym, ◌∙◌, subst}
 use Rattle.sh_client.specs.declared.state.Want.TheVariants as want
 use Rattle.sh_client.{specs.{declared.state.Want.{Want}, Machine.{Machine}, Courses.{KeepsCall}, Feeds.{fed_by, turned_by}}, proofs.CachedLemmas.{fed_keeps, turned_keeps}}
 use Rattle.sh_local.specs.Chairs.{CellTable, Sitting}
@@ -38,12 +38,10 @@ step_kept p q want.Done s = record {
 }
 
 chair_stays : (cells : Option (CellTable Knower)) (p q : Standing) → SameChair p q → IsChairOf cells p.chair → IsChairOf cells q.chair
-chair_stays None p q s h = absurd h
-chair_stays (Some r) p q s h = (s.0 ∙ h.0, s.1 ∙ h.1)
+chair_stays cells p q s h = search rules
 
 pub step_of_pool : (t : PoolTable) (p q : Standing) → KeptBy p q → IsOf t p → IsOf t q
 step_of_pool t p q k h = record { table = k.table ∙ h.table; setting = k.keeps.0 ∙ h.setting; chair = chair_stays t.cells p q k.seated h.chair }
 
 pub pool_stays : (laid : Option PoolTable) (p q : Standing) → KeptBy p q → IsOfTables laid p → IsOfTables laid q
-pool_stays None p q k h = absurd h
-pool_stays (Some t) p q k h = step_of_pool t p q k h
+pool_stays laid p q k h = search (rules, step_of_pool)

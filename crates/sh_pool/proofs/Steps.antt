@@ -1,23 +1,22 @@
 -- What a pass's turns leave of it.
-use Rattle.std.proofs.Common.{◌≡◌, ℕ, ◌+◌, ◌<◌, ◌≤◌, Bool, true, false, Option, Some, None, List, [], ◌∷◌, ◌++◌, length, drop, refl, ap, sym, ◌∙◌, subst, arith, append-nil, length-append}
+use Rattle.std.proofs.Common.{rules, ◌≡◌, ℕ, ◌+◌, ◌<◌, ◌≤◌, Bool, true, false, Option, Some, None, List, [], ◌∷◌, ◌++◌, length, drop, refl, ap, sym, ◌∙◌, subst, arith, append-nil, length-append}
 use Rattle.std.{proofs.Math.Seq.{drop-length}, specs.Prelude.{if◌then◌else◌, map}}
 use Rattle.atomic_table.specs.Seated.{TableId}
 use Rattle.sh_base.specs.{declared.{config.ConfigParts.{ConfigParts}, event.Event.{Event}}, Layout.{compute_of}}
 use Rattle.sh_map.specs.{declared.{call.Call.{Call}, log.Entry.{Entry}, book.Done.{Done}}, Calls.{IsInRange}}
 use Rattle.sh_decide.specs.{declared.state.Aim.{Aim, TheVariants.{Own}}, Aims.{aim_of, call_key, takes_lock}}
 use Rattle.sh_client.specs.declared.state.Want.TheVariants as want
-use Rattle.sh_client.specs.{declared.state.{Phase.{Phase, TheVariants.{Idle, Root, Read, Draw, Look, Grab, Ended}}, Want.{Want}, Origin.{Origin}}, Machine.{Machine, began_cached, reading, to}}
+use Rattle.sh_client.specs.{declared.state.{Phase.{Phase, TheVariants.{Read, Draw, Look}}, Want.{Want}, Origin.{Origin}}, Machine.{Machine, began_cached, reading, to}}
 use Rattle.sh_client.specs.{Cached.{origin_of}, Feeds.{began_at, calling, fed_by, finished, from_cached, turned_by, begun as machine_begun}, Giving.{makes}, Courses.{KeepsCall}}
 use Rattle.sh_client.{specs.{InLine.{Stand, Away, stand_in, stand_of}, Rests.{has_ended, is_resting, rests}, Wants.{load_of, want_in, want_of}}, proofs.BeginLemmas.{has_begun}}
 use Rattle.sh_client.proofs.{CachedLemmas.{fed_keeps, turned_keeps}, InLineLemmas.{IsEvent, fed_stands}}
-use Rattle.sh_read.specs.Reads.{wanted}
 use Rattle.sh_core.specs.{Actors.{Actor, actor_begun, actor_going, actor_stepped, actor_turned, done_of, ending}, Core.{IsLocal}}
 use Rattle.sh_core_says.specs.Books.{HasAnswers}
 use Rattle.sh_local.{specs.{declared.view.{View.{View}, ChairCall.{ChairCall}}, Calls.{gave, given, taken, took, total}, Chairs.{Sitting}}, proofs.Sums.{total_snoc}}
-use Rattle.sh_pool_rule.specs.{declared.view.{PassView.{PassView}, Member.{Member}, Tiding.{Tiding, TheVariants.{CallTold, TurnTold, WordTold}}}, Views.{first_member, member, own, view_seat, Tale}, Lives.{calls_told, HasLived}}
+use Rattle.sh_pool_rule.specs.{declared.view.{PassView.{PassView}, Member.{Member}, Tiding.{Tiding, TheVariants.{CallTold, TurnTold, WordTold}}}, Views.{first_member, member, own, view_seat}, Lives.{calls_told, HasLived}}
 use Rattle.sh_pool_rule.specs.Untold.{UntoldTurn, CallBegun, WordAnswered, TurnServed, caught_up, life_with, untold_after, MayTake, MayTakeAll, IsActorOf, StaysAnswered}
-use Rattle.sh_pool_rule.{specs.Rule.{TookEvent, event_view}, proofs.{LifeLemmas.{becomes_client, untold_lives, word_lives}, Stayed.{stays_behind}}}
-use Rattle.sh_pool.specs.{Handed.{Handed}, Passes.{is_left, life_of, pass_actor, tale_of, untold_by, untold_if, untold_of, untold_turns, untold_with, EndsLeft, IsBefore, IsPass, SitsWhere, Standing, TellsItsCalls}}
+use Rattle.sh_pool_rule.{specs.Rule.{TookEvent}, proofs.{LifeLemmas.{becomes_client, untold_lives, word_lives}, Stayed.{stays_behind}}}
+use Rattle.sh_pool.specs.{Handed.{Handed}, Passes.{is_left, life_of, pass_actor, tale_of, untold_by, untold_of, untold_turns, EndsLeft, IsBefore, IsPass, SitsWhere, Standing, TellsItsCalls}}
 use Rattle.sh_pool.proofs.Busy.{fed_busy, is_idle, rests_not, turned_busy}
 use Rattle.sh_pool.{specs.declared.right.Knower.{Knower}, proofs.UntoldLemmas.{caught-append, drop-snoc, ends-snoc, if-snoc, life-append, may-append, with-begin}}
 
@@ -25,7 +24,7 @@ abbrev pub standing : TableId → Machine → Bool → PassView → Sitting Hand
 standing z m b v c = record { table = z; client = m; begun = b; view = v; chair = c }
 
 pub is_actor : (p : Standing) → IsPass p → IsActorOf p.client.setting p.view (pass_actor p)
-is_actor p i = record { here = i.here; turns = untold_turns p; may = i.may; is = refl }
+is_actor p i = record { here = i.here; alone = i.alone; turns = untold_turns p; may = i.may; is = refl }
 
 -- ---- the calls that its life tells
 
@@ -42,36 +41,23 @@ becomes_calls k life a log more m false h busy same e = h ∙ (λ z. map (λ (d 
 
 -- a client that isn't idle rests where its call has ended
 rests_as : (ph : Phase) → is_idle ph ≡ false → rests ph ≡ has_ended ph
-rests_as Idle e = absurd (cc)
-rests_as ph e = refl
+rests_as ph e = search rules
 
 pub busy_at : (m : Machine) (ph : Phase) → (want_in m ph ≡ want.Done → ⊥) → rests ph ≡ false
-busy_at m Idle h = absurd (h refl)
-busy_at m Ended h = absurd (h refl)
-busy_at m ph h = refl
+busy_at m ph h = search rules
 
 pub word_calls : (k : ℕ) (life : List Tiding) (a : Actor) (log : List Entry) (word : ℕ) → TellsItsCalls life a → is_resting a.client ≡ false → TellsItsCalls (WordTold word ∷ life) (actor_stepped k a log word)
-word_calls k life a log word h busy =
-    let m : Machine = fed_by a.client word in
-    let idle = rests_not a.client.phase busy in
-    becomes_calls k life a log (makes a.client) m (has_ended m.phase) h busy (fed_keeps a.client word).2 (rests_as m.phase (fed_busy a.client word a.client.phase idle idle))
+word_calls k life a log word h busy = search (rules, rests_not, becomes_calls, fed_keeps, rests_as, fed_busy)
 
 pub turn_calls : (k : ℕ) (life : List Tiding) (a : Actor) (log : List Entry) (depth : Option ℕ) → TellsItsCalls life a → is_resting a.client ≡ false → TellsItsCalls (TurnTold depth ∷ life) (actor_turned k a log depth)
-turn_calls k life a log depth h busy =
-    let m : Machine = turned_by a.client depth in
-    becomes_calls k life a log [] m (has_ended m.phase) h busy (turned_keeps a.client depth).2 (rests_as m.phase (turned_busy a.client depth a.client.phase (rests_not a.client.phase busy)))
+turn_calls k life a log depth h busy = search (rules, becomes_calls, turned_keeps, rests_as, turned_busy, rests_not)
 
 begun_calls : (life : List Tiding) (a : Actor) (call : Call) (n : ℕ) → TellsItsCalls life a → is_resting a.client ≡ true → TellsItsCalls (CallTold call ∷ life) (actor_begun a (a.number + 1) call n)
-begun_calls life a call n h rest =
-    let has = has_begun a.client call in
-    let cs : List Call = map (λ (d : Done). d.call) a.dones in
-    ap (λ (xs : List Call). xs ++ call ∷ []) (h ∙ ap (λ (b : Bool). cs ++ open_if b a.client.registers.call) rest ∙ append-nil cs) ∙ (λ z. cs ++ open_if (sym has.busy z) (sym has.call_is z))
+begun_calls life a call n h rest = search (rules, has_begun, append-nil)
 
 -- the calls of a pass that rests have all ended
 pub calls_ended : (p : Standing) → IsPass p → is_resting p.client ≡ true → map (λ (d : Done). d.call) (pass_actor p).dones ≡ calls_told (life_of p)
-calls_ended p i rest =
-    let cs : List Call = map (λ (d : Done). d.call) (pass_actor p).dones in
-    sym (i.calls ∙ ap (λ (b : Bool). cs ++ open_if b (pass_actor p).client.registers.call) (subst (λ (m : Machine). is_resting m ≡ true) i.tied rest) ∙ append-nil cs)
+calls_ended p i rest = search (rules, append-nil)
 
 pub seat_is : (v : PassView) (k : ℕ) (a : Actor) → v.members ≡ member k a ∷ [] → view_seat v ≡ k
 seat_is v k a e = ap (λ (ms : List Member). (first_member ms).seat) e
@@ -95,20 +81,13 @@ IsLate (want.Leave lock carry) = Unit {0}
 IsLate w = ⊥
 
 load_late : (o : Option ℕ) → IsLate (load_of o) → ⊥
-load_late None h = h
-load_late (Some at) h = h
+load_late o h = search rules
 
 not_late : (m : Machine) (ph : Phase) → IsBefore ph → IsLate (want_in m ph) → ⊥
-not_late m (Root aim) b h = h
-not_late m (Read aim top) b h = load_late (wanted m.setting m.registers.reads) h
-not_late m (Draw aim node) b h = h
-not_late m (Look aim node) b h = h
-not_late m (Grab aim node) b h = h
-not_late m ph b h = absurd b
+not_late m ph b h = search (rules, load_late)
 
 by_test : (b : Bool) → (b ≡ true → ⊥) → b ≡ false
-by_test true h = absurd (h refl)
-by_test false h = refl
+by_test b h = search rules
 
 pub count_not_begun : (p : Standing) (lock : ℕ) → IsPass p → want_of p.client ≡ want.Waiting lock → p.begun ≡ false
 count_not_begun p lock i e = by_test p.begun (λ b. not_late p.client p.client.phase (i.before b) (subst IsLate (sym e) tt))
@@ -116,17 +95,13 @@ count_not_begun p lock i e = by_test p.begun (λ b. not_late p.client p.client.p
 pub leave_not_begun : (p : Standing) (lock : ℕ) (carry : Option ℕ) → IsPass p → want_of p.client ≡ want.Leave lock carry → p.begun ≡ false
 leave_not_begun p lock carry i e = by_test p.begun (λ b. not_late p.client p.client.phase (i.before b) (subst IsLate (sym e) tt))
 
-rest_not_before : (ph : Phase) → rests ph ≡ true → IsBefore ph → ⊥
-rest_not_before Idle e b = b
-rest_not_before Ended e b = b
-rest_not_before ph e b = cc
+pub rest_not_before : (ph : Phase) → rests ph ≡ true → IsBefore ph → ⊥
+rest_not_before ph e b = search rules
 
 -- ---- a call begins
 
 rests_away : (m : Machine) (ph : Phase) → rests ph ≡ true → stand_in m.setting m.registers ph ≡ Away
-rests_away m Idle e = refl
-rests_away m Ended e = refl
-rests_away m ph e = cc
+rests_away m ph e = search rules
 
 -- the chair of a client with this setting and seat
 pub sits_to : (v : View Handed Knower) (m x : Machine) (k : Stand) → KeepsCall m x → stand_of x ≡ k → SitsWhere m.setting (compute_of m.setting m.seat) v k → SitsWhere x.setting (compute_of x.setting x.seat) v (stand_of x)
@@ -139,15 +114,11 @@ within_to m x keeps h = subst (λ (q : ConfigParts × ℕ). compute_of q.0 q.1 <
 
 -- one turn more of which the view isn't told
 pub untold_more : (p q : Standing) (us : List UntoldTurn) → q.view ≡ p.view → untold_turns q ≡ untold_turns p ++ us → (pass_actor q ≡ caught_up (view_seat p.view) p.view.seen (pass_actor p) us) × (life_of q ≡ life_with us (life_of p))
-untold_more p q us view now = (
-  (λ z. caught_up (view_seat (view z)) (view z).seen (own (view z)) (now z)) ∙ caught-append (view_seat p.view) p.view.seen (own p.view) (untold_turns p) us,
-  (λ z. life_with (now z) (view z).life) ∙ life-append (untold_turns p) us p.view.life,
-)
+untold_more p q us view now = search (rules, caught-append, life-append)
 
 -- the turn that a call on the chair was comes behind those before
 pub untold_now : (p q : Standing) (x : ChairCall Handed) → IsPass p → q.chair.view.calls ≡ p.chair.view.calls ++ x ∷ [] → q.client.registers.call ≡ p.client.registers.call → q.begun ≡ p.begun → q.view ≡ p.view → (p.begun ≡ true → is_left x ≡ false) → untold_turns q ≡ untold_turns p ++ untold_by x
-untold_now p q x i calls call begun view late =
-    (λ z. untold_if (begun z) (call z) (drop (view z).heard (calls z))) ∙ ap (untold_if p.begun p.client.registers.call) (drop-snoc p.view.heard p.chair.view.calls x i.heard) ∙ if-snoc p.begun p.client.registers.call (drop p.view.heard p.chair.view.calls) x late
+untold_now p q x i calls call begun view late = search (rules, drop-snoc, if-snoc)
 
 pub told_pass : (p : Standing) (c : Sitting Handed Knower) (x : ChairCall Handed) (u : UntoldTurn) (m : Machine) → IsPass p → c.view.calls ≡ p.chair.view.calls ++ x ∷ [] → untold_by x ≡ u ∷ [] → (p.begun ≡ true → is_left x ≡ false) → MayTake p.client.setting (pass_actor p) u
     → m ≡ (untold_after (view_seat p.view) p.view.seen (pass_actor p) u).client → KeepsCall p.client m → SitsWhere p.client.setting (compute_of p.client.setting p.client.seat) c.view (stand_of m) → (p.begun ≡ true → IsBefore m.phase) → (c.view.ticket ≡ None → is_left x ≡ true) → gave x ≡ 0 → took x ≡ 0 → TellsItsCalls (life_with (u ∷ []) (life_of p)) (untold_after (view_seat p.view) p.view.seen (pass_actor p) u) → IsPass (standing p.table m p.begun p.view c)
@@ -158,11 +129,12 @@ told_pass p c x u m i calls tells late may is keeps sits before ended none_given
     let q : Standing = standing p.table m p.begun p.view c in
     let now : untold_turns q ≡ untold_turns p ++ u ∷ [] = untold_now p q x i calls keeps.2 refl refl late ∙ ap (λ (us : List UntoldTurn). untold_turns p ++ us) tells in
     let more = untold_more p q (u ∷ []) refl now in
-    let lives : HasLived p.client.setting k (life_with (u ∷ []) (life_of p)) (caught_up k s (pass_actor p) (u ∷ [])) = untold_lives p.client.setting k s (life_of p) (pass_actor p) (u ∷ []) i.lived in
+    let lives : HasLived p.client.setting k (life_with (u ∷ []) (life_of p)) (caught_up k s (pass_actor p) (u ∷ [])) = untold_lives p.client.setting k s (life_of p) (pass_actor p) (u ∷ []) (may, tt) i.lived in
     let g : given c.view ≡ given p.chair.view + gave x = ap (total gave) calls ∙ total_snoc gave old x in
     let t : taken c.view ≡ taken p.chair.view + took x = ap (total took) calls ∙ total_snoc took old x in
     record {
       here = i.here;
+      alone = i.alone;
       seat_is = i.seat_is ∙ sym keeps.1;
       within = within_to p.client m keeps i.within;
       heard = omega (arith, i.heard, ap length calls, length-append old (x ∷ []));
@@ -198,67 +170,28 @@ serve_pass p c x aim n i phase calls tells late sits before ended none_given non
 
 -- ---- a turn of which the view is told at once
 
-pub moved_pass : (p : Standing) (w : PassView) (c : Sitting Handed Knower) (m : Machine) (a : Actor) → IsPass p → w.members ≡ member (view_seat p.view) a ∷ [] → a.client ≡ m → untold_of (drop w.heard c.view.calls) ≡ [] → EndsLeft (drop w.heard c.view.calls) → w.heard ≤ length c.view.calls → w.right ≡ None
+pub moved_pass : (p : Standing) (w : PassView) (c : Sitting Handed Knower) (m : Machine) (a : Actor) → IsPass p → w.members ≡ member (view_seat p.view) a ∷ [] → a.client ≡ m → untold_of (drop w.heard c.view.calls) ≡ [] → EndsLeft (drop w.heard c.view.calls) → w.heard ≤ length c.view.calls → w.right ≡ None → w.pasts ≡ []
     → HasLived p.client.setting (view_seat p.view) w.life a → TellsItsCalls w.life a → StaysAnswered p.client.setting (view_seat p.view) w.seen a → KeepsCall p.client m → SitsWhere p.client.setting (compute_of p.client.setting p.client.seat) c.view (stand_of m) → w.gave ≡ given c.view → w.took ≡ taken c.view → IsPass (standing p.table m false w c)
-moved_pass p w c m a i members is none ended heard right lived calls stays keeps sits gave took =
-    let k : ℕ = view_seat p.view in
-    let num : view_seat w ≡ k = seat_is w k a members in
-    let mine : own w ≡ a = own_is w k a members in
-    let q : Standing = standing p.table m false w c in
-    let actor : pass_actor q ≡ a = ap (caught_up (view_seat w) w.seen (own w)) none ∙ mine in
-    let life : life_of q ≡ w.life = ap (λ (us : List UntoldTurn). life_with us w.life) none in
-    record {
-      here = members ∙ (λ z. member (sym num z) (sym mine z) ∷ []);
-      seat_is = num ∙ i.seat_is ∙ sym keeps.1;
-      within = within_to p.client m keeps i.within;
-      heard = heard;
-      may = subst (MayTakeAll m.setting (view_seat w) w.seen (own w)) (sym none) tt;
-      tied = sym is ∙ ap (λ (x : Actor). x.client) (sym actor);
-      lived = subst (λ (z : (ConfigParts × ℕ) × List Tiding × Actor). HasLived z.0.0 z.0.1 z.1 z.2) (λ z. ((sym keeps.0 z, sym num z), sym life z, sym actor z)) lived;
-      calls = subst (λ (z : List Tiding × Actor). TellsItsCalls z.0 z.1) (λ z. (sym life z, sym actor z)) calls;
-      no_right = right;
-      sits = sits_to c.view p.client m (stand_of m) keeps refl sits;
-      answered = subst (λ (z : (ConfigParts × ℕ) × Actor). StaysAnswered z.0.0 z.0.1 w.seen z.1) (λ z. ((sym keeps.0 z, sym num z), sym mine z)) stays;
-      before = λ e. absurd (cc);
-      ended = λ n. ended;
-      gave = gave;
-      took = took;
-    }
+moved_pass p w c m a i members is none ended heard right alone lived calls stays keeps sits gave took = search (rules, seat_is, own_is, within_to, sits_to)
 
 is_event : (w : Want) (e : Event) → w ≡ want.Event e → IsEvent w
 is_event w e q = subst IsEvent (sym q) tt
 
 pub event_pass : (p : Standing) (e : Event) (word : ℕ) (w : PassView) → IsPass p → want_of p.client ≡ want.Event e → TookEvent (pass_actor p) (tale_of p (length p.chair.view.calls)) p.view word w → IsPass (standing p.table (fed_by p.client word) false w p.chair)
-event_pass p e word w i wants event =
-    let m : Machine = p.client in
-    let k : ℕ = view_seat p.view in
-    let a : Actor = pass_actor p in
-    let calls : List (ChairCall Handed) = p.chair.view.calls in
-    let tale : Tale = tale_of p (length calls) in
-    let v : PassView = event_view a tale p.view event.log word in
-    let all : drop (length calls) calls ≡ [] = drop-length calls in
-    subst (λ (u : PassView). IsPass (standing p.table (fed_by m word) false u p.chair)) (sym event.is)
-    (moved_pass p v p.chair (fed_by m word) (actor_stepped k a event.log word) i refl (becomes_client k a event.log (makes a.client) (fed_by a.client word) ∙ ap (λ (x : Machine). fed_by x word) (sym i.tied))
-    (ap untold_of all) (subst EndsLeft (sym all) tt) (omega arith) i.no_right (word_lives p.client.setting k (life_of p) a event.log word i.lived)
-    (word_calls k (life_of p) a event.log word i.calls (subst (λ (x : Machine). is_resting x ≡ false) i.tied (busy_at m m.phase (λ d. let q = sym wants ∙ d in absurd (cc)))))
-    (subst (λ (n : ConfigParts). StaysAnswered n k (event.log ++ makes a.client) (actor_stepped k a event.log word)) (ap (λ (x : Machine). x.setting) (sym i.tied)) event.answered) (fed_keeps m word)
-    (subst (SitsWhere m.setting (compute_of m.setting m.seat) p.chair.view) (sym (fed_stands m word m.phase (is_event (want_of m) e wants))) i.sits) i.gave i.took)
+event_pass p e word w i wants event = search (rules, drop-length, busy_at, moved_pass, becomes_client, word_lives, word_calls, fed_keeps, fed_stands)
 
 abbrev IsStart : Machine → Machine → Type 0
 IsStart m x = IsBefore x.phase × (x.setting ≡ m.setting) × (x.seat ≡ m.seat)
 
 start_at : (m : Machine) (call : Call) (origin : Origin) (t : Bool) → let x : Machine = began_cached (from_cached (calling m call) origin.low) in IsStart m (if t then to x (Draw (aim_of call) origin.child) else reading x origin.child (Read (aim_of call) false))
-start_at m call origin true = (tt, refl, refl)
-start_at m call origin false = (tt, refl, refl)
+start_at m call origin t = search rules
 
-start_by : (m : Machine) (call : Call) (o : Option Origin) → IsStart m (began_at (calling m call) call o)
-start_by m call None = (tt, refl, refl)
-start_by m call (Some origin) = start_at m call origin (takes_lock call Own)
+pub start_by : (m : Machine) (call : Call) (o : Option Origin) → IsStart m (began_at (calling m call) call o)
+start_by m call o = search (rules, start_at)
 
 same_at : (m : Machine) (call : Call) (origin : Origin) (t : Bool) → let x : Machine = began_cached (from_cached (calling m call) origin.low) in let y : Machine = began_cached (from_cached (calling (finished m) call) origin.low) in
     (if t then to y (Draw (aim_of call) origin.child) else reading y origin.child (Read (aim_of call) false)) ≡ (if t then to x (Draw (aim_of call) origin.child) else reading x origin.child (Read (aim_of call) false))
-same_at m call origin true = refl
-same_at m call origin false = refl
+same_at m call origin t = search rules
 
 same_by : (m : Machine) (call : Call) (o : Option Origin) → began_at (calling (finished m) call) call o ≡ began_at (calling m call) call o
 same_by m call None = refl
@@ -274,7 +207,7 @@ begun_setting m call = (start_by m call (origin_of m.registers.cached (call_key 
 pub begun_seated : (m : Machine) (call : Call) → compute_of m.setting m.seat ≡ (let x : Machine = machine_begun m call in compute_of x.setting x.seat)
 begun_seated m call = let s = start_by m call (origin_of m.registers.cached (call_key call)) in (λ z. compute_of (sym s.1 z) (sym s.2 z))
 
-no_begun : (p : Standing) → IsPass p → is_resting p.client ≡ true → p.begun ≡ false
+pub no_begun : (p : Standing) → IsPass p → is_resting p.client ≡ true → p.begun ≡ false
 no_begun p i rest = by_test p.begun (λ b. rest_not_before p.client.phase rest (i.before b))
 
 pub no_ticket : (p : Standing) → IsPass p → is_resting p.client ≡ true → p.chair.view.ticket ≡ None
@@ -284,9 +217,7 @@ abbrev pub begun_as : Standing → Call → Standing
 begun_as p call = standing p.table (machine_begun p.client call) true p.view p.chair
 
 begun_now : (p : Standing) (call : Call) → IsPass p → is_resting p.client ≡ true → untold_turns (begun_as p call) ≡ untold_turns p ++ CallBegun call ∷ []
-begun_now p call i rest =
-    let xs : List (ChairCall Handed) = drop p.view.heard p.chair.view.calls in
-    ap (λ (c : Call). untold_with c xs) ((has_begun p.client call).call_is) ∙ with-begin call xs (i.ended (no_ticket p i rest)) ∙ ap (λ (b : Bool). untold_if b p.client.registers.call xs ++ CallBegun call ∷ []) (sym (no_begun p i rest))
+begun_now p call i rest = search (rules, has_begun, with-begin, no_ticket, no_begun)
 
 -- the actor whose call was begun
 pub begun_actor : (p : Standing) (call : Call) → IsPass p → is_resting p.client ≡ true → pass_actor (begun_as p call) ≡ actor_begun (pass_actor p) ((pass_actor p).number + 1) call (length p.view.seen)
@@ -303,9 +234,10 @@ begin_pass p call i rest lawful =
     let q : Standing = begun_as p call in
     let now : untold_turns q ≡ untold_turns p ++ u ∷ [] = begun_now p call i rest in
     let more = untold_more p q (u ∷ []) refl now in
-    let lives : HasLived p.client.setting k (life_with (u ∷ []) (life_of p)) (caught_up k s (pass_actor p) (u ∷ [])) = untold_lives p.client.setting k s (life_of p) (pass_actor p) (u ∷ []) i.lived in
+    let lives : HasLived p.client.setting k (life_with (u ∷ []) (life_of p)) (caught_up k s (pass_actor p) (u ∷ [])) = untold_lives p.client.setting k s (life_of p) (pass_actor p) (u ∷ []) ((subst (λ (x : Machine). is_resting x ≡ true) i.tied rest, lawful), tt) i.lived in
     record {
       here = i.here;
+      alone = i.alone;
       seat_is = i.seat_is ∙ sym start.2;
       within = subst (λ (n : ConfigParts × ℕ). compute_of n.0 n.1 < n.0.computes) (λ z. (sym start.1 z, sym start.2 z)) i.within;
       heard = i.heard;

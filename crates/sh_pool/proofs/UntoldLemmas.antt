@@ -1,5 +1,5 @@
 -- Turns of which a pass's view isn't told yet, one after another.
-use Rattle.std.{proofs.Common.{◌≡◌, ℕ, zero, suc, ◌≤◌, Bool, true, false, List, [], ◌∷◌, ◌++◌, length, drop, refl, ap, sym, ◌∙◌, arith, append-nil, append_assoc}, specs.Prelude.{if◌then◌else◌, ◌||◌}}
+use Rattle.std.{proofs.Common.{rules, ◌≡◌, ℕ, zero, suc, ◌≤◌, Bool, true, false, List, [], ◌∷◌, ◌++◌, length, drop, refl, ap, sym, ◌∙◌, arith, append-nil, append_assoc}, specs.Prelude.{if◌then◌else◌, ◌||◌}}
 use Rattle.sh_base.specs.declared.config.ConfigParts.{ConfigParts}
 use Rattle.sh_map.specs.declared.{log.Entry.{Entry}, call.Call.{Call}}
 use Rattle.sh_core.specs.Actors.{Actor}
@@ -34,22 +34,17 @@ drop-snoc (suc n) (y ∷ xs) x h = drop-snoc n xs x (omega (arith, h))
 -- ---- a call that was begun
 
 or_false : (b : Bool) → (b || false) ≡ b
-or_false true = refl
-or_false false = refl
+or_false b = search rules
 
 or_true : (b : Bool) → (b || true) ≡ true
-or_true true = refl
-or_true false = refl
+or_true b = search rules
 
 has-snoc : (xs : List (ChairCall Handed)) (x : ChairCall Handed) → is_left x ≡ false → has_left (xs ++ x ∷ []) ≡ has_left xs
 has-snoc [] x no_ = or_false (is_left x) ∙ no_
 has-snoc (y ∷ xs) x no_ = ap (λ (b : Bool). is_left y || b) (has-snoc xs x no_)
 
 by_test : (s t : Bool) (A' B' A B u : List UntoldTurn) → s ≡ t → A' ≡ A ++ u → B' ≡ B ++ u → (if s then A' else B') ≡ (if t then A else B) ++ u
-by_test true true A' B' A B u e f g = f
-by_test false false A' B' A B u e f g = g
-by_test true false A' B' A B u e f g = absurd (cc)
-by_test false true A' B' A B u e f g = absurd (cc)
+by_test s t h2 h3 h4 h5 u e f g = search rules
 
 with-snoc : (call : Call) (xs : List (ChairCall Handed)) (x : ChairCall Handed) → is_left x ≡ false → untold_with call (xs ++ x ∷ []) ≡ untold_with call xs ++ untold_by x
 with-snoc call [] x no_ = ap (λ (b : Bool). if b then untold_by x ++ CallBegun call ∷ [] else CallBegun call ∷ (untold_by x ++ [])) (or_false (is_left x) ∙ no_) ∙ ap (λ (us : List UntoldTurn). CallBegun call ∷ us) (append-nil (untold_by x))
@@ -60,8 +55,7 @@ with-snoc call (y ∷ xs) x no_ = by_test (has_left (y ∷ (xs ++ x ∷ []))) (h
 
 -- one call more on the chair
 pub if-snoc : (b : Bool) (call : Call) (xs : List (ChairCall Handed)) (x : ChairCall Handed) → (b ≡ true → is_left x ≡ false) → untold_if b call (xs ++ x ∷ []) ≡ untold_if b call xs ++ untold_by x
-if-snoc true call xs x h = with-snoc call xs x (h refl)
-if-snoc false call xs x h = of-snoc xs x
+if-snoc b call xs x h = search (rules, with-snoc, of-snoc)
 
 has_end : (x : ChairCall Handed) (xs : List (ChairCall Handed)) → EndsLeft (x ∷ xs) → has_left (x ∷ xs) ≡ true
 has_end x [] e = or_false (is_left x) ∙ e

@@ -12,6 +12,7 @@ pub record IsServing (call : Call) (p q : Standing) : Type 0 where
   pub call_is : q.client.registers.call ≡ call
   pub seat_is : view_seat q.view ≡ view_seat p.view
   pub seen : Begins p.view.seen q.view.seen
+  pub cards : q.view.cards ≡ p.view.cards
   pub dones : (pass_actor q).dones ≡ (pass_actor p).dones
   pub first : (pass_actor q).first ≡ length p.view.seen
   pub number : (pass_actor q).number ≡ (pass_actor p).number + 1
@@ -34,5 +35,6 @@ pub record HasServed (call : Call) (reply : Reply) (p q : Standing) : Type 0 whe
   pub pass : IsPass q
   pub same_seat : view_seat q.view ≡ view_seat p.view
   pub seen : Begins p.view.seen q.view.seen
+  pub cards : q.view.cards ≡ p.view.cards
   pub answered : HasAnswers q.view.seen (view_seat p.view) (pass_actor q)
   pub rests : is_resting q.client ≡ true

@@ -10,7 +10,7 @@ use Rattle.sh_core.specs.{Actors.{Actor}, Causes.{HaveCauses}, Keeps.{skips_coun
 use Rattle.sh_core_says.specs.{Books.{counter_in, IsBookOf}, Rest.{AreAtRest}}
 use Rattle.sh_local.specs.{Calls.{total}, Chairs.{Sitting}}
 use Rattle.sh_pool_rule.specs.{declared.view.{Member.{Member}, PassView.{PassView}}, Views.{empty_view, member, view_seat, Begins, In}, Lives.{calls_told, HasLived}, Rights.{joined_view, told_view}}
-use Rattle.sh_pool.specs.{Handed.{Handed}, Passes.{life_of, pass_actor, tale_of, IsPass, PoolTable, Standing}, Pools.{AreReady, PoolState}, declared.right.Knower.{Knower}}
+use Rattle.sh_pool.specs.{Handed.{Handed}, Passes.{life_of, pass_actor, tale_of, IsPass, PoolTable, Standing}, Pools.{AreReady, PoolState}, Cards.{HasItsNotes}, declared.right.Knower.{Knower}}
 
 -- a pass's seat, and its actor, which has all ended calls of the pass
 abbrev pub member_of : Standing → Member
@@ -43,7 +43,8 @@ pub record HasItsCalls (q : Standing) : Type 0 where
 -- The words of a gathered pool, and its log: the longest that one of the passes has seen, of which each pass has seen a
 -- front. Word 0 is 0. The rest is said as of all seats at rest: all lock words are 0; the words hold a lawful tree with the
 -- log's map; each list that has every pass's ended calls in their order is a lawful and closed book of the log, in which each
--- refusal has its cause; and as many nodes aren't posted as the passes' clients count skips.
+-- refusal has its cause; and as many nodes aren't posted as the passes' clients count skips. Of each note that was learnt: the
+-- calls and notes that it carries of its pass come to no more than what the learning pass had seen then.
 pub record IsGatheredFrom (p : ConfigParts) (qs : List Standing) (words : List ℕ) : Type 0 where
   pub log : List Entry
   pub fronts : AllByRecursion (λ (q : Standing). Begins q.view.seen log) qs
@@ -54,6 +55,7 @@ pub record IsGatheredFrom (p : ConfigParts) (qs : List Standing) (words : List �
   pub causes : (dones : List Done) → IsBookOf (PassesHave qs) dones → HaveCauses p (counter_in p words) log dones
   pub skipped : unposted_in p words rest.levels ≡ total (λ (q : Standing). skips_counted q.client.registers.tally) qs
   pub calls : AllByRecursion HasItsCalls qs
+  pub notes : AllByRecursion (HasItsNotes qs) qs
 
 -- the pool was laid, and these passes were gathered: nothing is laid any more
 abbrev pub HasGatheredAll : Option PoolTable → List Standing → PoolState → Type 0

@@ -4,4 +4,5 @@ pub mod Passes
 pub mod Turns
 pub mod Pools
 pub mod Calls
+pub mod Cards
 pub mod Gathering

@@ -96,6 +96,7 @@ TellsItsCalls life a = calls_told life ≡ map (λ (d : Done). d.call) a.dones +
 -- actor has lived its life, and its ended calls stay answered. Its chair has a ticket where its client stands.
 pub record IsPass (p : Standing) : Type 0 where
   pub here : p.view.members ≡ member (view_seat p.view) (own p.view) ∷ []
+  pub alone : p.view.pasts ≡ []
   pub seat_is : view_seat p.view ≡ p.client.seat
   pub within : compute_of p.client.setting p.client.seat < p.client.setting.computes
   pub heard : p.view.heard ≤ length p.chair.view.calls

@@ -119,12 +119,13 @@ GoesOrEnds true seat a log m b = b.dones ≡ a.dones ++ done_of seat a log m ∷
 GoesOrEnds false seat a log m b = (b.dones ≡ a.dones) × (b.first ≡ a.first) × (b.number ≡ a.number)
 
 -- The pass's actor took a turn on a log that begins with all that the pass had seen; and that begins what it has seen now.
--- All its ended calls are answered within what it has seen now.
+-- All its ended calls are answered within what it has seen now, and it has learnt no note.
 pub record TookTurn (p q : Standing) : Type 0 where
   pub log : List Entry
   pub begins : Begins p.view.seen log
   pub seen : Begins p.view.seen q.view.seen
   pub seat_is : view_seat q.view ≡ view_seat p.view
+  pub cards : q.view.cards ≡ p.view.cards
   pub call : q.client.registers.call ≡ p.client.registers.call
   pub busy : has_ended q.client.phase ≡ false → is_resting q.client ≡ false
   pub answered : HasAnswers q.view.seen (view_seat q.view) (pass_actor q)

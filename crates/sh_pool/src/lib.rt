@@ -5,6 +5,8 @@ mod events;
 mod gathering;
 mod laying;
 mod local;
+mod note;
+mod noting;
 mod pass;
 mod pool;
 mod right;
@@ -12,6 +14,7 @@ mod serving;
 mod state;
 mod stepping;
 
+pub use note::Note;
 pub use pool::{LaidPool, Pool};
 pub use right::{Knower, Right};
 pub use state::{Pass, Step};

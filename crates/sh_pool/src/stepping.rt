@@ -36,6 +36,7 @@ impl Pass {
         requires of { IsOfPool pool.now self.old }
         requires busy { is_resting self.old.client ≡ false }
         ensures step { StepsBy (want_of self.old.client) self.old self.new }
+        ensures wants { want_of self.old.client ≢ want.Done }
         ensures turn { TookTurn self.old self.new }
         ensures reply { result ≡ step_of (reply_of self.new.client) }
         ensures of { IsOfPool pool.now self.new }

@@ -1,21 +1,21 @@
 -- An event on the table of words keeps its rule.
-use Rattle.std.proofs.Common.{◌≡◌, ◌≢◌, ℕ, zero, suc, ◌==◌, ◌≤◌, Bool, true, false, List, [], ◌∷◌, ◌++◌, length, set, refl, ap, sym, ◌∙◌, subst, ⊎_elim, append-nil, arith}
+use Rattle.std.proofs.Common.{rules, ◌≡◌, ◌≢◌, ℕ, zero, suc, ◌≤◌, Bool, false, List, [], ◌∷◌, ◌++◌, length, set, refl, ap, sym, subst, ⊎_elim, append-nil, arith}
 use Rattle.std.specs.Prelude.{if◌then◌else◌, slice_index, slice_set}
 use mathlib.Core.Option.{some}
 use prog.Atomic.{either}
 use lib.ListN.{get_elem?}
 use Rattle.atomic_table.{specs.Table.{State, Me, Allows, keeps}, proofs.Lists.{at_set, set_here}}
-use Rattle.sh_base.specs.{declared.{config.ConfigParts.{ConfigParts}, event.Event.{Event, TheVariants.{Load, Store, Exchange, Add}}}, Memory.{apply, found_by, at_of}}
-use Rattle.sh_map.specs.declared.log.Entry.{Entry}
+use Rattle.sh_base.specs.{declared.{config.ConfigParts.{ConfigParts}, event.Event.{Event}}, Memory.{apply, found_by, at_of}}
+use Rattle.sh_map.specs.{declared.log.Entry.{Entry}, Log.{IsLegal}}
 use Rattle.sh_client.specs.declared.state.Want.TheVariants as want
-use Rattle.sh_client.specs.{Giving.{makes}, Wants.{want_of}}
+use Rattle.sh_client.specs.{Feeds.{fed_by}, Giving.{makes}, Wants.{want_of}}
 use Rattle.sh_core.specs.{Actors.{Actor, actor_stepped}, Core.{Inv, Moves}}
 use Rattle.sh_core_turns.{specs.Senses.{is_senseless}, proofs.{Senses.{never_senseless}, Turns.{turn_keeps}}}
 use Rattle.sh_core_says.{specs.Books.{HasAnswers}, proofs.{Books.{calls_are_answered}, Moments.{each_moment}}}
 use Rattle.sh_local.proofs.Sums.{at_lt}
 use Rattle.sh_pool_rule.specs.{declared.view.PassView.{PassView}, Views.{Has, In, Out, member, own, view_seat, Tale}, Untold.{IsActorOf, StaysAnswered}}
 use Rattle.sh_pool_rule.specs.Rule.{KnowsLog, KeepsPool, TookEvent, EventMoment, event_view, word_left, word_told}
-use Rattle.sh_pool_rule.proofs.{Relations.{all_begin_on, begins_on, counts_set, moves_at, one, only, out_from, out_to, rights_same}, Staying.{stays}, Untold.{catches_up}}
+use Rattle.sh_pool_rule.proofs.{NoteLemmas.{asked_dones, front_more, notes_on, notes_set, turn_dones}, Relations.{all_begin_on, begins_on, counts_set, moves_at, one, only, out_from, out_to, rights_same}, Staying.{stays}, Untold.{catches_up}}
 
 abbrev pub Pooled : ConfigParts → State (Unit {0}) PassView → Type 0
 Pooled p s = KeepsPool p s.words s.views
@@ -53,7 +53,7 @@ turn_kept p words views r id v a e tale at asks wants =
     }) in
     let now : Inv p (apply words e) log Now (Out views') = rights_same p (apply words e) log Now (Out views) (Out views') t.inv (out_to views id v w at refl) (out_from views id v w at refl) in
     let answers : HasAnswers log k b = calls_are_answered p (apply words e) log Now (Out views') k b now mv.here in
-    let moment : EventMoment p e word k b log = record { words = words; views = views'; found = refl; here = mv.here; holds = each_moment p (apply words e) log Now (Out views') now } in
+    let moment : EventMoment p e word k b log = record { words = words; views = views'; found = refl; here = mv.here; holds = each_moment p (apply words e) log Now (Out views') now; legal = subst IsLegal now.log_is now.ground.legal } in
     let knows : KnowsLog log r.home r.bearer id w = record {
       begins = ([], sym (append-nil log));
       pasts = all_begin_on r.log more v.pasts known.pasts;
@@ -75,6 +75,8 @@ turn_kept p words views r id v a e tale at asks wants =
             (λ (s : (i ≡ id) × (w ≡ u)). subst (λ (z : ℕ × PassView). KnowsLog log r.home r.bearer z.0 z.1) (λ z. (sym s.0 z, s.1 z)) knows)
             (λ (s : (i ≢ id) × (get_elem? views i ≡ some u)). knows_on r.log more r.home r.bearer i u (r.each i u s.1))
             (at_set views id i w u q);
+        noted = r.noted;
+        notes = notes_set r.noted views id w r.notes (notes_on r.noted k v w (own v) b asks.here asks.alone refl refl refl (front_more (own v).dones a.dones b.dones (asked_dones p v a asks) (turn_dones k a r.log more (fed_by a.client word))) (begins_on v.seen r.log more known.begins) (r.notes id v at));
       },
       record { event = e; wanted = wants; log = r.log; begins = known.begins; is = refl; sense = t.sense; answered = subst (λ (x : ConfigParts). StaysAnswered x k log b) (sym t.setting) (stays p r.ok (apply words e) log k Now (Out views') b now mv.here answers.seen); moment = subst (λ (x : ConfigParts). EventMoment x e word k b log) (sym t.setting) moment },
     )
@@ -87,20 +89,13 @@ same_words (x ∷ xs) zero = refl
 same_words (x ∷ xs) (suc i) = ap (λ (ys : List ℕ). x ∷ ys) (same_words xs i)
 
 exchanges : (words : List ℕ) (at new n : ℕ) → slice_index words at ≡ n → (t : Bool) → slice_set words at (either t new n) ≡ (if t then slice_set words at new else words)
-exchanges words at new n is true = refl
-exchanges words at new n is false = ap (slice_set words at) (sym is) ∙ same_words words at
+exchanges words at new n is t = search (rules, same_words)
 
 pub step_is : (words : List ℕ) (e : Event) → slice_set words (at_of e) (word_left e (slice_index words (at_of e))) ≡ apply words e
-step_is words (Load at) = same_words words at
-step_is words (Store at word) = refl
-step_is words (Exchange at old new) = exchanges words at new (slice_index words at) refl (slice_index words at == old)
-step_is words (Add at) = refl
+step_is words e = search (rules, same_words, exchanges)
 
 told_is : (words : List ℕ) (e : Event) → word_told e (slice_index words (at_of e)) ≡ found_by words e
-told_is words (Load at) = refl
-told_is words (Store at word) = refl
-told_is words (Exchange at old new) = refl
-told_is words (Add at) = refl
+told_is words e = search rules
 
 pub allows_turn : (p : ConfigParts) (slots id : ℕ) (me : Me (Unit {0}) PassView) (a : Actor) (e : Event) (tale : Tale) → IsActorOf p me.0 a → want_of a.client ≡ want.Event e
     → Allows (Pooled p) slots id me (at_of e) (word_left e) (λ n now. TookEvent a tale me.0 (word_told e n) now.0 × (now.1 ≡ me.1))

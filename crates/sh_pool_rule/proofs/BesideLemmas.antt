@@ -1,5 +1,5 @@
 -- A view with no actor and no right comes beside the others.
-use Rattle.std.proofs.Common.{◌≡◌, ℕ, ◌+◌, None, List, [], ◌∷◌, ◌++◌, length, refl, ap, sym, ◌∙◌, subst, ⊎_elim, arith}
+use Rattle.std.proofs.Common.{rules, ◌≡◌, ℕ, ◌+◌, None, List, [], ◌∷◌, ◌++◌, length, refl, ap, sym, ◌∙◌, subst, ⊎_elim, arith}
 use mathlib.Core.Option.{some}
 use lib.ListN.{get_elem?}
 use Rattle.atomic_table.{specs.Table.{Enters}, proofs.Lists.{at_longer}}
@@ -7,10 +7,10 @@ use Rattle.sh_base.specs.declared.config.ConfigParts.{ConfigParts}
 use Rattle.sh_core.{specs.{Actors.{Actor}, Core.{AreSame, AreSameRights}}, proofs.Moves.{same_keeps}}
 use Rattle.sh_local.specs.Calls.{weight}
 use Rattle.sh_logic.proofs.Options.{none_some}
-use Rattle.sh_pool_rule.specs.{declared.view.{PassView.{PassView}}, Views.{empty_view, member, AllBegin, Begins, Has, In, Out}}
-use Rattle.sh_pool_rule.{specs.Rule.{all_given, all_out, all_taken, KeepsPool, KnowsLog}, proofs.{Relations.{counts_snoc, none_in}, Allowed.{Pooled}, Changed.{at_length}}}
+use Rattle.sh_pool_rule.specs.{declared.view.{PassView.{PassView}}, Views.{empty_view, member, AllBegin, Begins, Has, In, Out}, Notes.{KnowsNotes}}
+use Rattle.sh_pool_rule.{specs.Rule.{all_given, all_out, all_taken, KeepsPool, KnowsLog}, proofs.{NoteLemmas.{bare_notes, notes_snoc}, Relations.{counts_snoc, none_in}, Allowed.{Pooled}, Changed.{at_length}}}
 
-module _ (p : ConfigParts) (words : List ℕ) (views : List PassView) (r : KeepsPool p words views) (w : PassView) (none : w.members ≡ []) (no_right : w.right ≡ None) (fresh : (w.gave ≡ 0) × (w.took ≡ 0)) (begins : Begins w.seen r.log) (pasts : AllBegin w.pasts r.log) where
+module _ (p : ConfigParts) (words : List ℕ) (views : List PassView) (r : KeepsPool p words views) (w : PassView) (none : w.members ≡ []) (no_right : w.right ≡ None) (fresh : (w.gave ≡ 0) × (w.took ≡ 0)) (begins : Begins w.seen r.log) (pasts : AllBegin w.pasts r.log) (new : KnowsNotes r.noted w) where
   abbrev now : List PassView
   now = views ++ w ∷ []
 
@@ -30,13 +30,7 @@ module _ (p : ConfigParts) (words : List ℕ) (views : List PassView) (r : Keeps
   }
 
   knows : KnowsLog r.log r.home r.bearer (length views) w
-  knows = record {
-    begins = begins;
-    pasts = pasts;
-    here = λ j b m. absurd (none_here j b w refl m);
-    right = λ c q. absurd (none_some (sym no_right ∙ q));
-    idle = λ n. fresh;
-  }
+  knows = search (rules, none_here, none_some)
 
   even : all_given now ≡ all_taken now + all_out now
   even =
@@ -55,8 +49,10 @@ module _ (p : ConfigParts) (words : List ℕ) (views : List PassView) (r : Keeps
     bearer = r.bearer;
     even = even;
     each = λ i u e. ⊎_elim (λ (t : get_elem? views i ≡ some u). r.each i u t) (λ (t : (i ≡ length views) × (w ≡ u)). subst (λ (q : ℕ × PassView). KnowsLog r.log r.home r.bearer q.0 q.1) (λ z. (sym t.0 z, t.1 z)) knows) (at_length views w i u e);
+    noted = r.noted;
+    notes = notes_snoc r.noted views w r.notes new;
   }
 
 -- a new seat, which knows nothing
 pub entering : (p : ConfigParts) (slots word : ℕ) → Enters (Pooled p) slots word (λ n w. w ≡ empty_view)
-entering p slots word s r homes small = (empty_view, beside_kept p s.words s.views r empty_view refl refl (refl, refl) (r.log, refl) tt, refl)
+entering p slots word s r homes small = (empty_view, beside_kept p s.words s.views r empty_view refl refl (refl, refl) (r.log, refl) tt (bare_notes r.noted empty_view refl refl refl), refl)

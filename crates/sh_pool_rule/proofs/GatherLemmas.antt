@@ -6,10 +6,11 @@ use Rattle.atomic_table.{specs.Table.{Joins}, proofs.Lists.{set_else, set_here}}
 use Rattle.sh_base.specs.declared.config.ConfigParts.{ConfigParts}
 use Rattle.sh_core.specs.Actors.{Actor}
 use Rattle.sh_local.proofs.Sums.{at_lt}
-use Rattle.sh_pool_rule.{specs.{declared.view.PassView.{PassView}, Views.{empty_view, view_seat, Tale}, Untold.{IsActorOf}, Rights.{joined_view, told_view}, Rule.{KeepsPool}}, proofs.Allowed.{Pooled}}
-use Rattle.sh_pool_rule.proofs.{JoinLemmas.{joining_kept}, SettleLemmas.{settle_kept}}
+use Rattle.sh_logic.proofs.Lists.{all_join}
+use Rattle.sh_pool_rule.{specs.{declared.view.{PassView.{PassView}, Past.{Past}}, Views.{empty_view, Begins, Tale}, Untold.{IsActorOf}, Rights.{joined_view, past_of, told_view}, Rule.{KeepsPool}}, proofs.Allowed.{Pooled}}
+use Rattle.sh_pool_rule.proofs.{JoinLemmas.{joined_notes, joining_kept}, SettleLemmas.{settle_kept}}
 
-set_twice : {A : Type 0} (xs : List A) (o : ℕ) (w e : A) → set (set xs o w) o e ≡ set xs o e
+pub set_twice : {A : Type 0} (xs : List A) (o : ℕ) (w e : A) → set (set xs o w) o e ≡ set xs o e
 set_twice [] o w e = refl
 set_twice (x ∷ xs) zero w e = refl
 set_twice {A} (x ∷ xs) (suc o) w e = ap (λ (ys : List A). x ∷ ys) (set_twice xs o w e)
@@ -30,5 +31,8 @@ taking_in p id v other w a tale is no_right s r at apart there =
     let k : KeepsPool p s.words views = settle_kept p s.words s.views r other w other_at a is tale in
     let told_at : get_elem? views other ≡ some told = set_here s.views other told (at_lt s.views other w other_at) in
     let id_at : get_elem? views id ≡ some v = set_else s.views other id told (λ (e : id ≡ other). apart (sym e)) ∙ at in
+    let known = k.each id v id_at in
     subst (KeepsPool p s.words) (set_between s.views other id told both empty_view)
-    (joining_kept p s.words views k id v id_at other told apart (set_else views id other both apart ∙ told_at) (view_seat w) a refl no_right)
+    (joining_kept p s.words views k id v id_at other told apart both.pasts both.cards (set_else views id other both apart ∙ told_at) no_right
+    (all_join (λ (g : Past). Begins g.seen k.log) v.pasts (past_of told ∷ []) known.pasts ((k.each other told told_at).begins, tt))
+    (joined_notes k.noted v told a refl is.alone (k.notes id v id_at) (k.notes other told told_at)))

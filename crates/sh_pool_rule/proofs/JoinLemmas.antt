@@ -1,20 +1,20 @@
 -- A pass that is taken in keeps the rule; and what the rule says where one view has all actors, and they rest.
-use Rattle.std.proofs.Common.{◌≡◌, ◌≢◌, ◌⊎◌, ℕ, zero, suc, ◌+◌, ◌<◌, ◌≤◌, ◌==◌, Bool, true, None, List, [], ◌∷◌, ◌++◌, length, set, refl, ap, sym, ◌∙◌, subst, ⊎_elim, inl, inr, arith, eq-eqb, ne_eqb}
+use Rattle.std.proofs.Common.{◌≡◌, ◌≢◌, ◌⊎◌, ℕ, zero, suc, ◌+◌, ◌<◌, ◌≤◌, ◌==◌, Bool, true, None, List, [], ◌∷◌, ◌++◌, length, drop, set, refl, ap, sym, ◌∙◌, subst, ⊎_elim, inl, inr, arith, eq-eqb, ne_eqb}
 use Rattle.std.specs.Prelude.{if◌then◌else◌, slice_index}
 use mathlib.Core.{Option.{some}, Logic.{dite}}
 use native.Mathlib.Decide.{ℕ_discrete}
 use lib.ListN.{get_elem?}
-use Rattle.atomic_table.{specs.Table.{Joins}, proofs.Lists.{at_set, set_here, set_else, at_longer}}
+use Rattle.atomic_table.{proofs.Lists.{at_set, set_here, set_else, at_longer}}
 use Rattle.sh_base.specs.{declared.config.ConfigParts.{ConfigParts}, Setting.{all_seats, pool_words, IsSetting}, Places.{Own}}
 use Rattle.sh_map.specs.declared.{log.Entry.{Entry}, book.Done.{Done}}
 use Rattle.sh_client.specs.Rests.{is_resting}
 use Rattle.sh_core.{specs.{Actors.{Actor}, Causes.{HaveCauses}, Core.{AreSame}}, proofs.Moves.{same_keeps}}
 use Rattle.sh_core_says.{specs.{Books.{counter_in, IsBookOf}, Rest.{AreAtRest}}, proofs.{AtRest.{at_rest}, Books.{refusals_have_causes}}}
 use Rattle.sh_local.{specs.Calls.{weight}, proofs.Sums.{same_at, at_lt, total_alone, total_part}}
-use Rattle.sh_logic.proofs.{Lists.{all_join}, Options.{none_some}}
-use Rattle.sh_pool_rule.specs.{declared.view.{PassView.{PassView}, Member.{Member}}, Views.{empty_view, member, longer, Begins, AllBegin, In, Has, Out}}
-use Rattle.sh_pool_rule.{specs.{Rights.{joined_view}, Rule.{all_given, all_out, all_taken, KnowsLog, SeesAll, KeepsPool}}, proofs.Relations.{counts_set, counts_spent, none_in, one, only}}
-use Rattle.sh_pool_rule.proofs.{Allowed.{Pooled}, Changed.{longer_long, longer_begins, longer_all}}
+use Rattle.sh_logic.proofs.{Lists.{all_join, all_weaker}, Options.{none_some}}
+use Rattle.sh_pool_rule.specs.{declared.view.{PassView.{PassView}, Card.{Card}, Member.{Member}, Past.{Past}}, Views.{empty_view, member, longer, view_seat, AllBegin, In, Has, Out}}
+use Rattle.sh_pool_rule.{specs.{Notes.{IsPast, KnowsNotes}, Rights.{joined_view, past_of}, Rule.{all_given, all_out, all_taken, KnowsLog, SeesAll, KeepsPool}}, proofs.Relations.{counts_set, counts_spent, none_in, one}}
+use Rattle.sh_pool_rule.proofs.{Changed.{longer_long, longer_begins, longer_all}, NoteLemmas.{cards_on, notes_set, notes_spent}}
 
 pub in_front : (m : Member) (ms ns : List Member) → In m ms → In m (ms ++ ns)
 in_front m ms ns (i, e) = (i, at_longer ms ns i m e)
@@ -28,10 +28,14 @@ in_either m [] ns h = inr h
 in_either m (x ∷ ms) ns (zero, e) = inl (zero, e)
 in_either m (x ∷ ms) ns (suc i, e) = ⊎_elim (λ (h : In m ms). inl (suc h.0, h.1)) (λ (h : In m ns). inr h) (in_either m ms ns (i, e))
 
+-- two views as one, with these that were taken in, and these cards
+abbrev pub joined_with : PassView → PassView → List Past → List Card → PassView
+joined_with v w gs cs = record (joined_view v w) { pasts = gs; cards = cs }
+
 module _ (p : ConfigParts) (words : List ℕ) (views : List PassView) (r : KeepsPool p words views) (id : ℕ) (v : PassView) (at : get_elem? views id ≡ some v)
-    (other : ℕ) (w : PassView) (apart : other ≢ id) (there : get_elem? (set views id (joined_view v w)) other ≡ some w) (k : ℕ) (a : Actor) (members : w.members ≡ member k a ∷ []) (no_right : w.right ≡ None) where
+    (other : ℕ) (w : PassView) (apart : other ≢ id) (gs : List Past) (cs : List Card) (there : get_elem? (set views id (joined_with v w gs cs)) other ≡ some w) (no_right : w.right ≡ None) (new_pasts : AllBegin gs r.log) (new_notes : KnowsNotes r.noted (joined_with v w gs cs)) where
   abbrev new : PassView
-  new = joined_view v w
+  new = joined_with v w gs cs
 
   abbrev mid : List PassView
   mid = set views id new
@@ -92,16 +96,13 @@ module _ (p : ConfigParts) (words : List ℕ) (views : List PassView) (r : Keeps
       (now_at i u e)
 
   abbrev lives : ℕ → ℕ
-  lives j = if j == k then id else r.home j
+  lives j = if r.home j == other then id else r.home j
 
-  lives_here : lives k ≡ id
-  lives_here = ap (λ (t : Bool). if t then id else r.home k) (eq-eqb k k refl)
+  lives_here : (j : ℕ) → r.home j ≡ other → lives j ≡ id
+  lives_here j e = ap (λ (t : Bool). if t then id else r.home j) (eq-eqb (r.home j) other e)
 
-  lives_else : (j : ℕ) → j ≢ k → lives j ≡ r.home j
-  lives_else j ne = ap (λ (t : Bool). if t then id else r.home j) (ne_eqb j k ne)
-
-  home_k : r.home k ≡ other
-  home_k = (others.here k a (subst (In (member k a)) (sym members) (one k a))).0
+  lives_else : (j i : ℕ) → r.home j ≡ i → i ≢ other → lives j ≡ i
+  lives_else j i e ne = ap (λ (t : Bool). if t then id else r.home j) (ne_eqb (r.home j) other (λ q. ne (sym e ∙ q))) ∙ e
 
   long : (length v.seen ≤ length (longer v.seen w.seen)) × (length w.seen ≤ length (longer v.seen w.seen))
   long = longer_long v.seen w.seen
@@ -115,16 +116,20 @@ module _ (p : ConfigParts) (words : List ℕ) (views : List PassView) (r : Keeps
       (λ (t : (i ≡ id) × (new ≡ u)). subst (λ (q : ℕ × PassView). K q.0 q.1) (λ z. (sym t.0 z, t.1 z)) (
       let kn : K id new = record {
         begins = longer_begins v.seen w.seen r.log known.begins others.begins;
-        pasts = all_join (λ (es : List Entry). Begins es r.log) v.pasts (w.seen ∷ []) known.pasts (others.begins, tt);
+        pasts = new_pasts;
         here = λ j b m. ⊎_elim
-            (λ (h : In (member j b) v.members). let q = known.here j b h in let le = q.1 in (lives_else j (λ (s : j ≡ k). apart (sym home_k ∙ ap r.home (sym s) ∙ q.0)) ∙ q.0, omega (arith, le, long.0)))
-            (λ (h : In (member j b) w.members). let o = only k j a b (subst (In (member j b)) members h) in let q = others.here j b h in let le = q.1 in (subst (λ (n : ℕ). lives n ≡ id) (sym o.0) lives_here, omega (arith, le, long.1)))
+            (λ (h : In (member j b) v.members). let q = known.here j b h in let le = q.1 in (lives_else j id q.0 (λ (s : id ≡ other). apart (sym s)), omega (arith, le, long.0)))
+            (λ (h : In (member j b) w.members). let q = others.here j b h in let le = q.1 in (lives_here j q.0, omega (arith, le, long.1)))
             (in_either (member j b) v.members w.members m);
         right = known.right;
-        idle = λ n. absurd (n (member k a) (in_back (member k a) v.members w.members (subst (In (member k a)) (sym members) (one k a))));
+        idle = λ n.
+            let a = known.idle (λ m h. n m (in_front m v.members w.members h)) in
+            let b = others.idle (λ m h. n m (in_back m v.members w.members h)) in
+            let a0 = a.0 in let a1 = a.1 in let b0 = b.0 in let b1 = b.1 in
+            (omega (arith, a0, b0), omega (arith, a1, b1));
       } in kn))
       (λ (t : (i ≢ other) × (i ≢ id) × (get_elem? views i ≡ some u)). let kn = r.each i u t.2 in
-      record { begins = kn.begins; pasts = kn.pasts; here = λ j b m. let q = kn.here j b m in (lives_else j (λ (s : j ≡ k). t.0 (sym q.0 ∙ ap r.home s ∙ home_k)) ∙ q.0, q.1); right = kn.right; idle = kn.idle }) z)
+      record { begins = kn.begins; pasts = kn.pasts; here = λ j b m. let q = kn.here j b m in (lives_else j i q.0 t.0, q.1); right = kn.right; idle = kn.idle }) z)
       (now_at i u e)
 
   whole_if : (v.seen ≡ r.log) ⊎ (w.seen ≡ r.log) → new.seen ≡ r.log
@@ -149,10 +154,24 @@ module _ (p : ConfigParts) (words : List ℕ) (views : List PassView) (r : Keeps
       omega (arith, q, a0, a1, a2, b0, b1, b2, none)
 
   pub joining_kept : KeepsPool p words now
-  joining_kept = record { ok = r.ok; log = r.log; inv = same_keeps p words r.log (Has views) (Has now) (Out views) (Out now) r.inv same record { on = out_on; back = out_back }; top = top; home = lives; even = even; bearer = r.bearer; each = knows }
+  joining_kept = record { ok = r.ok; log = r.log; inv = same_keeps p words r.log (Has views) (Has now) (Out views) (Out now) r.inv same record { on = out_on; back = out_back }; top = top; home = lives; even = even; bearer = r.bearer; each = knows; noted = r.noted; notes = notes_spent r.noted mid other (notes_set r.noted views id new r.notes new_notes) }
 
-pub joining : (p : ConfigParts) (id : ℕ) (v : PassView) (other : ℕ) (w : PassView) (k : ℕ) (a : Actor) → w.members ≡ member k a ∷ [] → w.right ≡ None → Joins (Pooled p) id v other w (joined_view v w) empty_view
-joining p id v other w k a members no_right s r at apart there = joining_kept p s.words s.views r id v at other w apart there k a members no_right
+not_none : (gs : List Past) (g : Past) → gs ++ g ∷ [] ≡ [] → ⊥
+not_none [] g e = cc
+not_none (x ∷ gs) g e = cc
+
+-- what a view knows of notes that has taken a pass in
+pub joined_notes : (noted : ℕ → Card) (v w : PassView) (a : Actor) → w.members ≡ member (view_seat w) a ∷ [] → w.pasts ≡ [] → KnowsNotes noted v → KnowsNotes noted w → KnowsNotes noted (joined_view v w)
+joined_notes noted v w a members alone h l =
+    let mine : In (member (view_seat w) a) w.members = subst (In (member (view_seat w) a)) (sym members) (one (view_seat w) a) in
+    record {
+      cards = cards_on noted v.seen (longer v.seen w.seen) v.cards (drop (length v.seen) w.seen, refl) h.cards;
+      dones = λ k b m. ⊎_elim (λ (t : In (member k b) v.members). h.dones k b t) (λ (t : In (member k b) w.members). l.dones k b t) (in_either (member k b) v.members w.members m);
+      own = λ e k b m. absurd (not_none v.pasts (past_of w) e);
+      pasts = all_join (IsPast noted (v.members ++ w.members)) v.pasts (past_of w ∷ [])
+          (all_weaker (IsPast noted v.members) (IsPast noted (v.members ++ w.members)) v.pasts (λ g q. record { actor = q.actor; here = in_front (member g.seat q.actor) v.members w.members q.here; own = q.own; cards = q.cards }) h.pasts)
+          (record { actor = a; here = in_back (member (view_seat w) a) v.members w.members mine; own = l.own alone (view_seat w) a mine; cards = l.cards }, tt);
+    }
 
 -- where one view has all seats of the setting, it has the actors and has seen the log
 pub gathered_top : (p : ConfigParts) (words : List ℕ) (views : List PassView) (r : KeepsPool p words views) (id : ℕ) (v : PassView) → get_elem? views id ≡ some v → ((k : ℕ) → k < all_seats p → (a : Actor) × In (member k a) v.members) → ((k : ℕ) (a : Actor) → Has views k a → In (member k a) v.members) × (v.seen ≡ r.log)
@@ -194,6 +213,8 @@ none_out p words views r id v at all same l c d (i, u, e, q) =
 pub record EndsSo (p : ConfigParts) (words : List ℕ) (v : PassView) (Now : ℕ → Actor → Type 0) : Type 0 where
   pub ok : IsSetting p
   pub pasts : AllBegin v.pasts v.seen
+  pub noted : ℕ → Card
+  pub notes : KnowsNotes noted v
   pub long : length words ≡ pool_words p
   pub own_word : slice_index words 0 ≡ 0
   pub rest : AreAtRest p words v.seen Now
@@ -208,6 +229,8 @@ ends_so p words views r id v Now at all same s rest =
     record {
       ok = r.ok;
       pasts = subst (AllBegin v.pasts) (sym top.1) (r.each id v at).pasts;
+      noted = r.noted;
+      notes = r.notes id v at;
       long = shows.size;
       own_word = shows.each Own tt;
       rest = subst (λ (log : List Entry). AreAtRest p words log Now) (sym top.1) (at_rest p r.ok words r.log Now (Out views) inv rest (none_out p words views r id v at all same));

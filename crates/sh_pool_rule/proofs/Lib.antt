@@ -3,6 +3,7 @@ pub mod Untold
 pub mod Staying
 pub mod Allowed
 pub mod Changed
+pub mod NoteLemmas
 pub mod PartLemmas
 pub mod TakeLemmas
 pub mod OpenLemmas
@@ -12,4 +13,5 @@ pub mod LifeLemmas
 pub mod BufferLemmas
 pub mod BesideLemmas
 pub mod GatherLemmas
+pub mod NotingLemmas
 pub mod Stayed

@@ -1,6 +1,6 @@
 -- The first view of a table has the rule, and each seat gets a view of its own.
-use Rattle.std.proofs.Common.{◌≡◌, ◌≢◌, ◌⊎◌, ℕ, zero, suc, ◌+◌, ◌<◌, ◌≤◌, ◌==◌, Bool, List, [], ◌∷◌, ◌++◌, length, set, refl, ap, sym, ◌∙◌, subst, ⊎_elim, inl, inr, arith, eq-eqb, ne_eqb, mul-pos}
-use Rattle.std.specs.Prelude.{if◌then◌else◌}
+use Rattle.std.proofs.Common.{rules, ◌≡◌, ◌≢◌, ◌⊎◌, ℕ, zero, suc, ◌+◌, ◌<◌, ◌≤◌, ◌==◌, Bool, List, [], ◌∷◌, ◌++◌, length, set, refl, ap, sym, ◌∙◌, subst, ⊎_elim, inl, inr, arith, eq-eqb, ne_eqb, mul-pos}
+use Rattle.std.specs.{Prelude.{if◌then◌else◌}, List.{AllByRecursion}}
 use mathlib.Core.{Option.{some, some-injective, some-ne-none}, Logic.{dite}}
 use native.Mathlib.Decide.{ℕ_discrete}
 use lib.ListN.{get_elem?}
@@ -11,9 +11,9 @@ use Rattle.sh_core.{specs.{Actors.{Actor}, Core.{AreSame}, Opening.{entered}}, p
 use Rattle.sh_core_turns.proofs.Opening.{laid_keeps}
 use Rattle.sh_local.proofs.Sums.{same_at, at_lt}
 use Rattle.sh_logic.proofs.Options.{none_some}
-use Rattle.sh_pool_rule.specs.{declared.view.{PassView.{PassView}, Member.{Member}}, Views.{member, members_from, opening_view, In, Has, Out}}
-use Rattle.sh_pool_rule.specs.{Rights.{first_alone, first_in, less_first, rest_in}, Rule.{all_given, all_out, all_taken, KnowsLog, SeesAll, KeepsPool}}
-use Rattle.sh_pool_rule.proofs.{Relations.{counts_set, counts_snoc, none_in, out_from, out_to}, Allowed.{Pooled}, Changed.{at_length}}
+use Rattle.sh_pool_rule.specs.{declared.view.{PassView.{PassView}, Card.{Card}, Member.{Member}}, Views.{member, members_from, opening_view, In, Has, Out}}
+use Rattle.sh_pool_rule.specs.{Notes.{IsFront, IsPast}, Rights.{blank_card, first_alone, first_in, less_first, lengths_of, rest_in}, Rule.{all_given, all_out, all_taken, KnowsLog, SeesAll, KeepsPool}}
+use Rattle.sh_pool_rule.proofs.{NoteLemmas.{notes_set, notes_snoc, AllKnow}, Relations.{counts_set, counts_snoc, none_in, out_from, out_to}, Allowed.{Pooled}, Changed.{at_length}}
 
 member_is : (m : Member) (k : ℕ) (a : Actor) → m ≡ member k a → (m.seat ≡ k) × (m.actor ≡ a)
 member_is m k a e = (ap (λ (x : Member). x.seat) e, ap (λ (x : Member). x.actor) e)
@@ -37,6 +37,8 @@ opening_kept p ok words laid = record {
   even = refl;
   bearer = λ l. zero;
   each = known;
+  noted = λ k. blank_card;
+  notes = notes;
 }
   where
     new : (k : ℕ) (a : Actor) → Has (opening_view p ∷ []) k a → (k < all_seats p) × (a ≡ entered p k)
@@ -46,6 +48,9 @@ opening_kept p ok words laid = record {
     none : (l c d : ℕ) → Out (opening_view p ∷ []) l c d → ⊥
     none l c d (zero, v, e, q) = none_some (ap (λ (u : PassView). u.right) (some-injective (opening_view p) v e) ∙ q)
     none l c d (suc id, v, e, q) = some-ne-none v (sym e)
+
+    notes : AllKnow (λ k. blank_card) (opening_view p ∷ [])
+    notes = notes_snoc (λ k. blank_card) [] (opening_view p) (λ i u e. absurd (some-ne-none u (sym e))) record { cards = tt; dones = λ k a m. (a.dones, refl); own = λ e k a m. ([], refl); pasts = tt }
 
     known : (id : ℕ) (v : PassView) → get_elem? (opening_view p ∷ []) id ≡ some v → KnowsLog [] (λ k. zero) (λ l. zero) id v
     known zero v e = subst (KnowsLog [] (λ k. zero) (λ l. zero) 0) (some-injective (opening_view p) v e) record {
@@ -57,7 +62,7 @@ opening_kept p ok words laid = record {
     }
     known (suc id) v e = absurd (some-ne-none v (sym e))
 
-module _ (p : ConfigParts) (words : List ℕ) (views : List PassView) (r : KeepsPool p words views) (id : ℕ) (v : PassView) (at : get_elem? views id ≡ some v) (k n : ℕ) (members : v.members ≡ members_from p k (suc n)) (fresh : (v.gave ≡ 0) × (v.took ≡ 0)) where
+module _ (p : ConfigParts) (words : List ℕ) (views : List PassView) (r : KeepsPool p words views) (id : ℕ) (v : PassView) (at : get_elem? views id ≡ some v) (k n : ℕ) (members : v.members ≡ members_from p k (suc n)) (fresh : (v.gave ≡ 0) × (v.took ≡ 0)) (alone : v.pasts ≡ []) (no_cards : v.cards ≡ []) where
   abbrev left : PassView
   left = less_first v
 
@@ -92,19 +97,13 @@ module _ (p : ConfigParts) (words : List ℕ) (views : List PassView) (r : Keeps
   right_at = at_last mid right (length mid) refl
 
   goes : (m : Member) → In m v.members → In m right.members ⊎ In m left.members
-  goes m i = cut (subst (In m) members i) where
-    cut : In m (first ∷ members_from p (suc k) n) → In m right.members ⊎ In m left.members
-    cut (zero, e) = inl (subst (In m) (sym right_is) (zero, e))
-    cut (suc j, e) = inr (subst (In m) (sym left_is) (j, e))
+  goes m i = search (rules, right_is, left_is)
 
   from_left : (m : Member) → In m left.members → In m v.members
   from_left m i = let j = subst (In m) left_is i in subst (In m) (sym members) (suc j.0, j.1)
 
   from_right : (m : Member) → In m right.members → In m v.members
-  from_right m i = back (subst (In m) right_is i) where
-    back : In m (first ∷ []) → In m v.members
-    back (zero, e) = subst (In m) (sym members) (zero, e)
-    back (suc j, e) = absurd (some-ne-none m (sym e))
+  from_right m i = search (rules, right_is)
 
   same : AreSame (Has views) (Has now)
   same = record {
@@ -175,8 +174,24 @@ module _ (p : ConfigParts) (words : List ℕ) (views : List PassView) (r : Keeps
       let a0 = a.0 in let a1 = a.1 in let a2 = a.2 in let b0 = b.0 in let b1 = b.1 in let b2 = b.2 in
       omega (arith, q, a0, a1, a2, b0, b1, b2)
 
-  making_kept : KeepsPool p words now
-  making_kept = record { ok = r.ok; log = r.log; inv = same_keeps p words r.log (Has views) (Has now) (Out views) (Out now) r.inv same record { on = out_on; back = out_back }; top = top; home = lives; even = even; bearer = r.bearer; each = knows }
+  -- the seat that leaves has learnt no note, so its first noted lengths are none
+  notes : AllKnow r.noted now
+  notes =
+      let h = r.notes id v at in
+      notes_snoc r.noted mid right (notes_set r.noted views id left r.notes record {
+        cards = h.cards;
+        dones = λ j a m. h.dones j a (from_left (member j a) m);
+        own = λ e j a m. h.own e j a (from_left (member j a) m);
+        pasts = subst (AllByRecursion (IsPast r.noted left.members)) (sym alone) tt;
+      }) record {
+        cards = tt;
+        dones = λ j a m. h.dones j a (from_right (member j a) m);
+        own = λ e j a m. subst (λ (cs : List Card). IsFront (r.noted j).learnt (lengths_of cs)) no_cards (h.own alone j a (from_right (member j a) m));
+        pasts = tt;
+      }
 
-pub making : (p : ConfigParts) (id : ℕ) (v : PassView) (k n : ℕ) → v.members ≡ members_from p k (suc n) → (v.gave ≡ 0) × (v.took ≡ 0) → Splits (Pooled p) id v (less_first v) (first_alone v)
-making p id v k n members fresh s r at = making_kept p s.words s.views r id v at k n members fresh
+  making_kept : KeepsPool p words now
+  making_kept = record { ok = r.ok; log = r.log; inv = same_keeps p words r.log (Has views) (Has now) (Out views) (Out now) r.inv same record { on = out_on; back = out_back }; top = top; home = lives; even = even; bearer = r.bearer; each = knows; noted = r.noted; notes = notes }
+
+pub making : (p : ConfigParts) (id : ℕ) (v : PassView) (k n : ℕ) → v.members ≡ members_from p k (suc n) → (v.gave ≡ 0) × (v.took ≡ 0) → v.pasts ≡ [] → v.cards ≡ [] → Splits (Pooled p) id v (less_first v) (first_alone v)
+making p id v k n members fresh alone no_cards s r at = making_kept p s.words s.views r id v at k n members fresh alone no_cards

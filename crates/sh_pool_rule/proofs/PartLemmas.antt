@@ -13,7 +13,7 @@ use Rattle.sh_core_turns.proofs.LocalLaws.{part_keeps}
 use Rattle.sh_local.{specs.Calls.{weight}, proofs.Sums.{same_at, at_lt}}
 use Rattle.sh_pool_rule.specs.{declared.view.{PassView.{PassView}, LockRight.{LockRight}}, Views.{member, lock_right, own, view_seat, Tale, In, Has, Out}, Untold.{IsActorOf}}
 use Rattle.sh_pool_rule.specs.{Rights.{right_in, parted_view, right_view, IsHanding}, Rule.{all_given, all_out, all_taken, KnowsLog, SeesAll, KeepsPool}}
-use Rattle.sh_pool_rule.proofs.{Relations.{counts_set, counts_snoc, moves_at, none_in, one, only, out_from, out_to}, Untold.{becomes_seen, catches_up}, Allowed.{Pooled}}
+use Rattle.sh_pool_rule.proofs.{NoteLemmas.{asked_dones, bare_notes, front_more, front_same, notes_on, notes_set, notes_snoc, turn_dones, AllKnow}, Relations.{counts_set, counts_snoc, moves_at, none_in, one, only, out_from, out_to}, Untold.{becomes_seen, catches_up}, Allowed.{Pooled}}
 use Rattle.sh_pool_rule.proofs.Changed.{at_length, more_moves}
 
 some_carry : (c d : LockRight) → Some c ≡ Some d → c ≡ d
@@ -150,8 +150,12 @@ module _ (p : ConfigParts) (words : List ℕ) (views : List PassView) (r : Keeps
       let a0 = a.0 in let a1 = a.1 in let a2 = a.2 in let b0 = b.0 in let b1 = b.1 in let b2 = b.2 in
       omega (arith, q, a0, a1, a2, b0, b1, b2)
 
+  notes : AllKnow r.noted now
+  notes = notes_snoc r.noted mid right (notes_set r.noted views id left r.notes (notes_on r.noted k v left (own v) b asks.here asks.alone refl refl refl (front_more (own v).dones a.dones b.dones (asked_dones p v a asks) (turn_dones k a v.seen (makes a.client) (fed_by a.client 0))) (front_same v.seen) (r.notes id v at)))
+      (bare_notes r.noted right refl refl refl)
+
   part_kept : KeepsPool p words now
-  part_kept = record { ok = r.ok; log = r.log; inv = inv; top = top; home = r.home; even = even; bearer = bears; each = knows }
+  part_kept = record { ok = r.ok; log = r.log; inv = inv; top = top; home = r.home; even = even; bearer = bears; each = knows; noted = r.noted; notes = notes }
 
 pub parting : (p : ConfigParts) (id : ℕ) (v : PassView) (a : Actor) (tale : Tale) → IsActorOf p v a → IsHanding a.client → Splits (Pooled p) id v (parted_view a tale v) (right_view a v)
 parting p id v a tale asks hands s r at = part_kept p s.words s.views r id v at a asks hands tale

@@ -1,6 +1,6 @@
 -- Which seat has which actor, and which rights are out, as one view changes.
-use Rattle.std.proofs.Common.{◌≡◌, ◌≢◌, ℕ, zero, suc, ◌+◌, ◌≤◌, List, [], ◌∷◌, ◌++◌, length, set, refl, ap, sym, ◌∙◌, subst, inl, inr, ⊎_elim, arith, append_assoc, length-append}
-use mathlib.Core.{Option.{some, some-injective, some-ne-none}, Logic.{dite}}
+use Rattle.std.proofs.Common.{rules, ◌≡◌, ◌≢◌, ℕ, ◌+◌, ◌≤◌, List, [], ◌∷◌, ◌++◌, length, set, refl, ap, sym, ◌∙◌, subst, inl, inr, ⊎_elim, arith, append_assoc, length-append}
+use mathlib.Core.{Option.{some, some-ne-none}, Logic.{dite}}
 use native.Mathlib.Decide.{ℕ_discrete}
 use lib.ListN.{get_elem?}
 use Rattle.atomic_table.proofs.Lists.{at_set, set_here, set_else}
@@ -9,11 +9,10 @@ use Rattle.sh_logic.proofs.Lists.{all_weaker}
 use Rattle.sh_map.specs.declared.log.Entry.{Entry}
 use Rattle.sh_core.{specs.{Actors.{Actor}, Core.{Inv, Moves}}, proofs.Moves.{same_keeps}}
 use Rattle.sh_local.{specs.Calls.{weight}, proofs.Sums.{at_lt, same_at, total_set, total_snoc}}
-use Rattle.sh_pool_rule.specs.{declared.view.{PassView.{PassView}, Member.{Member}}, Views.{member, empty_view, Begins, AllBegin, In, Has, Out}, Rule.{all_given, all_taken, all_out}}
+use Rattle.sh_pool_rule.specs.{declared.view.{PassView.{PassView}, Member.{Member}, Past.{Past}}, Views.{member, empty_view, Begins, AllBegin, In, Has, Out}, Rule.{all_given, all_taken, all_out}}
 
 pub only : (k j : ℕ) (a b : Actor) → In (member j b) (member k a ∷ []) → (j ≡ k) × (b ≡ a)
-only k j a b (zero, e) = let q : member k a ≡ member j b = some-injective (member k a) (member j b) e in (sym (ap (λ (m : Member). m.seat) q), sym (ap (λ (m : Member). m.actor) q))
-only k j a b (suc i, e) = absurd (some-ne-none (member j b) (sym e))
+only k j a b h4 = search rules
 
 pub one : (k : ℕ) (a : Actor) → In (member k a) (member k a ∷ [])
 one k a = (0, refl)
@@ -24,8 +23,8 @@ none_in m (i, e) = some-ne-none m (sym e)
 pub begins_on : (xs ys more : List Entry) → Begins xs ys → Begins xs (ys ++ more)
 begins_on xs ys more (rest, e) = (rest ++ more, ap (λ (zs : List Entry). zs ++ more) e ∙ append_assoc xs rest more)
 
-pub all_begin_on : (log more : List Entry) (ess : List (List Entry)) → AllBegin ess log → AllBegin ess (log ++ more)
-all_begin_on log more ess h = all_weaker (λ (es : List Entry). Begins es log) (λ (es : List Entry). Begins es (log ++ more)) ess (λ es b. begins_on es log more b) h
+pub all_begin_on : (log more : List Entry) (ess : List Past) → AllBegin ess log → AllBegin ess (log ++ more)
+all_begin_on log more ess h = all_weaker (λ (g : Past). Begins g.seen log) (λ (g : Past). Begins g.seen (log ++ more)) ess (λ g b. begins_on g.seen log more b) h
 
 pub begins_length : (xs ys : List Entry) → Begins xs ys → length xs ≤ length ys
 begins_length xs ys (rest, e) = omega (arith, length-append xs rest, ap length e)
@@ -62,10 +61,7 @@ out_to views id v w at same l c d (i, u, e, r) = dite (ℕ_discrete i id)
     (λ (ne : i ≢ id). (i, u, set_else views id i w ne ∙ e, r))
 
 pub out_from : (views : List PassView) (id : ℕ) (v w : PassView) → get_elem? views id ≡ some v → w.right ≡ v.right → (l c d : ℕ) → Out (set views id w) l c d → Out views l c d
-out_from views id v w at same l c d (i, u, e, r) = ⊎_elim
-    (λ (t : (i ≡ id) × (w ≡ u)). (id, v, at, sym same ∙ ap (λ (x : PassView). x.right) t.1 ∙ r))
-    (λ (t : (i ≢ id) × (get_elem? views i ≡ some u)). (i, u, t.1, r))
-    (at_set views id i w u e)
+out_from views id v w at same l c d h9 = search (rules, at_set)
 
 -- ---- how many rights were parted with, taken up, and are out
 
@@ -83,23 +79,11 @@ abbrev pub Counts : (before after : List PassView) → (gave took out : ℕ) →
 Counts before after gave took out = (all_given after ≡ all_given before + gave) × (all_taken after ≡ all_taken before + took) × (all_out after ≡ all_out before + out)
 
 pub counts_set : (views : List PassView) (id : ℕ) (v w : PassView) (g t n : ℕ) → get_elem? views id ≡ some v → w.gave ≡ v.gave + g → w.took ≡ v.took + t → weight w.right ≡ weight v.right + n → Counts views (set views id w) g t n
-counts_set views id v w g t n at gave took out =
-    let a : all_given (set views id w) + v.gave ≡ all_given views + w.gave = total_set gave_of views id v w at in
-    let b : all_taken (set views id w) + v.took ≡ all_taken views + w.took = total_set took_of views id v w at in
-    let c : all_out (set views id w) + weight v.right ≡ all_out views + weight w.right = total_set weight_of views id v w at in
-    (omega (arith, a, gave), omega (arith, b, took), omega (arith, c, out))
+counts_set views id v w g t n at gave took out = search (rules, total_set)
 
 pub counts_snoc : (views : List PassView) (w : PassView) (n : ℕ) → w.gave ≡ 0 → w.took ≡ 0 → weight w.right ≡ n → Counts views (views ++ w ∷ []) 0 0 n
-counts_snoc views w n gave took out =
-    let a : all_given (views ++ w ∷ []) ≡ all_given views + w.gave = total_snoc gave_of views w in
-    let b : all_taken (views ++ w ∷ []) ≡ all_taken views + w.took = total_snoc took_of views w in
-    let c : all_out (views ++ w ∷ []) ≡ all_out views + weight w.right = total_snoc weight_of views w in
-    (omega (arith, a, gave), omega (arith, b, took), omega (arith, c, out))
+counts_snoc views w n gave took out = search (rules, total_snoc)
 
 -- a view is spent: what it had is counted no more
 pub counts_spent : (views : List PassView) (id : ℕ) (w : PassView) → get_elem? views id ≡ some w → Counts (set views id empty_view) views w.gave w.took (weight w.right)
-counts_spent views id w at =
-    let a : all_given (set views id empty_view) + w.gave ≡ all_given views + 0 = total_set gave_of views id w empty_view at in
-    let b : all_taken (set views id empty_view) + w.took ≡ all_taken views + 0 = total_set took_of views id w empty_view at in
-    let c : all_out (set views id empty_view) + weight w.right ≡ all_out views + 0 = total_set weight_of views id w empty_view at in
-    (omega (arith, a), omega (arith, b), omega (arith, c))
+counts_spent views id w at = search (rules, total_set)

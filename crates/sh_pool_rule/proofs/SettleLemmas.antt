@@ -3,13 +3,13 @@ use Rattle.std.proofs.Common.{◌≡◌, ◌≢◌, ℕ, ◌≤◌, List, [], �
 use mathlib.Core.{Option.{some}, Logic.{dite}}
 use native.Mathlib.Decide.{ℕ_discrete}
 use lib.ListN.{get_elem?}
-use Rattle.atomic_table.{specs.Table.{Me, Allows, keeps}, proofs.Lists.{at_set, set_here, set_else}}
+use Rattle.atomic_table.proofs.Lists.{at_set, set_here, set_else}
 use Rattle.sh_base.specs.declared.config.ConfigParts.{ConfigParts}
 use Rattle.sh_core.{specs.{Actors.{Actor}, Core.{Inv, Instead, Moves}}, proofs.Moves.{put_again, same_keeps}}
 use Rattle.sh_local.proofs.Sums.{same_at, at_lt}
 use Rattle.sh_pool_rule.specs.{declared.view.PassView.{PassView}, Views.{member, own, view_seat, Tale, In, Has, Out}, Untold.{UntoldTurn, untold_after, caught_up, MayTakeAll, IsActorOf}}
 use Rattle.sh_pool_rule.specs.{Rights.{told_view}, Rule.{KnowsLog, SeesAll, KeepsPool}}
-use Rattle.sh_pool_rule.proofs.{Relations.{counts_set, moves_at, one, only, out_from, out_to, rights_same}, Untold.{after_seen, turn_keeps_on}, Allowed.{Pooled, same_words}}
+use Rattle.sh_pool_rule.proofs.{NoteLemmas.{asked_dones, front_same, notes_on, notes_set}, Relations.{counts_set, moves_at, one, only, out_from, out_to, rights_same}, Untold.{after_seen, turn_keeps_on}}
 
 module _ (p : ConfigParts) (words : List ℕ) (views : List PassView) (r : KeepsPool p words views) (id : ℕ) (v : PassView) (at : get_elem? views id ≡ some v) (a : Actor) (asks : IsActorOf p v a) (tale : Tale) where
   abbrev k : ℕ
@@ -85,8 +85,6 @@ module _ (p : ConfigParts) (words : List ℕ) (views : List PassView) (r : Keeps
         omega (arith, q, a0, a1, a2));
     bearer = r.bearer;
     each = λ i u q. ⊎_elim (λ (t : (i ≡ id) × (new ≡ u)). subst (λ (z : ℕ × PassView). KnowsLog r.log r.home r.bearer z.0 z.1) (λ z. (sym t.0 z, t.1 z)) knows) (λ (t : (i ≢ id) × (get_elem? views i ≡ some u)). r.each i u t.1) (at_set views id i new u q);
+    noted = r.noted;
+    notes = notes_set r.noted views id new r.notes (notes_on r.noted k v new (own v) a asks.here asks.alone refl refl refl (asked_dones p v a asks) (front_same v.seen) (r.notes id v at));
   }
-
-pub allows_settle : (p : ConfigParts) (slots id word : ℕ) (me : Me (Unit {0}) PassView) (a : Actor) (tale : Tale) → IsActorOf p me.0 a → Allows (Pooled p) slots id me word (λ n. n) (λ n now. (now.0 ≡ told_view a tale me.0) × (now.1 ≡ me.1))
-allows_settle p slots id word me a tale asks s r homes at small =
-    (told_view a tale me.0, keeps, tt, subst (λ (xs : List ℕ). KeepsPool p xs (set s.views id (told_view a tale me.0))) (sym (same_words s.words word)) (settle_kept p s.words s.views r id me.0 at a asks tale), (refl, refl))

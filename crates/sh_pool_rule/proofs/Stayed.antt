@@ -1,10 +1,10 @@
 -- Actors whose ended calls stay answered: behind turns, behind a right that is taken up, and new ones.
-use Rattle.std.proofs.Common.{◌≡◌, ℕ, Option, None, Some, List, [], ◌∷◌, ◌++◌, refl, sym, subst, arith, length-append}
+use Rattle.std.proofs.Common.{rules, ◌≡◌, ℕ, Option, Some, List, [], ◌∷◌, ◌++◌, refl, subst, arith, length-append}
 use Rattle.sh_base.specs.declared.config.ConfigParts.{ConfigParts}
 use Rattle.sh_map.specs.declared.log.Entry.{Entry}
 use Rattle.sh_read.specs.Reads.{wanted}
 use Rattle.sh_decide.specs.declared.state.Aim.{Aim}
-use Rattle.sh_client.specs.{declared.state.Phase.{Phase, TheVariants.{Look, ReadLocked}}, Machine.{Machine, reading}, Feeds.{turned_in}, Wants.{load_of}}
+use Rattle.sh_client.specs.{declared.state.Phase.{TheVariants.{Look, ReadLocked}}, Machine.{Machine, reading}, Wants.{load_of}}
 use Rattle.sh_core.{specs.{Actors.{Actor, actor_stepped, actor_turned, becomes}, Core.{IsLocal}, Opening.{entered}}, proofs.Logs.{answered_longer}}
 use Rattle.sh_core_says.specs.Books.{HasAnswers}
 use Rattle.sh_pool_rule.specs.Rights.{IsHanding}
@@ -29,8 +29,7 @@ pub stays_handed : (p : ConfigParts) (k : ℕ) (s : List Entry) (a : Actor) → 
 stays_handed p k s a h hand = λ ts l. h (HandsOver ∷ ts) (hand, l)
 
 not_loading : (o : Option ℕ) → IsLocal (load_of o) → ⊥
-not_loading None h = h
-not_loading (Some at) h = h
+not_loading o h = search rules
 
 -- behind a right that it takes up an actor wants an event
 module _ (p : ConfigParts) (k : ℕ) (log : List Entry) (a : Actor) (aim : Aim) (node depth : ℕ) where
@@ -48,13 +47,7 @@ module _ (p : ConfigParts) (k : ℕ) (log : List Entry) (a : Actor) (aim : Aim) 
   reads_next h (HandsOver ∷ ts) may = let r = may.0.phase in absurd (cc)
 
 pub stays_taken : (p : ConfigParts) (k : ℕ) (seen more : List Entry) (a : Actor) (aim : Aim) (node depth : ℕ) → HasAnswers seen k a → a.client.phase ≡ Look aim node → StaysAnswered p k (seen ++ more) (actor_turned k a (seen ++ more) (Some depth))
-stays_taken p k seen more a aim node depth h phase =
-    let log : List Entry = seen ++ more in
-    let l = length-append seen more in
-    let first = h.first in
-    let last = h.seen in
-    subst (λ (ph : Phase). StaysAnswered p k log (becomes k a log [] (turned_in a.client (Some depth) ph))) (sym phase)
-    (reads_next p k log a aim node depth record { answered = answered_longer k a.dones seen more h.answered; ordered = h.ordered; first = omega (arith, first, last, l); seen = omega arith })
+stays_taken p k seen more a aim node depth h phase = search (rules, length-append, reads_next, answered_longer)
 
 -- a new client's call begins at the root word
 module _ (p : ConfigParts) (k : ℕ) where

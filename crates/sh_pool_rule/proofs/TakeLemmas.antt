@@ -1,5 +1,5 @@
 -- A right that is taken_view up keeps the rule.
-use Rattle.std.proofs.Common.{◌≡◌, ◌≢◌, ◌⊎◌, ℕ, ◌+◌, ◌≤◌, Option, Some, None, List, [], ◌∷◌, length, set, refl, ap, sym, ◌∙◌, subst, ⊎_elim, inl, inr, arith}
+use Rattle.std.proofs.Common.{rules, ◌≡◌, ◌≢◌, ◌⊎◌, ℕ, ◌+◌, ◌≤◌, Option, Some, None, List, [], ◌∷◌, length, drop, set, refl, ap, sym, ◌∙◌, subst, ⊎_elim, inl, inr, arith}
 use mathlib.Core.{Option.{some}, Logic.{dite}}
 use native.Mathlib.Decide.{ℕ_discrete}
 use lib.ListN.{get_elem?}
@@ -13,7 +13,7 @@ use Rattle.sh_local.{specs.Calls.{weight}, proofs.Sums.{same_at, at_lt}}
 use Rattle.sh_logic.proofs.Options.{none_some}
 use Rattle.sh_pool_rule.specs.{declared.view.{PassView.{PassView}, LockRight.{LockRight}}, Views.{empty_view, member, lock_right, longer, own, view_seat, Tale, Begins, In, Has, Out}}
 use Rattle.sh_pool_rule.specs.{Untold.{IsActorOf}, Rights.{depth_of, taken_view, MeetsRight}, Rule.{all_given, all_out, all_taken, KnowsLog, SeesAll, KeepsPool}}
-use Rattle.sh_pool_rule.proofs.{Relations.{counts_set, counts_spent, moves_at, none_in, one, only}, Untold.{becomes_seen, catches_up}, Allowed.{Pooled}}
+use Rattle.sh_pool_rule.proofs.{NoteLemmas.{asked_dones, front_more, notes_on, notes_set, notes_spent, turn_dones, AllKnow}, Relations.{counts_set, counts_spent, moves_at, none_in, one, only}, Untold.{becomes_seen, catches_up}, Allowed.{Pooled}}
 use Rattle.sh_pool_rule.proofs.Changed.{spent_moves, longer_long, longer_begins, longer_all}
 
 some_carry : (c d : LockRight) → Some c ≡ Some d → c ≡ d
@@ -95,13 +95,7 @@ module _ (p : ConfigParts) (words : List ℕ) (views : List PassView) (r : Keeps
       (now_at i u e)
 
   out_on : (l c d : ℕ) → l ≢ lock → Out views l c d → Out now l c d
-  out_on l c d n (i, u, e, q) = dite (ℕ_discrete i other)
-      (λ (o : i ≡ other). let same : u ≡ w = same_at views other u w (ap (get_elem? views) (sym o) ∙ e) other_at in
-      absurd (n (some_lock l c d lock (compute_of p k) meets.depth (sym q ∙ ap (λ (x : PassView). x.right) same ∙ meets.is))))
-      (λ (ne : i ≢ other). dite (ℕ_discrete i id)
-      (λ (o : i ≡ id). let same : u ≡ v = same_at views id u v (ap (get_elem? views) (sym o) ∙ e) at in
-      absurd (none_some (sym no_right ∙ ap (λ (x : PassView). x.right) (sym same) ∙ q)))
-      (λ (o : i ≢ id). (i, u, set_else mid other i empty_view ne ∙ set_else views id i new o ∙ e, q)))
+  out_on l c d n h4 = search (rules, same_at, other_at, some_lock, none_some, set_else)
 
   inv : Inv p words r.log (Has now) (Out now)
   inv = catches_up p r.ok words r.log (Out views) k v.seen known.begins (Has now) b (Inv p words r.log (Has now) (Out now)) asks.turns (Has views) (own v) r.inv (id, v, at, mine) ((known.here k (own v) mine).1) asks.may mv
@@ -150,8 +144,11 @@ module _ (p : ConfigParts) (words : List ℕ) (views : List PassView) (r : Keeps
       let i0 = idle.0 in let i1 = idle.1 in let a0 = a.0 in let a1 = a.1 in let a2 = a.2 in let b0 = b.0 in let b1 = b.1 in let b2 = b.2 in
       omega (arith, q, i0, i1, a0, a1, a2, b0, b1, b2, one_right)
 
+  notes : AllKnow r.noted now
+  notes = notes_spent r.noted mid other (notes_set r.noted views id new r.notes (notes_on r.noted k v new (own v) b asks.here asks.alone new_members refl refl (front_more (own v).dones a.dones b.dones (asked_dones p v a asks) (turn_dones k a s [] (turned_by a.client (Some meets.depth)))) (drop (length v.seen) w.seen, refl) (r.notes id v at)))
+
   take_kept : KeepsPool p words now
-  take_kept = record { ok = r.ok; log = r.log; inv = inv; top = top; home = r.home; even = even; bearer = r.bearer; each = knows }
+  take_kept = record { ok = r.ok; log = r.log; inv = inv; top = top; home = r.home; even = even; bearer = r.bearer; each = knows; noted = r.noted; notes = notes }
 
 pub taking : (p : ConfigParts) (id : ℕ) (v : PassView) (a : Actor) (tale : Tale) (other : ℕ) (w : PassView) → IsActorOf p v a → v.right ≡ None → w.members ≡ [] → MeetsRight p (view_seat v) a.client w.right → Joins (Pooled p) id v other w (taken_view a tale v w) empty_view
 taking p id v a tale other w asks own_none none meets table r at apart there = take_kept p table.words table.views r id v at a asks tale other w apart there none meets own_none

@@ -1,26 +1,22 @@
 -- The invariant at the actor to which a pass has come, of which its view isn't told yet.
-use Rattle.std.{proofs.Common.{◌≡◌, ℕ, ◌+◌, ◌≤◌, Bool, true, false, None, List, [], ◌∷◌, length, refl, ap, inl, arith}, specs.Prelude.{if◌then◌else◌}}
+use Rattle.std.{proofs.Common.{rules, ◌≡◌, ℕ, ◌+◌, ◌≤◌, Bool, None, List, [], ◌∷◌, length, refl, inl}, specs.Prelude.{if◌then◌else◌}}
 use Rattle.sh_base.specs.{declared.config.ConfigParts.{ConfigParts}, Setting.{IsSetting}}
 use Rattle.sh_map.specs.declared.log.Entry.{Entry}
-use Rattle.sh_client.specs.{declared.state.Phase.{Phase, TheVariants.{Body}}, Machine.{Machine}, Feeds.{fed_by, turned_by}, Giving.{makes, made_in}, Rests.{has_ended}, Wants.{want_in}}
-use Rattle.sh_core.specs.{Actors.{Actor, actor_going, ending, seen_after, actor_stepped, actor_turned, actor_begun}, Core.{Inv, Instead, Moves, HasSeen, IsLocal}}
+use Rattle.sh_client.specs.{declared.state.Phase.{Phase}, Machine.{Machine}, Giving.{made_in}, Wants.{want_in}}
+use Rattle.sh_core.specs.{Actors.{Actor, actor_going, ending, actor_stepped, actor_turned, actor_begun}, Core.{Inv, Instead, Moves, HasSeen, IsLocal}}
 use Rattle.sh_core.proofs.Moves.{put_moves, put_again}
 use Rattle.sh_core_turns.proofs.{Calls.{begin_keeps}, LocalLaws.{local_keeps, look_keeps}}
 use Rattle.sh_pool_rule.{specs.{Views.{Begins}, Untold.{UntoldTurn, CallBegun, WordAnswered, TurnServed, untold_after, caught_up, MayTake, MayTakeAll}}, proofs.Relations.{begins_length}}
 
 -- a local turn makes no entry
 pub makes_none : (m : Machine) (ph : Phase) → IsLocal (want_in m ph) → made_in m ph ≡ []
-makes_none m (Body carry done giving) l = absurd l
-makes_none m ph l = refl
+makes_none m ph l = search rules
 
 pub becomes_seen : (k : ℕ) (a : Actor) (seen : List Entry) (m : Machine) (more : List Entry) → more ≡ [] → (t : Bool) → (if t then ending k a seen m else actor_going a seen more m).seen ≤ length seen
-becomes_seen k a seen m more e true = omega arith
-becomes_seen k a seen m more e false = omega (arith, ap (λ (es : List Entry). seen_after es (length seen)) e)
+becomes_seen k a seen m more e t = search rules
 
 pub after_seen : (p : ConfigParts) (k : ℕ) (seen : List Entry) (a : Actor) (u : UntoldTurn) → MayTake p a u → (untold_after k seen a u).seen ≤ length seen
-after_seen p k seen a (CallBegun call) may = omega arith
-after_seen p k seen a (WordAnswered word) may = let m = fed_by a.client word in becomes_seen k a seen m (makes a.client) (makes_none a.client a.client.phase may) (has_ended m.phase)
-after_seen p k seen a TurnServed may = let m = turned_by a.client None in becomes_seen k a seen m [] refl (has_ended m.phase)
+after_seen p k seen a u may = search (rules, becomes_seen, makes_none)
 
 module _ (p : ConfigParts) (ok : IsSetting p) (words : List ℕ) (log : List Entry) (Out : ℕ → ℕ → ℕ → Type 0) (k : ℕ) (seen : List Entry) (begins : Begins seen log) where
   saw : (a : Actor) → a.seen ≤ length seen → HasSeen log seen a

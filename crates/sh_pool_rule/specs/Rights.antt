@@ -1,10 +1,10 @@
 -- Views that are cut in two or joined: a right is parted with or taken up, and passes are made and taken in.
-use Rattle.std.specs.Prelude.{◌≡◌, ℕ, ◌+◌, Option, None, Some, List, [], ◌∷◌, ◌++◌}
+use Rattle.std.specs.Prelude.{◌≡◌, ℕ, ◌+◌, Option, None, Some, List, [], ◌∷◌, ◌++◌, length, map}
 use Rattle.sh_base.specs.{Layout.{compute_of, lock_of}, declared.config.ConfigParts.{ConfigParts}}
 use Rattle.sh_decide.specs.declared.state.Aim.{Aim}
 use Rattle.sh_client.specs.{declared.state.{Phase.{Phase, TheVariants.{Leave, Look}}, Then.{Then}}, Machine.{Machine}}
 use Rattle.sh_core.specs.Actors.{Actor, actor_stepped, actor_turned}
-use Rattle.sh_pool_rule.specs.declared.view.{PassView.{PassView}, Member.{Member}, LockRight.{LockRight}, Tiding.TheVariants.{TurnTold, WordTold}}
+use Rattle.sh_pool_rule.specs.declared.view.{PassView.{PassView}, Card.{Card}, Member.{Member}, Past.{Past}, LockRight.{LockRight}, Tiding.TheVariants.{TurnTold, WordTold}}
 use Rattle.sh_pool_rule.specs.Views.{bare_view, member, lock_right, longer, view_seat, Tale}
 
 -- the right that a client hands over
@@ -64,10 +64,46 @@ less_first v = record v { members = rest_in v.members }
 abbrev pub first_alone : PassView → PassView
 first_alone v = record (bare_view v.seen) { members = first_in v.members }
 
+abbrev pub past_of : PassView → Past
+past_of w = record { seat = view_seat w; seen = w.seen; cards = w.cards }
+
 -- a view takes another in, with its seats
 abbrev pub joined_view : PassView → PassView → PassView
-joined_view v w = record v { seen = longer v.seen w.seen; members = v.members ++ w.members; pasts = v.pasts ++ w.seen ∷ []; gave = v.gave + w.gave; took = v.took + w.took }
+joined_view v w = record v { seen = longer v.seen w.seen; members = v.members ++ w.members; pasts = v.pasts ++ past_of w ∷ []; gave = v.gave + w.gave; took = v.took + w.took }
 
 -- the view is told of all that its pass has done
 abbrev pub told_view : Actor → Tale → PassView → PassView
 told_view a tale v = record v { members = member (view_seat v) a ∷ []; life = tale.life; heard = tale.heard }
+
+-- ---- notes
+
+-- what its pass has seen after each of the notes that it has learnt
+abbrev pub lengths_of : List Card → List ℕ
+lengths_of cards = map (λ (c : Card). c.seen) cards
+
+-- the card of a seat that has made no note
+abbrev pub blank_card : Card
+blank_card = record { seat = 0; dones = []; learnt = []; saw = []; seen = 0 }
+
+-- the card of a note that the pass makes
+abbrev pub card_of : Actor → PassView → Card
+card_of a v = record { seat = view_seat v; dones = a.dones; learnt = lengths_of v.cards; saw = v.seen; seen = length v.seen }
+
+abbrev pub first_card : List Card → Card
+first_card [] = blank_card
+first_card (c ∷ cs) = c
+
+-- a view that is a note
+abbrev pub card_view : Card → PassView
+card_view c = record (bare_view c.saw) { cards = c ∷ [] }
+
+abbrev pub note_view : Actor → PassView → PassView
+note_view a v = card_view (card_of a v)
+
+-- cards that come to a pass that has seen so much then
+abbrev pub moved_cards : (seen : ℕ) → List Card → List Card
+moved_cards n cards = map (λ (c : Card). record c { seen = n }) cards
+
+-- the pass has learnt a note: it has seen what the note carries, too
+abbrev pub learnt_view : Actor → Tale → PassView → PassView → PassView
+learnt_view a tale v w = record (told_view a tale v) { seen = longer v.seen w.seen; cards = v.cards ++ moved_cards (length (longer v.seen w.seen)) w.cards }

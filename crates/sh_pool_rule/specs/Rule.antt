@@ -5,15 +5,15 @@ use prog.Atomic.{either}
 use mathlib.Core.Option as maybe
 use lib.ListN.{get_elem?}
 use Rattle.sh_base.specs.{declared.{config.ConfigParts.{ConfigParts}, event.Event.{Event, TheVariants.{Load, Store, Exchange, Add}}}, Memory.{apply, found_by}, Setting.{IsSetting}}
-use Rattle.sh_map.specs.declared.log.Entry.{Entry}
+use Rattle.sh_map.specs.{declared.log.Entry.{Entry}, Log.{IsLegal}}
 use Rattle.sh_client.specs.declared.state.Want.TheVariants as want
 use Rattle.sh_client.specs.{Giving.{makes}, Wants.{want_of}}
 use Rattle.sh_core.specs.{Actors.{Actor, actor_stepped}, Core.{Inv}}
 use Rattle.sh_core_turns.specs.Senses.{is_senseless}
 use Rattle.sh_core_says.specs.Moments.{IsMoment}
 use Rattle.sh_local.specs.Calls.{total, weight}
-use Rattle.sh_pool_rule.specs.declared.view.{PassView.{PassView}, Member.{Member}, LockRight.{LockRight}, Tiding.TheVariants.{WordTold}}
-use Rattle.sh_pool_rule.specs.{Views.{member, Begins, AllBegin, In, Has, Out, view_seat, Tale}, Untold.{StaysAnswered}}
+use Rattle.sh_pool_rule.specs.declared.view.{PassView.{PassView}, Card.{Card}, Member.{Member}, LockRight.{LockRight}, Tiding.TheVariants.{WordTold}}
+use Rattle.sh_pool_rule.specs.{Views.{member, Begins, AllBegin, In, Has, Out, view_seat, Tale}, Notes.{KnowsNotes}, Untold.{StaysAnswered}}
 
 -- What a view knows: a beginning of the log, in which all stands that its actors have seen. A seat's actor is in one view,
 -- and so is a right. A view with no actor has parted with no right, and taken none up.
@@ -53,6 +53,8 @@ pub record KeepsPool (p : ConfigParts) (words : List ℕ) (views : List PassView
   pub bearer : ℕ → ℕ
   pub even : all_given views ≡ all_taken views + all_out views
   pub each : (id : ℕ) (v : PassView) → get_elem? views id ≡ maybe.some v → KnowsLog log home bearer id v
+  pub noted : ℕ → Card
+  pub notes : (id : ℕ) (v : PassView) → get_elem? views id ≡ maybe.some v → KnowsNotes noted v
 
 -- what an event leaves of its word, and what the client is told of the word found
 abbrev pub word_left : Event → ℕ → ℕ
@@ -73,13 +75,14 @@ event_view a tale v log word = record v { seen = log ++ makes a.client; members 
 
 -- The moment of an event: the words that it found, and the views behind it. The word that the client is fed is the one
 -- found; behind the event the standing words hold a lawful tree with the map of all that the pass has seen now, which is
--- the whole log, and each lock word is its holder's.
+-- the whole log, and a legal one; and each lock word is its holder's.
 pub record EventMoment (p : ConfigParts) (e : Event) (word : ℕ) (seat : ℕ) (b : Actor) (seen : List Entry) : Type 0 where
   pub words : List ℕ
   pub views : List PassView
   pub found : word ≡ found_by words e
   pub here : Has views seat b
   pub holds : IsMoment p (apply words e) seen (Has views) (Out views)
+  pub legal : IsLegal seen
 
 -- The actor made the event that its client wanted, on a log that begins with all that its view had seen, and was fed this
 -- word, which makes sense to it. Its ended calls are answered within what was seen, and stay so.

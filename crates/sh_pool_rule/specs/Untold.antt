@@ -37,6 +37,7 @@ MayTakeAll p k seen a (u ∷ us) = MayTake p a u × MayTakeAll p k seen (untold_
 -- the pass's actor, with all turns of which its view isn't told yet
 pub record IsActorOf (p : ConfigParts) (v : PassView) (a : Actor) : Type 0 where
   pub here : v.members ≡ member (view_seat v) (own v) ∷ []
+  pub alone : v.pasts ≡ []
   pub turns : List UntoldTurn
   pub may : MayTakeAll p (view_seat v) v.seen (own v) turns
   pub is : a ≡ caught_up (view_seat v) v.seen (own v) turns

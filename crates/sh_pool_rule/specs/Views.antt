@@ -5,7 +5,7 @@ use lib.ListN.{get_elem?}
 use Rattle.sh_base.specs.{declared.config.ConfigParts.{ConfigParts}, Setting.{all_seats, default_parts}}
 use Rattle.sh_map.specs.declared.log.Entry.{Entry}
 use Rattle.sh_core.specs.{Actors.{Actor}, Opening.{entered}}
-use Rattle.sh_pool_rule.specs.declared.view.{PassView.{PassView}, Member.{Member}, LockRight.{LockRight}, Tiding.{Tiding}}
+use Rattle.sh_pool_rule.specs.declared.view.{PassView.{PassView}, Member.{Member}, Past.{Past}, LockRight.{LockRight}, Tiding.{Tiding}}
 
 abbrev pub member : ℕ → Actor → Member
 member k a = record { seat = k; actor = a }
@@ -19,7 +19,7 @@ nobody = entered default_parts 0
 
 -- a view that has seen this, and nothing more
 abbrev pub bare_view : List Entry → PassView
-bare_view seen = record { seen = seen; members = []; pasts = []; right = None; life = []; heard = 0; gave = 0; took = 0 }
+bare_view seen = record { seen = seen; members = []; pasts = []; cards = []; right = None; life = []; heard = 0; gave = 0; took = 0 }
 
 -- what is left of a view that was taken in
 abbrev pub empty_view : PassView
@@ -57,8 +57,8 @@ no_tale = record { heard = 0; life = [] }
 abbrev pub Begins : List Entry → List Entry → Type 0
 Begins xs ys = (rest : List Entry) × (ys ≡ xs ++ rest)
 
-abbrev pub AllBegin : List (List Entry) → List Entry → Type 0
-AllBegin ess log = AllByRecursion (λ (es : List Entry). Begins es log) ess
+abbrev pub AllBegin : List Past → List Entry → Type 0
+AllBegin pasts log = AllByRecursion (λ (g : Past). Begins g.seen log) pasts
 
 -- of two beginnings of one log the longer one; said so, the first begins it in any case
 abbrev pub longer : List Entry → List Entry → List Entry

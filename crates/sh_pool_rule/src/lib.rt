@@ -4,5 +4,8 @@
 mod rule;
 mod view;
 
-pub use rule::{Entering, Fed, Making, Parting, PoolRule, Stored, TakingIn, TakingUp, TurnOf};
-pub use view::{LockRight, Member, PassView, Player, Tiding};
+pub use rule::{
+    Entering, Fed, Learning, Making, Noting, Parting, PoolRule, Stored, TakingIn, TakingUp,
+    Telling, TurnOf,
+};
+pub use view::{Card, LockRight, Member, PassView, Past, Player, Tiding};

@@ -1,9 +1,9 @@
 // The rule of the table of a pool's words, and what its steps tell.
-ghost use Rattle.std.specs.Prelude.{◌≡◌, []};
+ghost use Rattle.std.specs.{Prelude.{◌≡◌, []}, List.{AllByRecursion}};
 ghost use Rattle.sh_base.specs.Parts.{parts_of};
 ghost use Rattle.sh_core.specs.Actors.{Actor};
-ghost use Rattle.sh_pool_rule.specs.{Views.{empty_view, no_tale, nobody, opening_view, Tale}, Rule.{KeepsPool, TookEvent}};
-ghost use Rattle.sh_pool_rule.specs.Rights.{first_alone, joined_view, less_first, parted_view, right_view, taken_view, told_view};
+ghost use Rattle.sh_pool_rule.specs.{declared.view.Card.{Card}, Views.{empty_view, no_tale, nobody, opening_view, Begins, Tale}, Rule.{KeepsPool, TookEvent}};
+ghost use Rattle.sh_pool_rule.specs.Rights.{first_alone, joined_view, learnt_view, less_first, note_view, parted_view, right_view, taken_view, told_view};
 
 use crate::view::PassView;
 use atomic_table::{Join, Play, Split, TableRule};
@@ -79,6 +79,35 @@ impl Split<PassView> for Making {
     ghost left = { less_first };
 
     ghost right = { first_alone };
+}
+
+/// A note is made. The pass's view is told of all that the pass has done.
+pub struct Noting<J> {
+    of: PhantomData<J>,
+}
+
+impl<J: TurnOf> Split<PassView> for Noting<J> {
+    ghost left = { told_view J.actor J.tale };
+
+    ghost right = { note_view J.actor };
+}
+
+/// A note is learnt. The pass's view is told of all that the pass has done.
+pub struct Learning<J> {
+    of: PhantomData<J>,
+}
+
+impl<J: TurnOf> Join<PassView> for Learning<J> {
+    ghost both = { learnt_view J.actor J.tale };
+
+    ghost spent = { empty_view };
+}
+
+/// Nothing changes; what the seat has seen begins with all that the makers of its notes had seen.
+pub struct Telling;
+
+impl Play<(), PassView> for Telling {
+    ghost then = { λ st me n now. (now ≡ me) × AllByRecursion (λ (c : Card). Begins c.saw me.0.seen) me.0.cards };
 }
 
 /// A new seat, which knows nothing.

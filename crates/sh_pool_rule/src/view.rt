@@ -43,14 +43,33 @@ pub enum Tiding {
     TurnTold { depth: Option<u64> },
 }
 
+/// What a note says: which seat made it, the calls of that seat that had ended, the lengths that it had seen after each note
+/// that it had learnt, and what it had seen; and the length that was seen where the card lies now, when it came there.
+pub struct Card {
+    pub seat: u64,
+    pub dones: LinkedList<Done>,
+    pub learnt: LinkedList<u64>,
+    pub saw: LinkedList<Entry>,
+    pub seen: u64,
+}
+
+/// What a seat that was taken in had seen, and the cards of the notes that it had learnt.
+pub struct Past {
+    pub seat: u64,
+    pub seen: LinkedList<Entry>,
+    pub cards: LinkedList<Card>,
+}
+
 /// What a seat at the table knows.
 pub struct PassView {
     /// The log, as far as it was seen.
     pub seen: LinkedList<Entry>,
     /// The actors that are here: one in a pass, all in a table that is laid or gathered, none in a right.
     pub members: LinkedList<Member>,
-    /// What those that were taken in had seen.
-    pub pasts: LinkedList<LinkedList<Entry>>,
+    /// Those that were taken in.
+    pub pasts: LinkedList<Past>,
+    /// The cards of the notes that the pass has learnt, or that of the note that it is.
+    pub cards: LinkedList<Card>,
     /// The right that it is.
     pub right: Option<LockRight>,
     /// All that the pass's client was told, the last first, as far as the view is told of it.

@@ -1,5 +1,5 @@
 -- A front of a text that is written part by part.
-use Rattle.std.{proofs.{Common.{ℕ, ◌≡◌, ◌≢◌, refl, List, [], ◌∷◌, ◌++◌, Option, Result, Ok, Err, length, ◌==◌, Bool, false, sym, ap, ◌∙◌, append_assoc}, lemmas.List.{append-nil}}, specs.Prelude.{OnErr}}
+use Rattle.std.{proofs.{Common.{rules, ℕ, ◌≡◌, ◌≢◌, refl, List, [], ◌∷◌, ◌++◌, Option, Result, Ok, Err, length, ◌==◌, false, sym, ap, append_assoc}, lemmas.List.{append-nil}}, specs.Prelude.{OnErr}}
 use Rattle.std.specs.Io.KnownBytes.{Appends}
 use Rattle.sh_port.{specs.Port.{AppendsFront, line_of}, proofs.Bytes.{appends_more, appends_none}}
 
@@ -18,13 +18,7 @@ front_none a text some = record { front = []; rest = text; whole = refl; written
 
 -- a front of the next part goes on from what is written
 pub front_more : (a b c : Option (List ℕ)) (before part after whole : List ℕ) → whole ≡ before ++ (part ++ after) → Appends a b before → AppendsFront b c part → AppendsFront a c whole
-front_more a b c before part after whole e h f = record {
-  front = before ++ f.front;
-  rest = f.rest ++ after;
-  whole = e ∙ (ap (λ t. before ++ (t ++ after)) f.whole ∙ (ap (λ t. before ++ t) (append_assoc f.front f.rest after) ∙ sym (append_assoc before f.front (f.rest ++ after))));
-  written = appends_more a b c before f.front h f.written;
-  missed = some_first f.rest after f.missed;
-}
+front_more a b c before part after whole e h f = search (rules, append_assoc, appends_more, some_first)
 
 -- a front of the first part is one of the whole
 pub front_first : (a b : Option (List ℕ)) (first second : List ℕ) → AppendsFront a b first → AppendsFront a b (first ++ second)
@@ -42,5 +36,4 @@ front_of_line a b (x ∷ xs) e f = front_first a b (x ∷ xs) (10 ∷ []) f
 
 -- the text is written; where the line feed behind it isn't, a front of the line is
 pub text_of_line : {E : Type 0} (a b c : Option (List ℕ)) (text : List ℕ) (r : Result (Unit {0}) E) → (length text == 0) ≡ false → Appends a b text → OnErr r (AppendsFront b c (10 ∷ [])) → OnErr r (AppendsFront a c (line_of text))
-text_of_line a b c [] r e before f = absurd (cc)
-text_of_line a b c (x ∷ xs) r e before f = front_behind a b c (x ∷ xs) (10 ∷ []) r before f
+text_of_line a b c h3 r e before f = search (rules, front_behind)

@@ -1,7 +1,5 @@
 -- A READ's answers by their causes.
-use Rattle.std.{proofs.Common.{◌≡◌, ℕ, ◌≤◌, Bool, true, false, List, length, refl, ap, subst, sym, inl, inr, arith}, specs.Prelude.{nat_lt, if◌then◌else◌, Option, Some, None}}
-use mathlib.Core.Bool.{false≢true}
-use Rattle.std.proofs.lemmas.Bool.Decides.{nat_tests}
+use Rattle.std.{proofs.Common.{rules, ◌≡◌, ℕ, ◌≤◌, Bool, true, false, List, length, subst, sym, inl, inr, arith}, specs.Prelude.{if◌then◌else◌, Option, Some, None}}
 use Rattle.sh_logic.proofs.Tests.{not_less_test}
 use Rattle.sh_base.specs.{declared.config.ConfigParts.{ConfigParts}, Setting.{node_size}}
 use Rattle.sh_image.specs.declared.{inner.Image.{Image, TheVariants.{Leaf as LeafImage, Inner as InnerImage}}, read.Seen.{Seen}}
@@ -30,15 +28,7 @@ given other None = other
 given other (Some image) = image
 
 seen_image : (seen : Seen) (image : Image) → image_in seen ≡ Some image → seen ≡ seen_as image
-seen_image (LeafSeen a) image h = ap (λ o. seen_as (given (LeafImage a) o)) h
-seen_image (InnerSeen a) image h = ap (λ o. seen_as (given (InnerImage a) o)) h
-seen_image (Torn rear front) image h = absurd (false≢true (ap is_there h))
-seen_image (TornEntry index rear front) image h = absurd (false≢true (ap is_there h))
-seen_image OddSeen image h = absurd (false≢true (ap is_there h))
+seen_image seen image h = search rules
 
 pub image_spelled : (p : ConfigParts) → 1 ≤ p.value_words → (r : Reads) (image : Image) → length r.loaded ≤ node_size p → accepted p r ≡ Some image → SeenBy p r.loaded (seen_as image)
-image_spelled p some r image few h = by (nat_lt (length r.loaded) (node_size p)) refl
-  where
-    by : (b : Bool) → nat_lt (length r.loaded) (node_size p) ≡ b → SeenBy p r.loaded (seen_as image)
-    by true e = absurd (false≢true (ap is_there (rw e at h)))
-    by false e = subst (SeenBy p r.loaded) (seen_image (seen_of p r.loaded) image (rw e at h)) (judged_by p r.loaded some (grind (arith, nat_tests, e, few)))
+image_spelled p some r image few h = search (rules, seen_image, judged_by)

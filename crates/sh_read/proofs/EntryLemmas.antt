@@ -1,5 +1,5 @@
 -- An entry that a READ loaded whole meets the rules between the fences that stand now.
-use Rattle.std.{proofs.Common.{◌≡◌, ℕ, zero, suc, ◌+◌, ◌-◌, ◌<◌, ◌≤◌, List, [], ◌∷◌, length, take, drop, get_or, min, refl, sym, ap, subst, ◌∙◌, length-drop, arith}, specs.Prelude.{slice_index}}
+use Rattle.std.{proofs.Common.{◌≡◌, ℕ, ◌+◌, ◌-◌, ◌<◌, ◌≤◌, List, length, take, drop, get_or, min, refl, sym, ap, subst, ◌∙◌, length-drop, arith}, specs.Prelude.{slice_index}}
 use Rattle.std.{specs.List.{AllByRecursion}, proofs.lemmas.List.{ext_get_or, get_or-drop, get_or-take, length-take}}
 use Rattle.sh_logic.proofs.Lists.{all_at}
 use Rattle.sh_base.{specs.{declared.config.ConfigParts.{ConfigParts}, Setting.{entry_size, node_size}, Layout.{entry_at, entry_rear_at}}, proofs.LayoutLemmas.{entry_size_is}}

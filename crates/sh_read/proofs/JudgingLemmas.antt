@@ -1,13 +1,13 @@
 -- What is judged of a node's words by tests is what a reader answers, each by its cause.
-use Rattle.std.proofs.Common.{◌≡◌, ◌≢◌, ℕ, zero, suc, ◌+◌, ◌*◌, ◌<◌, ◌≤◌, Bool, true, false, List, [], ◌∷◌, length, take, drop, refl, sym, ap, subst, ◌∙◌, inl, inr, arith}
-use Rattle.std.specs.{Prelude.{◌==◌, ◌&&◌, ◌↔◌, nat_lt, nat_le, if◌then◌else◌, replicate, slice_index, Option, Some, None}, List.{AllByRecursion}}
+use Rattle.std.proofs.Common.{rules, ◌≡◌, ◌≢◌, ℕ, zero, suc, ◌+◌, ◌*◌, ◌<◌, ◌≤◌, Bool, true, false, List, [], ◌∷◌, length, take, drop, refl, sym, ap, subst, ◌∙◌, inl, inr, arith}
+use Rattle.std.specs.{Prelude.{◌==◌, ◌&&◌, ◌↔◌, nat_le, if◌then◌else◌, replicate, slice_index, Option, Some, None}, List.{AllByRecursion}}
 use mathlib.Core.Bool.{false≢true}
-use Rattle.std.proofs.lemmas.{Bool.{cases_eq, cases_lt, Decides.{nat_tests}}, List.{length-drop, length-take-le}}
+use Rattle.std.proofs.lemmas.{Bool.{cases_eq, Decides.{nat_tests}}, List.{length-drop, length-take-le}}
 use Rattle.sh_logic.proofs.{Options.{some_none}, Tests.{less_test, at_most_test, same_test, differ_test, and_true, true_and}}
-use Rattle.sh_base.{proofs.LayoutLemmas.{node_size_is}, specs.{declared.config.ConfigParts.{ConfigParts}, Setting.{nodes, node_size, last_version, last_entry_version}}}
+use Rattle.sh_base.{proofs.LayoutLemmas.{node_size_is}, specs.{declared.config.ConfigParts.{ConfigParts}, Setting.{node_size}}}
 use Rattle.sh_image.specs.{declared.{leaf.LeafEntry.{LeafEntry}, inner.Pair.{Pair}}, Leaf.{Leaf, leaf_in, HaveWords, IsEntry, IsLeaf}}
-use Rattle.sh_image.specs.{Inner.{Inner, inner_in, separator_at, words_behind, HasChild, IsInner}, Seen.{front_of, rear_of, entry_front, entry_rear, HasWholeEntries, IsTornAt, SeenBy}}
-use Rattle.sh_image.{specs.declared.read.Seen.{Seen, TheVariants.{Leaf as LeafSeen, Inner as InnerSeen, Torn, TornEntry, Odd}}, proofs.{EntriesLemmas.{length-entries_in}, LeafLemmas.{spelled_one}}}
+use Rattle.sh_image.specs.{Inner.{Inner, inner_in, separator_at, words_behind, HasChild, IsInner}, Seen.{front_of, rear_of, entry_front, entry_rear, HasWholeEntries, SeenBy}}
+use Rattle.sh_image.{specs.declared.read.Seen.{Seen, TheVariants.{Leaf as LeafSeen, Inner as InnerSeen, Torn, Odd}}, proofs.{EntriesLemmas.{length-entries_in}, LeafLemmas.{spelled_one}}}
 use Rattle.sh_image.proofs.{InnerLemmas.{inner_spelled, inner_passed, zeros_spelled, length-pairs_in}, ReadLemmas.{words_from_untorn, entries_in_have_words, header_spelled}}
 use Rattle.sh_image.proofs.UntornLemmas.{seen_spelled, seen_inner}
 use Rattle.sh_read.specs.Judging.{are_zeros, fits_end, fits_entry, fit_entries, fits_leaf, fit_pairs, begins_at, fits_inner, first_torn, leaf_seen, has_zeros_behind, inner_seen, untorn_seen, seen_of}
@@ -28,17 +28,10 @@ zeros_test (suc n) = zeros_test n
 
 module _ (p : ConfigParts) where
   entry_tested : (low high : ℕ) (e : LeafEntry) → length e.value ≡ p.value_words → fits_entry p low high e ≡ true → IsEntry p low high e
-  entry_tested low high e long h = by (e.key == 0) refl (and_true (nat_le e.version last_entry_version) _ h)
-    where
-      by : (b : Bool) → (e.key == 0) ≡ b → (nat_le e.version last_entry_version ≡ true) × ((if e.key == 0 then are_zeros e.value else (nat_le low e.key && nat_lt e.key high)) ≡ true) → IsEntry p low high e
-      by true is parts = record { value = long; version = grind (arith, nat_tests, parts); within = inl (grind (arith, nat_tests, is), zeros_tested e.value p.value_words long (rw is at parts.1)) }
-      by false is parts = record { value = long; version = grind (arith, nat_tests, parts); within = inr (grind (arith, nat_tests, is, parts)) }
+  entry_tested low high e long h = search (rules, and_true, zeros_tested)
 
   entry_test : (low high : ℕ) (e : LeafEntry) → IsEntry p low high e → fits_entry p low high e ≡ true
-  entry_test low high e h = true_and _ _ (at_most_test _ _ h.version) (elim h.within [
-    | inl empty ↦ rw (same_test e.key 0 empty.0) (ap are_zeros empty.1 ∙ zeros_test p.value_words)
-    | inr keyed ↦ rw (differ_test e.key 0 (λ e. omega (arith, keyed.1))) (true_and _ _ (at_most_test _ _ keyed.0) (less_test _ _ keyed.2))
-  ])
+  entry_test low high e h = search (rules, true_and, at_most_test, same_test, zeros_test, differ_test, less_test)
 
   entries_tested : (low high : ℕ) (es : List LeafEntry) → HaveWords p es → fit_entries p low high es ≡ true → AllByRecursion (IsEntry p low high) es
   entries_tested low high [] long h = tt
@@ -59,31 +52,14 @@ past i = omega arith
 
 module _ (p : ConfigParts) where
   leaf_tested : (a : Leaf) → length a.entries ≡ p.leaf → HaveWords p a.entries → fits_leaf p a ≡ true → IsLeaf p a
-  leaf_tested a count long h =
-      let one = and_true (nat_le a.version (last_version p)) _ h in
-      let two = and_true (nat_lt a.low a.high) _ one.1 in
-      let three = and_true (nat_le a.next (nodes p)) _ two.1 in
-      let four = and_true (fits_end a.next a.high) _ three.1 in
-      record {
-        version = grind (arith, nat_tests, one.0);
-        fences = grind (arith, nat_tests, two.0);
-        next = grind (arith, nat_tests, three.0);
-        end = end_tested a.next a.high four.0;
-        count = count;
-        entries = entries_tested p a.low a.high a.entries long four.1;
-      }
+  leaf_tested a count long h = search (rules, and_true, end_tested, entries_tested)
 
   leaf_test : (a : Leaf) → IsLeaf p a → fits_leaf p a ≡ true
   leaf_test a h = true_and _ _ (at_most_test _ _ h.version) (true_and _ _ (less_test _ _ h.fences) (true_and _ _ (at_most_test _ _ h.next) (true_and _ _ (end_test _ _ h.end) (entries_test p a.low a.high a.entries h.entries))))
 
   -- of the pairs: what the test of one tells
   pair_tested : (low high : ℕ) (x : Pair) (xs : List Pair) → fit_pairs p low high (x ∷ xs) ≡ true → (low ≤ x.separator) × (x.separator < high) × HasChild p x × (fit_pairs p (x.separator + 1) high xs ≡ true)
-  pair_tested low high x xs h =
-      let one = and_true (nat_le low x.separator) _ h in
-      let two = and_true (nat_lt x.separator high) _ one.1 in
-      let three = and_true (nat_lt 0 x.child) _ two.1 in
-      let four = and_true (nat_le x.child (nodes p)) _ three.1 in
-      (grind (arith, nat_tests, one.0), grind (arith, nat_tests, two.0), (grind (arith, nat_tests, three.0), grind (arith, nat_tests, four.0)), four.1)
+  pair_tested low high x xs h = search (rules, and_true)
 
   rise_tested : (low high : ℕ) (xs : List Pair) → fit_pairs p low high xs ≡ true → (i : ℕ) → i + 1 < length xs → separator_at xs i < separator_at xs (i + 1)
   rise_tested low high [] h i below = absurd (omega arith)
@@ -109,43 +85,20 @@ module _ (p : ConfigParts) where
       next ys up some = omega (arith, up 0 (omega arith))
 
   begins_tested : (low : ℕ) (xs : List Pair) → begins_at low xs ≡ true → (separator_at xs 0 ≡ low) × (1 ≤ length xs)
-  begins_tested low [] h = absurd (false≢true h)
-  begins_tested low (x ∷ xs) h = (grind (arith, nat_tests, h), omega arith)
+  begins_tested low xs h = search rules
 
   begins_test : (low : ℕ) (xs : List Pair) → separator_at xs 0 ≡ low → 1 ≤ length xs → begins_at low xs ≡ true
-  begins_test low [] first some = absurd (omega arith)
-  begins_test low (x ∷ xs) first some = same_test x.separator low first
+  begins_test low xs first some = search (rules, same_test)
 
   inner_tested : (a : Inner) → length a.pairs ≤ 2 * p.leaf → fits_inner p a ≡ true → IsInner p a
-  inner_tested a few h =
-      let one = and_true (nat_le a.version (last_version p)) _ h in
-      let two = and_true (nat_lt 0 a.level) _ one.1 in
-      let three = and_true (nat_lt a.level (nodes p)) _ two.1 in
-      let four = and_true (nat_lt a.low a.high) _ three.1 in
-      let five = and_true (nat_le a.next (nodes p)) _ four.1 in
-      let six = and_true (fits_end a.next a.high) _ five.1 in
-      let seven = and_true (begins_at a.low a.pairs) _ six.1 in
-      let begin = begins_tested a.low a.pairs seven.0 in
-      record {
-        version = grind (arith, nat_tests, one.0);
-        level = (grind (arith, nat_tests, two.0), grind (arith, nat_tests, three.0));
-        fences = grind (arith, nat_tests, four.0);
-        next = grind (arith, nat_tests, five.0);
-        end = end_tested a.next a.high six.0;
-        count = (begin.1, few);
-        separators = record { first = begin.0; rise = rise_tested a.low a.high a.pairs seven.1; below = below_tested a.low a.high a.pairs seven.1 };
-        children = children_tested a.low a.high a.pairs seven.1;
-      }
+  inner_tested a few h = search (rules, and_true, begins_tested, end_tested, rise_tested, below_tested, children_tested)
 
   inner_test : (a : Inner) → IsInner p a → fits_inner p a ≡ true
-  inner_test a h =
-      let pairs = pairs_test a.low a.high a.pairs (λ some. omega (arith, h.separators.first)) h.separators.rise h.separators.below h.children in
-      true_and _ _ (at_most_test _ _ h.version) (true_and _ _ (less_test 0 _ h.level.0) (true_and _ _ (less_test _ _ h.level.1) (true_and _ _ (less_test _ _ h.fences) (true_and _ _ (at_most_test _ _ h.next) (true_and _ _ (end_test _ _ h.end) (true_and _ _ (begins_test a.low a.pairs h.separators.first h.count.0) pairs))))))
+  inner_test a h = search (rules, pairs_test, true_and, at_most_test, less_test, end_test, begins_test)
 
 -- a choice has what each side has
 chosen : (P : Seen → Type 0) (b : Bool) (x y : Seen) → (b ≡ true → P x) → (b ≡ false → P y) → P (if b then x else y)
-chosen P true x y f g = f refl
-chosen P false x y f g = g refl
+chosen h0 b x y f g = search rules
 
 abbrev given : Option ℕ → ℕ
 given None = 0
@@ -255,31 +208,4 @@ module _ (p : ConfigParts) (ws : List ℕ) where
 
   -- the causes shut each other out
   pub seen_once : 1 ≤ p.value_words → (s t : Seen) → SeenBy p ws s → SeenBy p ws t → s ≡ t
-  seen_once some (LeafSeen a) t hs ht = sym (seen_spelled p ws a t hs ht)
-  seen_once some (InnerSeen a) t hs ht = sym (seen_inner p ws a t some hs ht)
-  seen_once some (Torn rear front) (LeafSeen a) hs ht = seen_spelled p ws a (Torn rear front) ht hs
-  seen_once some (Torn rear front) (InnerSeen a) hs ht = seen_inner p ws a (Torn rear front) some ht hs
-  seen_once some (Torn rear front) (Torn r f) hs ht = λ i. Torn ((hs.0 ∙ sym ht.0) i) ((hs.1 ∙ sym ht.1) i)
-  seen_once some (Torn rear front) (TornEntry j r f) hs ht = absurd (hs.2 (hs.0 ∙ sym ht.node ∙ sym hs.1))
-  seen_once some (Torn rear front) Odd hs ht = absurd (hs.2 (hs.0 ∙ sym ht.0.node ∙ sym hs.1))
-  seen_once some (TornEntry i rear front) (LeafSeen a) hs ht = seen_spelled p ws a (TornEntry i rear front) ht hs
-  seen_once some (TornEntry i rear front) (InnerSeen a) hs ht = seen_inner p ws a (TornEntry i rear front) some ht hs
-  seen_once some (TornEntry i rear front) (Torn r f) hs ht = absurd (ht.2 (ht.0 ∙ sym hs.node ∙ sym ht.1))
-  seen_once some (TornEntry i rear front) (TornEntry j r f) hs ht =
-      let same : i ≡ j = first_once i j hs.torn ht.torn in
-      λ k. TornEntry (same k) ((hs.rear_is ∙ ap (entry_rear p ws) same ∙ sym ht.rear_is) k) ((hs.front_is ∙ ap (entry_front p ws) same ∙ sym ht.front_is) k)
-    where
-      first_once : (i j : ℕ) → IsTornAt p ws i → IsTornAt p ws j → i ≡ j
-      first_once i j a b = elim (cases_lt i j) [
-        | inl lt ↦ absurd (a.differ (b.before i lt))
-        | inr ge ↦ elim (cases_lt j i) [
-          | inl lt ↦ absurd (b.differ (a.before j lt))
-          | inr le ↦ omega arith
-        ]
-      ]
-  seen_once some (TornEntry i rear front) Odd hs ht = absurd (hs.torn.differ (ht.0.entries hs.leaf i hs.torn.in_range))
-  seen_once some Odd (LeafSeen a) hs ht = seen_spelled p ws a Odd ht hs
-  seen_once some Odd (InnerSeen a) hs ht = seen_inner p ws a Odd some ht hs
-  seen_once some Odd (Torn r f) hs ht = absurd (ht.2 (ht.0 ∙ sym hs.0.node ∙ sym ht.1))
-  seen_once some Odd (TornEntry j r f) hs ht = absurd (ht.torn.differ (hs.0.entries ht.leaf j ht.torn.in_range))
-  seen_once some Odd Odd hs ht = refl
+  seen_once some s t hs ht = search (rules, seen_spelled, seen_inner)

@@ -1,12 +1,12 @@
 -- The words that a READ keeps, as they are loaded.
-use Rattle.std.proofs.Common.{◌≡◌, ◌≢◌, ℕ, zero, suc, ◌+◌, ◌-◌, ◌<◌, ◌≤◌, Bool, true, false, List, [], ◌∷◌, length, take, drop, set, refl, sym, ap, subst, ◌∙◌, length-drop, arith}
+use Rattle.std.proofs.Common.{rules, ◌≡◌, ◌≢◌, ℕ, zero, suc, ◌+◌, ◌-◌, ◌<◌, ◌≤◌, Bool, true, false, List, [], ◌∷◌, length, take, drop, set, refl, sym, ap, ◌∙◌, length-drop, arith}
 use Rattle.std.{specs.Prelude.{nat_lt, slice_index, Some, None}, proofs.lemmas.{Bool.Decides.{nat_tests}, List.{drop_all, get_or-take, length-set, length-take-le}}}
 use Rattle.sh_logic.proofs.Tests.{less_test, not_less_test}
 use Rattle.sh_base.specs.{declared.config.ConfigParts.{ConfigParts}, Setting.{node_size, IsNode, IsSetting}, Layout.{node_word}}
 use Rattle.sh_base.proofs.LayoutLemmas.{node_size_is, node_word_high, rear_at_low, rear_at_small, take_set_in}
-use Rattle.sh_image.specs.declared.{read.Seen.{Seen, TheVariants.{Leaf as LeafSeen, Inner as InnerSeen, Torn, TornEntry, Odd as OddSeen}}, inner.Image.{Image, TheVariants.{Leaf, Inner}}}
-use Rattle.sh_image.specs.{declared.read.Found.{Found, TheVariants.{Node, Torn as FoundTorn, TornEntry as FoundTornEntry, Odd as FoundOdd}}, Node.{seen_with}}
-use Rattle.sh_read.specs.{declared.state.Progress.{Progress, TheVariants.{More, Accepted, Again, Odd}}, Judging.{seen_of}}
+use Rattle.sh_image.specs.declared.{read.Seen.{Seen}, inner.Image.{Image}}
+use Rattle.sh_image.specs.{declared.read.Found.{Found}, Node.{seen_with}}
+use Rattle.sh_read.specs.{declared.state.Progress.{Progress, TheVariants.{More}}, Judging.{seen_of}}
 use Rattle.sh_read.specs.{Reads.{reads_with, answer_to, read_fed, image_in, reads_left, progress_of, wanted}, Kept.{kept_answer, image_at, loaded_in, left_after, reader_of, IsKeptRead, KeepsImage}}
 use Rattle.sh_read.specs.Loads.{IsInside, IsNext}
 
@@ -112,11 +112,7 @@ module _ (p : ConfigParts) (setting : IsSetting p) (node : ℕ) (words : List �
 
   -- the READ that a reader's answer leaves
   ended : (seen : Seen) → reads_with node (loaded_in p (left_after (answer_to seen) (node_size p)) words) ≡ reads_left seen (reads_with node (take (node_size p) words))
-  ended (LeafSeen a) = refl
-  ended (InnerSeen a) = refl
-  ended (Torn rear front) = ap (reads_with node) none_words
-  ended (TornEntry index rear front) = ap (reads_with node) none_words
-  ended OddSeen = refl
+  ended seen = search (rules, none_words)
 
 module _ (p : ConfigParts) (setting : IsSetting p) (left node word : ℕ) (words : List ℕ) (room : length words ≡ 711) (within : left ≤ node_size p) (some : 1 ≤ left) where
   pub fed_last : (seen : Seen) (after : ℕ) → left - 1 ≡ 0 → seen ≡ seen_of p (take (node_size p) (set words (left - 1) word)) → after ≡ left_after (answer_to seen) (node_size p) → reader_of p node after (set words (left - 1) word) ≡ record { setting = p; reads = read_fed p (reads_with node (loaded_in p left words)) word }
@@ -132,13 +128,7 @@ module _ (p : ConfigParts) (setting : IsSetting p) (left node word : ℕ) (words
 module _ (p : ConfigParts) (setting : IsSetting p) (node first : ℕ) (words : List ℕ) (leaf inner : Image) (here : IsNode p node) (address : first ≡ node_word p node) (room : length words ≡ 711) where
   -- some words are left to load
   pub kept_under_way : (left : ℕ) → left ≤ node_size p → 0 < left → IsKeptRead p node first left words leaf inner
-  kept_under_way left within some = record {
-    here = here;
-    address = address;
-    within = within;
-    room = room;
-    found = λ none. absurd (omega (arith, some, none));
-  }
+  kept_under_way left within some = search rules
 
   -- nothing is loaded yet
   pub kept_new : (left : ℕ) → left ≡ node_size p → IsKeptRead p node first left words leaf inner
@@ -146,32 +136,12 @@ module _ (p : ConfigParts) (setting : IsSetting p) (node first : ℕ) (words : L
 
   -- all words were judged
   pub kept_judged : (after : ℕ) → after ≤ node_size p → KeepsImage (image_in (seen_of p (take (node_size p) words))) (image_at (slice_index (take (node_size p) words) 1) leaf inner) → IsKeptRead p node first after words leaf inner
-  kept_judged after within keeps = record {
-    here = here;
-    address = address;
-    within = within;
-    room = room;
-    found = λ none.
-        let all : loaded_in p after words ≡ take (node_size p) words = ap (λ n. drop n (take (node_size p) words)) none in
-        let full : nat_lt (length (take (node_size p) words)) (node_size p) ≡ false = not_less_test _ _ (omega (arith, all_words p setting node words room)) in
-        let level : slice_index (take (node_size p) words) 1 ≡ slice_index words 1 = get_or-take (node_size p) words 1 0 (omega (arith, node_size_is p, rear_at_low p)) in
-        rw (all, full, ← level) keeps;
-  }
+  kept_judged after within keeps = search (rules, not_less_test, all_words, get_or-take, node_size_is, rear_at_low)
 
 -- how many words are left behind an answer
 pub left_after_within : (a : Progress) (size after : ℕ) → after ≡ left_after a size → after ≤ size
-left_after_within More size after is = omega (arith, is)
-left_after_within Accepted size after is = omega (arith, is)
-left_after_within (Again rear front) size after is = omega (arith, is)
-left_after_within Odd size after is = omega (arith, is)
+left_after_within a size after is = search rules
 
 -- what is answered to what was found, and the image that is kept, are those of what a reader sees
 pub found_seen : (found : Found) (image : Image) (seen : Seen) → seen_with found image ≡ seen → (kept_answer found ≡ answer_to seen) × KeepsImage (image_in seen) image
-found_seen found image seen is = subst (λ (s : Seen). (kept_answer found ≡ answer_to s) × KeepsImage (image_in s) image) is (by found image)
-  where
-    by : (found : Found) (image : Image) → (kept_answer found ≡ answer_to (seen_with found image)) × KeepsImage (image_in (seen_with found image)) image
-    by Node (Leaf a) = (refl, refl)
-    by Node (Inner a) = (refl, refl)
-    by (FoundTorn rear front) image = (refl, tt)
-    by (FoundTornEntry index rear front) image = (refl, tt)
-    by FoundOdd image = (refl, tt)
+found_seen found image seen is = search rules

@@ -1,5 +1,5 @@
 -- The law of reads.
-use Rattle.std.proofs.{Common.{◌≡◌, ℕ, zero, suc, ◌+◌, ◌-◌, ◌<◌, ◌≤◌, List, length, get_or, refl, sym, ap, ◌∙◌, subst, inl, inr, arith}, lemmas.Bool.{cases_eq}}
+use Rattle.std.proofs.{Common.{rules, ◌≡◌, ℕ, zero, suc, ◌+◌, ◌-◌, ◌<◌, ◌≤◌, List, length, get_or, refl, sym, ap, ◌∙◌, subst, inl, inr, arith}, lemmas.Bool.{cases_eq}}
 use Rattle.sh_base.{specs.{declared.config.ConfigParts.{ConfigParts}, Layout.{entry_at, rear_at, entry_rear_at}}, proofs.LayoutLemmas.{entry_size_is}}
 use Rattle.sh_read.specs.Moments.{Writing, Idle, Whole, One, word, IsNodeMoment, Next, still, begin_whole, more_whole, end_whole, begin_one, more_one, end_one}
 use Rattle.sh_read.specs.{Reading.{IsHead, IsEntryWord, NotWhole}, ReadLaw.{Moment, nowhere, word_at, IsCourse, IsQuiet}}
@@ -53,15 +53,11 @@ module _ (p : ConfigParts) (level : ℕ) where
 
   -- the rear version is never past the front version
   rear_le_front : (s : List ℕ) (w : Writing) → IsNodeMoment p level s w → word p s w (rear_at p) ≤ word p s w 0
-  rear_le_front s Idle m = omega (arith, m.versioned.node)
-  rear_le_front s (Whole new done) m = omega (arith, rear_below p level s (Whole new done) m, m.writing.1, word_first p level s new done m.writing.2)
-  rear_le_front s (One i new done) m = omega (arith, rear_below p level s (One i new done) m, word_head p level s (One i new done) 0 m.writing tt zero_is_head)
+  rear_le_front s w m = search (rules, rear_below, word_first, word_head, zero_is_head)
 
   -- where they agree, no node WRITE is under way
   not_whole : (s : List ℕ) (w : Writing) → IsNodeMoment p level s w → word p s w (rear_at p) ≡ word p s w 0 → NotWhole w
-  not_whole s Idle m e = tt
-  not_whole s (Whole new done) m e = absurd (omega (arith, rear_below p level s (Whole new done) m, m.writing.1, word_first p level s new done m.writing.2, e))
-  not_whole s (One i new done) m e = tt
+  not_whole s w m e = search (rules, rear_below, word_first)
 
   front_in : (i : ℕ) → IsEntryWord p i (entry_at p i)
   front_in i = record { low = omega arith; high = omega (arith, entry_size_is p) }
@@ -79,9 +75,7 @@ module _ (p : ConfigParts) (level : ℕ) where
 
   -- a change is a step of the part's versions
   touch : (moments : List Moment) (Part : ℕ → Type 0) (front rear t : ℕ) → Part front → Part rear → Change p Part front rear (get_or moments t nowhere).standing (get_or moments t nowhere).writing (get_or moments (t + 1) nowhere).standing (get_or moments (t + 1) nowhere).writing → Touch (λ t. (o : ℕ) → Part o → word_at p moments (t + 1) o ≡ word_at p moments t o) (λ t. word_at p moments t front) (λ t. word_at p moments t rear) t
-  touch moments Part front rear t f r (same h) = stays h (h front f) (h rear r)
-  touch moments Part front rear t f r (rises h) = begins h
-  touch moments Part front rear t f r (under h e) = goes_on h e
+  touch moments h1 front rear t f r h7 = search (rules, stays, begins, goes_on)
 
   -- what no step changes is the same throughout
   unchanged : (moments : List Moment) (o s n : ℕ) → ((t : ℕ) → s ≤ t → t < s + n → word_at p moments (t + 1) o ≡ word_at p moments t o) → word_at p moments (s + n) o ≡ word_at p moments s o

@@ -1,5 +1,5 @@
 -- The law of reads, over the words in memory.
-use Rattle.std.proofs.Common.{◌≡◌, ℕ, ◌<◌, List, length, sym, ◌∙◌, inl, inr, arith}
+use Rattle.std.proofs.Common.{rules, ◌≡◌, ℕ, ◌<◌, List, length, sym, ◌∙◌, arith}
 use Rattle.sh_base.specs.{declared.config.ConfigParts.{ConfigParts}, Setting.{node_size}, Layout.{entry_at, rear_at, entry_rear_at}}
 use Rattle.sh_base.proofs.LayoutLemmas.{entry_high, entry_within, node_size_is, rear_at_low}
 use Rattle.sh_read.specs.Moments.{}
@@ -10,9 +10,7 @@ module _ (p : ConfigParts) (level n : ℕ) (memories : List (List ℕ)) (moments
   found t o in_range below = h.agrees t (omega (arith, h.as_long)) o below
 
   head_below : (o : ℕ) → IsHead p level o → o < node_size p
-  head_below o (inl low) = omega (arith, node_size_is p, rear_at_low p)
-  head_below o (inr (inl rear)) = omega (arith, node_size_is p)
-  head_below o (inr (inr inner)) = omega (arith, inner.1, node_size_is p)
+  head_below o h1 = search (rules, node_size_is, rear_at_low)
 
   entry_below : (i o : ℕ) → i < p.leaf → IsEntryWord p i o → o < node_size p
   entry_below i o k at = omega (arith, at.high, entry_high p i k, node_size_is p)

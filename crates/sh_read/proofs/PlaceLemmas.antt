@@ -1,5 +1,5 @@
 -- The words that a READ was fed, in their places in the node.
-use Rattle.std.{proofs.{Common.{◌≡◌, ℕ, zero, suc, ◌+◌, List, [], ◌∷◌, ◌++◌, length, set, refl, sym, ap, subst, ◌∙◌, append-nil, arith}, lemmas.List.{length-replicate}}, specs.Prelude.{replicate}}
+use Rattle.std.{proofs.{Common.{◌≡◌, ℕ, suc, ◌+◌, List, [], ◌∷◌, ◌++◌, length, set, sym, ap, subst, ◌∙◌, append-nil, arith}, lemmas.List.{length-replicate}}, specs.Prelude.{replicate}}
 use Rattle.sh_logic.proofs.Lists.{set_last}
 use Rattle.sh_base.{specs.{declared.config.ConfigParts.{ConfigParts}, Setting.{node_size}, Layout.{rear_at}}, proofs.LayoutLemmas.{node_size_is}}
 use Rattle.sh_read.{specs.{Moments.{Writing, word, IsNodeMoment}, Reading.{StoodIn, StoodWith, FitsRead}, Reads.{in_place, left_in}}, proofs.Read.{FitsRead-begin, stood-load}}

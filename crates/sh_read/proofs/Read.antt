@@ -1,9 +1,9 @@
 -- Each event keeps what a READ under way knows, and each load adds to it.
-use Rattle.std.proofs.{Common.{◌≡◌, ◌≢◌, ◌⊎◌, ℕ, suc, ◌+◌, ◌<◌, ◌≤◌, List, ◌∷◌, length, get_or, set, refl, sym, ap, ◌∙◌, inl, inr, arith}, lemmas.Bool.{cases_lt, cases_eq}}
+use Rattle.std.proofs.{Common.{rules, ◌≡◌, ◌≢◌, ◌⊎◌, ℕ, suc, ◌+◌, ◌<◌, ◌≤◌, List, ◌∷◌, length, get_or, set, refl, sym, ap, ◌∙◌, inl, inr, arith}, lemmas.Bool.{cases_lt, cases_eq}}
 use Rattle.std.proofs.lemmas.List.{get_or-set_same, get_or-set_other, length-set}
 use Rattle.sh_base.specs.{declared.config.ConfigParts.{ConfigParts}, Setting.{node_size}, Layout.{entry_at, rear_at, entry_rear_at}}
 use Rattle.sh_base.proofs.LayoutLemmas.{entry_within, entry_size_is, node_size_is, rear_at_low}
-use Rattle.sh_read.specs.Moments.{Writing, Idle, Whole, One, word, IsWriting, IsNodeMoment, Next, still, begin_whole, more_whole, end_whole, begin_one, more_one, end_one}
+use Rattle.sh_read.specs.Moments.{Writing, Idle, One, word, IsWriting, IsNodeMoment, Next, still, begin_whole, more_whole, end_whole, begin_one, more_one, end_one}
 use Rattle.sh_read.specs.Reading.{IsHead, IsEntryWord, NotWhole, NotOne, IsCalm, FitsReadEntry, FitsRead, StoodIn, StoodWith}
 use Rattle.sh_read.proofs.Words.{entry_end, word_head, word_other, word_rear, word_front, word_first, rear_below, ended_head, ended_other}
 
@@ -17,10 +17,7 @@ module _ (p : ConfigParts) (level : ℕ) where
 
   -- the entry that was written has a greater version than the one that was loaded
   ended_here : (s t : List ℕ) (j i from : ℕ) (got new : List ℕ) (done : ℕ) → ((o : ℕ) → get_or t o 0 ≡ word p s (One j new (3 + p.value_words)) o) → j ≡ i → IsWriting p level s (One j new done) → FitsReadEntry p s (One j new done) from got i → FitsReadEntry p t Idle from got i
-  ended_here s t j i from got new done ends here h f =
-      let front : get_or t (entry_at p i) 0 ≡ get_or new 0 0 = ap (λ k. get_or t (entry_at p k) 0) (sym here) ∙ ends (entry_at p j) ∙ word_front p level s j new (3 + p.value_words) (omega arith) in
-      let past : get_or got (entry_rear_at p i) 0 < get_or t (entry_at p i) 0 = omega (arith, f.version, front, h.1, ap (λ k. get_or s (entry_at p k) 0) here) in
-      record { version = omega arith; words = λ n e. absurd (omega arith) }
+  ended_here s t j i from got new done ends here h f = search (rules, word_front)
 
   -- the others stand as before
   ended_there : (s t : List ℕ) (j i from : ℕ) (got new : List ℕ) (done : ℕ) → ((o : ℕ) → get_or t o 0 ≡ word p s (One j new (3 + p.value_words)) o) → j ≢ i → FitsReadEntry p s (One j new done) from got i → FitsReadEntry p t Idle from got i
@@ -100,12 +97,7 @@ module _ (p : ConfigParts) (level : ℕ) where
 
   -- an entry that is written has a greater front version
   front_cases : (s : List ℕ) (w : Writing) (i : ℕ) → IsWriting p level s w → NotWhole w → NotOne i w ⊎ (get_or s (entry_at p i) 0 < word p s w (entry_at p i))
-  front_cases s Idle i h n = inl tt
-  front_cases s (Whole new done) i h n = absurd n
-  front_cases s (One j new done) i h n = elim (cases_eq j i) [
-    | inr differ ↦ inl differ
-    | inl e ↦ inr (omega (arith, h.1, word_front p level s j new done h.3, ap (λ k. get_or s (entry_at p k) 0) e, ap (λ k. word p s (One j new done) (entry_at p k)) e))
-  ]
+  front_cases s w i h n = search (rules, cases_eq, word_front)
 
   -- ---- a load
   module _ (Was : List ℕ → Type 0) (s : List ℕ) (w : Writing) (at : ℕ) (got : List ℕ) (m : IsNodeMoment p level s w) (was : Was s) (r : FitsRead p level Was s w (at + 1) got) where
@@ -201,48 +193,20 @@ module _ (p : ConfigParts) (level : ℕ) where
 
   -- the first load, of the rear version
   pub FitsRead-begin : (Was : List ℕ → Type 0) (s : List ℕ) (w : Writing) (blank : List ℕ) → IsNodeMoment p level s w → length blank ≡ node_size p → FitsRead p level Was s w (rear_at p) (set blank (rear_at p) (word p s w (rear_at p)))
-  FitsRead-begin Was s w blank m long =
-      let rear : get_or (set blank (rear_at p) (word p s w (rear_at p))) (rear_at p) 0 ≡ word p s w (rear_at p) = get_or-set_same blank (rear_at p) _ 0 (omega (arith, long, node_size_is p)) in
-      record {
-        long = length-set blank (rear_at p) (word p s w (rear_at p)) ∙ long;
-        begun = omega arith;
-        version = omega (arith, rear, rear_below p level s w m);
-        head = λ c o at above. elim at [
-          | inl low ↦ absurd (omega (arith, rear_at_low p))
-          | inr rest ↦ let e : o ≡ rear_at p = elim rest [ inl same ↦ same | inr inner ↦ omega (arith, inner.1) ] in ap (get_or_in (set blank (rear_at p) (word p s w (rear_at p)))) e ∙ rear ∙ word_head p level s w (rear_at p) m.writing c.none (inr (inl refl)) ∙ ap (get_or_in s) (sym e)
-        ];
-        part = λ l c i h low high. absurd (omega (arith, entry_within p i h));
-        whole = λ l c i h low. absurd (omega (arith, entry_within p i h));
-      }
+  FitsRead-begin h0 s w blank m long = search (rules, get_or-set_same, node_size_is, length-set, rear_below, rear_at_low, word_head, entry_within)
 
   -- A READ whose node versions agree when the front version is loaded: no node WRITE is under way, and what it loaded
   -- of the words that only node WRITEs store is what stands.
   pub accepted : (Was : List ℕ → Type 0) (s : List ℕ) (w : Writing) (got : List ℕ) → IsNodeMoment p level s w → FitsRead p level Was s w 0 got → get_or got 0 0 ≡ word p s w 0 → get_or got 0 0 ≡ get_or got (rear_at p) 0 → IsCalm p s w got
-  accepted Was s Idle got m r last agree = record { none = tt; same = sym agree ∙ last }
-  accepted Was s (Whole new done) got m r last agree = absurd (omega (arith, r.version, last, agree, m.writing.1, word_first p level s new done m.writing.2))
-  accepted Was s (One i new done) got m r last agree = record { none = tt; same = sym agree ∙ last ∙ word_head p level s (One i new done) 0 m.writing tt (inl (omega arith)) }
+  accepted h0 s w got m r last agree = search (rules, word_first, word_head)
 
   -- what stood once stood once
   pub FitsRead-weaker : (Was Now : List ℕ → Type 0) (s : List ℕ) (w : Writing) (from : ℕ) (got : List ℕ) → ((b : List ℕ) → Was b → Now b) → FitsRead p level Was s w from got → FitsRead p level Now s w from got
-  FitsRead-weaker Was Now s w from got h r = record {
-    long = r.long;
-    begun = r.begun;
-    version = r.version;
-    head = r.head;
-    part = r.part;
-    whole = λ l c i k low agree. let seen = r.whole l c i k low agree in (seen.0, h seen.0 seen.1, seen.2);
-  }
+  FitsRead-weaker h0 h1 s w from got h r = search rules
 
   -- while no node WRITE has stored
   pub FitsRead-calm : (Was Now : List ℕ → Type 0) (s : List ℕ) (w : Writing) (from : ℕ) (got : List ℕ) → (IsCalm p s w got → (b : List ℕ) → Was b → Now b) → FitsRead p level Was s w from got → FitsRead p level Now s w from got
-  FitsRead-calm Was Now s w from got h r = record {
-    long = r.long;
-    begun = r.begun;
-    version = r.version;
-    head = r.head;
-    part = r.part;
-    whole = λ l c i k low agree. let seen = r.whole l c i k low agree in (seen.0, h c seen.0 seen.1, seen.2);
-  }
+  FitsRead-calm h0 h1 s w from got h r = search rules
 
   -- the header stays while no node WRITE has stored
   pub header_stays : (s t : List ℕ) (w v : Writing) (got : List ℕ) → Next p s w t v → IsNodeMoment p level s w → get_or got (rear_at p) 0 ≤ get_or s 0 0 → IsCalm p t v got → (o : ℕ) → o < 6 → get_or s o 0 ≡ get_or t o 0

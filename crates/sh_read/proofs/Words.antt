@@ -1,5 +1,5 @@
 -- What a WRITE under way leaves of a node's words.
-use Rattle.std.{proofs.{Common.{◌≡◌, ◌≢◌, ◌⊎◌, ℕ, ◌+◌, ◌-◌, ◌<◌, ◌≤◌, cond, ltb, leb, List, get_or, refl, ap, ◌∙◌, inl, inr, arith}, lemmas.Bool.Decides.{nat_tests}}, specs.Prelude.{◌&&◌}}
+use Rattle.std.{proofs.{Common.{rules, ◌≡◌, ◌≢◌, ◌⊎◌, ℕ, ◌+◌, ◌<◌, ◌≤◌, cond, ltb, leb, List, get_or, refl, ap, ◌∙◌, inl, inr, arith}, lemmas.Bool.Decides.{nat_tests}}, specs.Prelude.{◌&&◌}}
 use Rattle.std.proofs.lemmas.Bool.{cases_lt, cases_eq}
 use Rattle.sh_base.specs.{declared.config.ConfigParts.{ConfigParts}, Setting.{entry_size}, Layout.{entry_at, rear_at, entry_rear_at}}
 use Rattle.sh_base.proofs.LayoutLemmas.{entry_low, entry_apart, entry_within, entry_size_is}
@@ -23,11 +23,7 @@ module _ (p : ConfigParts) (level : ℕ) (s : List ℕ) where
 
   -- an entry's WRITE leaves the words that only node WRITEs store
   pub word_head : (w : Writing) (o : ℕ) → IsWriting p level s w → NotWhole w → IsHead p level o → word p s w o ≡ get_or s o 0
-  word_head Idle o h n at = refl
-  word_head (Whole new done) o h n at = absurd n
-  word_head (One i new done) o h n (inl low) = outside (entry_at p i) done o _ _ (inl (omega (arith, entry_low p i)))
-  word_head (One i new done) o h n (inr (inr inner)) = absurd (inner.0 h.5)
-  word_head (One i new done) o h n (inr (inl rear)) = outside (entry_at p i) done o _ _ (inr (omega (arith, entry_within p i h.0, h.4)))
+  word_head w o h n at = search (rules, outside, entry_low, entry_within)
 
   -- and the words of the other entries
   pub word_other : (w : Writing) (i o : ℕ) → IsWriting p level s w → NotWhole w → NotOne i w → IsEntryWord p i o → word p s w o ≡ get_or s o 0
@@ -49,14 +45,10 @@ module _ (p : ConfigParts) (level : ℕ) (s : List ℕ) where
 
   -- the front version is stored first
   pub word_front : (i : ℕ) (new : List ℕ) (done : ℕ) → 1 ≤ done → word p s (One i new done) (entry_at p i) ≡ get_or new 0 0
-  word_front i new done h =
-      let none : entry_at p i - entry_at p i ≡ 0 = omega arith in
-      inside (entry_at p i) done (entry_at p i) _ _ (omega arith) (omega arith) ∙ ap (λ o. get_or new o 0) none
+  word_front i new done h = search (rules, inside)
 
   pub rear_below : (w : Writing) → IsNodeMoment p level s w → word p s w (rear_at p) ≤ get_or s 0 0
-  rear_below Idle m = omega (arith, m.versioned.node)
-  rear_below (Whole new done) m = omega (arith, m.versioned.node, not_stored done (rear_at p) (get_or new (rear_at p) 0) (get_or s (rear_at p) 0) m.writing.3)
-  rear_below (One i new done) m = omega (arith, m.versioned.node, word_head (One i new done) (rear_at p) m.writing tt (inr (inl refl)))
+  rear_below w m = search (rules, not_stored, word_head)
 
   -- the first word that a node WRITE stores is its greater version
   pub word_first : (new : List ℕ) (done : ℕ) → 1 ≤ done → word p s (Whole new done) 0 ≡ get_or new 0 0
@@ -64,9 +56,7 @@ module _ (p : ConfigParts) (level : ℕ) (s : List ℕ) where
 
   -- what stands when an entry's WRITE ends: the other words stay
   pub ended_head : (i : ℕ) (new t : List ℕ) (o : ℕ) → i < p.leaf → level ≡ 0 → ((o : ℕ) → get_or t o 0 ≡ word p s (One i new (3 + p.value_words)) o) → IsHead p level o → get_or t o 0 ≡ get_or s o 0
-  ended_head i new t o h leaf same (inl low) = same o ∙ outside (entry_at p i) (3 + p.value_words) o _ _ (inl (omega (arith, entry_low p i)))
-  ended_head i new t o h leaf same (inr (inr inner)) = absurd (inner.0 leaf)
-  ended_head i new t o h leaf same (inr (inl rear)) = same o ∙ outside (entry_at p i) (3 + p.value_words) o _ _ (inr (omega (arith, entry_within p i h)))
+  ended_head i new t o h leaf same h7 = search (rules, outside, entry_low, entry_within)
 
   pub ended_other : (i j : ℕ) (new t : List ℕ) (o : ℕ) → ((o : ℕ) → get_or t o 0 ≡ word p s (One j new (3 + p.value_words)) o) → j ≢ i → IsEntryWord p i o → get_or t o 0 ≡ get_or s o 0
   ended_other i j new t o same differ at = same o ∙ outside (entry_at p j) (3 + p.value_words) o _ _ (elim (cases_lt i j) [

@@ -1,8 +1,8 @@
 -- What a READ answers to all the words of its node, each answer by its cause.
 use Rattle.std.specs.Prelude.{◌⊎◌, ℕ, List}
 use Rattle.sh_base.specs.declared.config.ConfigParts.{ConfigParts}
-use Rattle.sh_image.specs.declared.{inner.Image.{Image, TheVariants.{Leaf as LeafImage, Inner as InnerImage}}, read.Seen.{Seen}}
-use Rattle.sh_image.specs.{declared.read.Seen.TheVariants.{Leaf as LeafSeen, Inner as InnerSeen, Torn, TornEntry, Odd as OddSeen}, Seen.{SeenBy}, Node.{seen_as}}
+use Rattle.sh_image.specs.declared.{inner.Image.{Image}}
+use Rattle.sh_image.specs.{declared.read.Seen.TheVariants.{Torn, TornEntry, Odd as OddSeen}, Seen.{SeenBy}, Node.{seen_as}}
 use Rattle.sh_read.specs.declared.state.Progress.{Progress, TheVariants.{More, Accepted, Again, Odd}}
 
 -- The words spell a node; the node's two versions differ, or those of the first such entry; or neither.

@@ -1,5 +1,5 @@
 -- What a READ knows, by the words that it was fed.
-use Rattle.std.{proofs.Common.{◌≡◌, ℕ, zero, suc, ◌+◌, ◌≤◌, List, [], ◌∷◌, ◌++◌, length, get_or, set, refl, sym, ap, ◌∙◌, subst, append-nil, arith}, specs.Prelude.{replicate}}
+use Rattle.std.{proofs.Common.{◌≡◌, ℕ, suc, ◌+◌, ◌≤◌, List, [], ◌∷◌, ◌++◌, length, get_or, set, sym, ap, ◌∙◌, subst, append-nil, arith}, specs.Prelude.{replicate}}
 use Rattle.std.proofs.lemmas.List.{length-replicate}
 use Rattle.sh_logic.proofs.Lists.{set_last}
 use Rattle.sh_base.{specs.{declared.config.ConfigParts.{ConfigParts}, Setting.{node_size, IsSetting}, Layout.{node_word, rear_at}}, proofs.LayoutLemmas.{node_size_is}}

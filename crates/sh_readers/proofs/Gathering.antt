@@ -1,5 +1,5 @@
 -- What a range has gathered grows with the log and leaf by leaf, and answers it at its end.
-use Rattle.std.proofs.Common.{◌≡◌, ◌≢◌, ◌⊎◌, ℕ, zero, suc, ◌+◌, ◌-◌, ◌<◌, ◌≤◌, cond, List, [], ◌∷◌, ◌++◌, length, length-append, append_assoc, append-nil, get_or, map, Option, Some, None, refl, sym, ap, ◌∙◌, subst, inl, inr, arith}
+use Rattle.std.proofs.Common.{rules, ◌≡◌, ◌≢◌, ◌⊎◌, ℕ, zero, suc, ◌+◌, ◌-◌, ◌<◌, ◌≤◌, cond, List, [], ◌∷◌, ◌++◌, length, length-append, append_assoc, append-nil, get_or, map, Option, Some, None, refl, sym, ap, ◌∙◌, subst, inl, inr, arith}
 use Rattle.std.{specs.{Option.{unwrap_or}, Ordering.{nat_cmp}, Cmp.{nat_cmp_total}, FinMap.{find, from_entries, get-from_entries}}, proofs.lemmas.Bool.{cases_lt, cases_eq}}
 use Rattle.std.proofs.lemmas.List.{map-append, take-append-le, Elements.{All-push}, Quantifiers.{all_pairs_push}}
 use Rattle.sh_logic.proofs.{Tests.{less_test, not_less_test}, Lookups.{find_past, find_before}}
@@ -16,8 +16,7 @@ found_in_rows : (rows : List Row) (q : ℕ) → get (from_entries (map row_pair 
 found_in_rows rows q = get-from_entries nat_cmp_total (map row_pair rows) q
 
 some_value : (found : Option (List ℕ)) (value : List ℕ) → found ≡ Some value → found ≡ Some (unwrap_or found [])
-some_value None value e = absurd (cc)
-some_value (Some v) value e = refl
+some_value found value e = search rules
 
 -- the end of a range in a leaf lies within both
 pub end_within_high : (leaf_high high : ℕ) → end_in leaf_high high ≤ high
@@ -28,12 +27,7 @@ end_within_leaf leaf_high high = elim (cases_lt leaf_high high) [ inl less ↦ r
 
 module _ (log : List Entry) (first low : ℕ) where
   pub gathered_begin : IsGathered log first low low []
-  gathered_begin = record {
-    reached = omega arith;
-    rising = λ i j d less below. absurd (omega arith);
-    within = λ i d below. absurd (omega arith);
-    points = λ key from below. absurd (omega arith);
-  }
+  gathered_begin = search rules
 
   pub gathered_more : (more : List Entry) (place : ℕ) (rows : List Row) → IsGathered log first low place rows → IsGathered (log ++ more) first low place rows
   gathered_more more place rows h = record { reached = h.reached; rising = h.rising; within = h.within; points = λ key from below. HadAt-more log more first key _ (h.points key from below) }
@@ -111,33 +105,14 @@ module _ (log : List Entry) (first low : ℕ) where
   -- ---- rows of a leaf
   -- nothing was taken, with room for something
   taken_none : (bound room : ℕ) (rows : List Row) → 1 ≤ room → IsGathered log first low bound rows → IsTaken log first low bound room rows []
-  taken_none bound room rows some h = record {
-    few = omega arith;
-    short = λ lt. subst (IsGathered log first low bound) (sym (append-nil rows)) h;
-    within = λ is. absurd (omega arith);
-    full = λ is. absurd (omega arith);
-  }
+  taken_none bound room rows some h = search (rules, append-nil)
 
   -- there is no room, and the last row ends at the place
   taken_full : (place bound : ℕ) (rows : List Row) → last_key rows + 1 ≡ place → place ≤ bound → IsGathered log first low place rows → IsTaken log first low bound 0 rows []
-  taken_full place bound rows is le h =
-      let none : rows ≡ rows ++ [] = sym (append-nil rows) in
-      record {
-        few = omega arith;
-        short = λ lt. absurd (omega arith);
-        within = λ e. subst (λ (l : List Row). last_key l + 1 ≤ bound) none (omega arith);
-        full = λ e. subst (λ (l : List Row). IsGathered log first low (last_key l + 1) l) none (subst (λ (k : ℕ). IsGathered log first low k rows) (sym is) h);
-      }
+  taken_full place bound rows is le h = search (rules, append-nil)
 
   taken_row : (bound room : ℕ) (rows more : List Row) (row : Row) → IsTaken log first low bound room (rows ++ row ∷ []) more → IsTaken log first low bound (suc room) rows (row ∷ more)
-  taken_row bound room rows more row h =
-      let same : (rows ++ row ∷ []) ++ more ≡ rows ++ row ∷ more = append_assoc rows (row ∷ []) more in
-      record {
-        few = omega (arith, h.few);
-        short = λ lt. subst (IsGathered log first low bound) same (h.short (omega arith));
-        within = λ is. subst (λ (l : List Row). last_key l + 1 ≤ bound) same (h.within (omega arith));
-        full = λ is. subst (λ (l : List Row). IsGathered log first low (last_key l + 1) l) same (h.full (omega arith));
-      }
+  taken_row bound room rows more row h = search (rules, append_assoc)
 
   module _ (es : List LeafEntry) (bound : ℕ) where
     -- the rows that are taken of a leaf, after a start with room or with a row

@@ -1,37 +1,25 @@
 -- Images that were accepted, and where their hops lead.
-use Rattle.std.proofs.Common.{◌≡◌, ◌≢◌, ◌⊎◌, ℕ, zero, suc, ◌<◌, ◌≤◌, Bool, true, false, List, refl, ap, sym, ◌∙◌, subst, ⊎_elim, inl, inr, arith}
+use Rattle.std.proofs.Common.{rules, ◌≡◌, ◌⊎◌, ℕ, zero, suc, ◌<◌, ◌≤◌, Bool, true, false, List, refl, ap, sym, ◌∙◌, ⊎_elim, arith}
 use Rattle.std.{specs.Prelude.{◌-◌, ◌^◌, ◌||◌, ◌==◌, if◌then◌else◌, nat_le, nat_lt}, proofs.lemmas.Bool.Decides.{nat_tests}}
 use Rattle.sh_logic.proofs.{Lists.{all_at}, Tests.{is_le, not_le, is_eq, not_eq}}
 use Rattle.sh_base.specs.declared.config.ConfigParts.{ConfigParts}
 use Rattle.sh_image.specs.{declared.inner.{Image.{Image, TheVariants.{Leaf as LeafImage, Inner as InnerImage}}, Pair.{Pair}}, Leaf.{leaf_in}, Inner.{inner_in, no_pair, separator_at}}
 use Rattle.sh_descend.{specs.{declared.Hop.TheVariants.{Here, Right, Down, Restart}, Descent.{level_of, low_of, high_of, next_of, image_pairs, child_of, hop_of}}, proofs.ChildLemmas.{down_covers}}
-use Rattle.sh_state.{specs.{TreeState.{Linked, Owner, TreeState}, Nodes.{LeadDown, LeadsRight}, Ground.{Ground}, Change.{ChangeFor}}, proofs.Scenes.{follows_on, lead_on}}
+use Rattle.sh_state.{specs.{TreeState.{Linked, Owner, TreeState}, Ground.{Ground}, Change.{ChangeFor}}, proofs.Scenes.{follows_on, lead_on}}
 use Rattle.sh_readers.specs.{Points.{IsReadLeaf}, Hand.{IsNamed, IsImageOf}}
 
 -- ---- the four answers by their tests
 by_right : (a b c : Bool) (n d r : ℕ) → (if a then Restart else if b then Right n else if c then Here else Down d) ≡ Right r → (a ≡ false) × (b ≡ true) × (n ≡ r)
-by_right true b c n d r e = absurd (cc)
-by_right false true c n d r e = (refl, refl, cc)
-by_right false false true n d r e = absurd (cc)
-by_right false false false n d r e = absurd (cc)
+by_right a b c n d r e = search rules
 
 by_down : (a b c : Bool) (n d r : ℕ) → (if a then Restart else if b then Right n else if c then Here else Down d) ≡ Down r → (a ≡ false) × (b ≡ false) × (c ≡ false)
-by_down true b c n d r e = absurd (cc)
-by_down false true c n d r e = absurd (cc)
-by_down false false true n d r e = absurd (cc)
-by_down false false false n d r e = (refl, refl, refl)
+by_down a b c n d r e = search rules
 
 by_here : (a b c : Bool) (n d : ℕ) → (if a then Restart else if b then Right n else if c then Here else Down d) ≡ Here → (a ≡ false) × (b ≡ false) × (c ≡ true)
-by_here true b c n d e = absurd (cc)
-by_here false true c n d e = absurd (cc)
-by_here false false true n d e = (refl, refl, refl)
-by_here false false false n d e = absurd (cc)
+by_here a b c n d e = search rules
 
 by_restart : (a b c : Bool) (n d : ℕ) → (if a then Restart else if b then Right n else if c then Here else Down d) ≡ Restart → a ≡ true
-by_restart true b c n d e = refl
-by_restart false true c n d e = absurd (cc)
-by_restart false false true n d e = absurd (cc)
-by_restart false false false n d e = absurd (cc)
+by_restart a b c n d e = search rules
 
 restarts : (l t k a : ℕ) → (nat_lt l t || nat_lt k a) ≡ true → (l < t) ⊎ (k < a)
 restarts l t k a e = grind (arith, nat_tests)
@@ -72,15 +60,11 @@ module _ (s : TreeState) (level low key target : ℕ) (image : Image) (h : IsIma
 
   -- here
   pub here_is : hop_of image key target ≡ Here → (level ≡ target) × (key < high_of image)
-  here_is e =
-      let t = by_here (nat_lt (level_of image) target || nat_lt key (low_of image)) (nat_le (high_of image) key) (level_of image == target) (next_of image) (child_of (image_pairs image) key) e in
-      (sym h.level_is ∙ is_eq (level_of image) target t.2, not_le (high_of image) key t.1)
+  here_is e = search (rules, by_here, is_eq, not_le)
 
   -- never back to the root
   pub never_restart : target ≤ level → hop_of image key target ≡ Restart → ⊥
-  never_restart le e =
-      let t = by_restart (nat_lt (level_of image) target || nat_lt key (low_of image)) (nat_le (high_of image) key) (level_of image == target) (next_of image) (child_of (image_pairs image) key) e in
-      elim (restarts (level_of image) target key (low_of image) t) [ inl lt ↦ omega (arith, lt, le, h.level_is) | inr lt ↦ omega (arith, lt, from, h.low_is) ]
+  never_restart le e = search (rules, by_restart, restarts)
 
 -- while linked nodes stay linked an image stays in hand
 pub image_linked : (p : ConfigParts) (s t : TreeState) (linked : (n l a : ℕ) → s.class n ≡ Linked l a → t.class n ≡ Linked l a) (level low : ℕ) (image : Image) → IsImageOf s level low image → IsImageOf t level low image
@@ -97,35 +81,11 @@ module _ (p : ConfigParts) (Other : Owner → Type 0) (s t : TreeState) (ch : Ch
 module _ (p : ConfigParts) (words : List ℕ) (s : TreeState) (g : Ground p words s) where
   -- an inner node that stands
   pub inner_image : (n l low : ℕ) → s.class n ≡ Linked (suc l) low → IsImageOf s (suc l) low (InnerImage (inner_in (s.node n)))
-  inner_image n l low e =
-      let z = g.sits n (suc l) low e in
-      let b = z.body in
-      record {
-        level_is = z.level_is;
-        low_is = z.low_is;
-        fences = z.fences;
-        past = z.past;
-        next = z.next;
-        children = λ below q. subst (λ (k : ℕ). LeadDown s k (inner_in (s.node n)).pairs) (suc_is l below q) b.children;
-        sorted = record { some = b.spells.lawful.count.0; first = b.spells.lawful.separators.first; rise = b.spells.lawful.separators.rise };
-      }
-    where
-      suc_is : (a b : ℕ) → suc a ≡ suc b → a ≡ b
-      suc_is a b q = omega (arith, q)
+  inner_image n l low e = search rules
 
   -- a leaf that was read and accepted
   pub leaf_image : (n low first : ℕ) (got : List ℕ) → s.class n ≡ Linked 0 low → IsReadLeaf p s.log first (s.node n) got → IsImageOf s 0 low (LeafImage (leaf_in p got))
-  leaf_image n low first got e r =
-      let z = g.sits n 0 low e in
-      record {
-        level_is = refl;
-        low_is = r.low ∙ z.low_is;
-        fences = subst (λ (k : ℕ). low < k) (sym r.high) z.fences;
-        past = subst (λ (k : ℕ). k ≤ 2 ^ 64 - 1) (sym r.high) z.past;
-        next = subst (λ (k : ℕ × ℕ). LeadsRight s 0 k.0 k.1) (λ t. (sym r.high t, sym r.next t)) z.next;
-        children = λ below q. absurd (omega (arith, q));
-        sorted = tt;
-      }
+  leaf_image n low first got e r = search rules
 
   -- the root
   pub root_named : (key : ℕ) → IsNamed s s.height s.root key

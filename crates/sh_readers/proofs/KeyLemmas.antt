@@ -1,5 +1,5 @@
 -- What a READ knows of one key is kept, and grows.
-use Rattle.std.proofs.{Common.{◌≡◌, ◌≢◌, ◌⊎◌, ℕ, zero, suc, ◌+◌, ◌<◌, ◌≤◌, List, length, sym, ap, ◌∙◌, inl, inr, arith}, lemmas.Bool.{cases_lt, cases_eq}}
+use Rattle.std.proofs.{Common.{rules, ◌≡◌, ◌≢◌, ◌⊎◌, ℕ, zero, suc, ◌+◌, ◌<◌, ◌≤◌, List, length, sym, ap, ◌∙◌, inl, inr, arith}, lemmas.Bool.{cases_lt, cases_eq}}
 use Rattle.sh_image.specs.declared.leaf.LeafEntry.{LeafEntry}
 use Rattle.sh_edit.specs.{Held.{key_at, HasKeysOnce}, Placing.{IsFirstWith, LacksKey}}
 use Rattle.sh_readers.specs.Points.{FitsKey}
@@ -21,9 +21,7 @@ first_with es key i once nz in_range here = record { in_range = in_range; here =
 
 module _ (A B : Type 0) (m : ℕ) (es : List LeafEntry) (got : ℕ → ℕ) (key : ℕ) where
   pub key_weaker : (A → B) → FitsKey A m es got key → FitsKey B m es got key
-  key_weaker f (inl x) = inl x
-  key_weaker f (inr (inl a)) = inr (inl (f a))
-  key_weaker f (inr (inr x)) = inr (inr x)
+  key_weaker f h1 = search rules
 
 module _ (A : Type 0) (m : ℕ) (es : List LeafEntry) (key : ℕ) where
   -- no entry is loaded
@@ -35,17 +33,11 @@ module _ (A : Type 0) (m : ℕ) (es : List LeafEntry) (key : ℕ) where
 
   -- the same keys behind
   pub key_same : (got new : ℕ → ℕ) → ((i : ℕ) → m ≤ i → i < length es → new i ≡ got i) → FitsKey A m es got key → FitsKey A m es new key
-  key_same got new same (inl x) = inl (x.0, x.1, x.2, same x.0 x.1 x.2 ∙ x.3)
-  key_same got new same (inr x) = inr x
+  key_same got new same h3 = search rules
 
   -- an entry is loaded whole, and is the one that stands
   pub key_load : (got new : ℕ → ℕ) → m < length es → new m ≡ key_at es m → ((i : ℕ) → m < i → i < length es → new i ≡ got i) → FitsKey A (m + 1) es got key → FitsKey A m es new key
-  key_load got new lt here others (inl x) = inl (x.0, omega (arith, x.1), x.2, others x.0 (omega (arith, x.1)) x.2 ∙ x.3)
-  key_load got new lt here others (inr (inl a)) = inr (inl a)
-  key_load got new lt here others (inr (inr x)) = elim (cases_eq x.0 m) [
-    | inl last ↦ inl (m, omega arith, lt, here ∙ ap (key_at es) (sym last) ∙ x.3)
-    | inr before ↦ inr (inr (x.0, omega (arith, x.1, before), x.2, x.3))
-  ]
+  key_load got new lt here others h5 = search (rules, cases_eq)
 
   -- one entry is written
   pub key_written : (fs : List LeafEntry) (got : ℕ → ℕ) (j : ℕ) → key ≢ 0 → length fs ≡ length es → j < length es → HasKeysOnce es → ((i : ℕ) → i < length es → i ≢ j → key_at fs i ≡ key_at es i) → (LacksKey fs key → A) → FitsKey A m es got key → FitsKey A m fs got key
@@ -72,6 +64,4 @@ module _ (A : Type 0) (m : ℕ) (es : List LeafEntry) (key : ℕ) where
 
 -- at the end a key that was seen nowhere was absent
 pub key_end : (A : Type 0) (es : List LeafEntry) (got : ℕ → ℕ) (key : ℕ) → ((i : ℕ) → i < length es → got i ≢ key) → FitsKey A 0 es got key → A
-key_end A es got key unseen (inl x) = absurd (unseen x.0 x.2 x.3)
-key_end A es got key unseen (inr (inl a)) = a
-key_end A es got key unseen (inr (inr x)) = absurd (omega (arith, x.1))
+key_end h0 es got key unseen h5 = search rules

@@ -1,5 +1,5 @@
 -- What a READ of a leaf knows begins with its first load, is kept by each event, and grows by each load.
-use Rattle.std.proofs.{Common.{◌≡◌, ◌≢◌, ◌⊎◌, ℕ, zero, suc, ◌+◌, ◌<◌, ◌≤◌, List, ◌++◌, length, length-append, get_or, set, None, refl, sym, ap, ◌∙◌, subst, inl, inr, arith}, lemmas.Bool.{cases_eq}}
+use Rattle.std.proofs.{Common.{rules, ◌≡◌, ◌≢◌, ◌⊎◌, ℕ, zero, suc, ◌+◌, ◌<◌, ◌≤◌, List, ◌++◌, length, length-append, get_or, set, None, refl, sym, ap, ◌∙◌, subst, inl, inr, arith}, lemmas.Bool.{cases_eq}}
 use Rattle.std.proofs.lemmas.{Grind.{same_number_lists}, List.{get_or-set_same, get_or-set_other}}
 use Rattle.sh_logic.proofs.Lists.{from_each}
 use Rattle.sh_base.specs.{declared.config.ConfigParts.{ConfigParts}, Setting.{node_size}, Layout.{entry_at, entry_rear_at, rear_at}}
@@ -7,7 +7,7 @@ use Rattle.sh_base.proofs.LayoutLemmas.{entry_within, entry_apart, entry_size_is
 use Rattle.sh_map.specs.declared.log.Entry.{Entry}
 use Rattle.sh_image.{specs.{declared.leaf.LeafEntry.{LeafEntry}, Leaf.{IsEntry, IsLeaf, leaf_in}, Seen.{IsUntorn}}, proofs.ReadLemmas.{words_from_untorn, header_spelled}}
 use Rattle.sh_edit.specs.Held.{key_at, no_entry}
-use Rattle.sh_read.specs.Moments.{Writing, Idle, Whole, One, word, IsWriting, IsNodeMoment, Next, still, begin_whole, more_whole, end_whole, begin_one, more_one, end_one}
+use Rattle.sh_read.specs.Moments.{Writing, One, word, IsWriting, IsNodeMoment, Next, still, begin_whole, more_whole, end_whole, begin_one, more_one, end_one}
 use Rattle.sh_read.{specs.Reading.{IsEntryWord, NotWhole, NotOne, IsCalm, FitsRead}, proofs.Words.{ended_head, ended_other, word_other, word_front}}
 use Rattle.sh_read.proofs.Read.{FitsRead-next, FitsRead-load, FitsRead-begin, accepted}
 use Rattle.sh_state.{specs.Nodes.{low_in, high_in, next_in, standing_entries, IsStandingLeaf}, proofs.EntryWords.{same_entry, length-entries_of}}
@@ -16,39 +16,15 @@ use Rattle.sh_readers.proofs.{KeyLemmas.{key_weaker, key_begin, key_same, key_lo
 
 -- while no node WRITE has stored, what was may be said in other words
 calm_weaker : (p : ConfigParts) (level : ℕ) (Was Now : List ℕ → Type 0) (s : List ℕ) (w : Writing) (from : ℕ) (got : List ℕ) → (IsCalm p s w got → (b : List ℕ) → Was b → Now b) → FitsRead p level Was s w from got → FitsRead p level Now s w from got
-calm_weaker p level Was Now s w from got h r = record {
-  long = r.long;
-  begun = r.begun;
-  version = r.version;
-  head = r.head;
-  part = r.part;
-  whole = λ l c i k low agree. let seen = r.whole l c i k low agree in (seen.0, h c seen.0 seen.1, seen.2);
-}
+calm_weaker p level h2 h3 s w from got h r = search rules
 
 -- an entry that is written has a greater front version
 front_cases : (p : ConfigParts) (s : List ℕ) (w : Writing) (i : ℕ) → IsWriting p 0 s w → NotWhole w → NotOne i w ⊎ (get_or s (entry_at p i) 0 < word p s w (entry_at p i))
-front_cases p s Idle i h n = inl tt
-front_cases p s (Whole new done) i h n = absurd n
-front_cases p s (One j new done) i h n = elim (cases_eq j i) [
-  | inr differ ↦ inl differ
-  | inl e ↦ inr (omega (arith, h.1, word_front p 0 s j new done h.3, ap (λ k. get_or s (entry_at p k) 0) e, ap (λ k. word p s (One j new done) (entry_at p k)) e))
-]
+front_cases p s w i h n = search (rules, cases_eq, word_front)
 
 -- The load of an entry's front version: where it agrees with the rear one, the entry is the one that stands now.
 front_stands : (p : ConfigParts) (Was : List ℕ → Type 0) (s : List ℕ) (w : Writing) (i : ℕ) (got : List ℕ) → IsNodeMoment p 0 s w → FitsRead p 0 Was s w (entry_at p i + 1) got → IsCalm p s w got → i < p.leaf → get_or got (entry_rear_at p i) 0 ≡ word p s w (entry_at p i) → (o : ℕ) → IsEntryWord p i o → get_or (set got (entry_at p i) (word p s w (entry_at p i))) o 0 ≡ get_or s o 0
-front_stands p Was s w i got mo r c h agree =
-    let at : ℕ = entry_at p i in
-    let f = r.part refl c i h (omega arith) (omega arith) in
-    let first : IsEntryWord p i at = record { low = omega arith; high = omega (arith, entry_size_is p) } in
-    elim (front_cases p s w i mo.writing c.none) [
-      | inr greater ↦ absurd (omega (arith, f.version, greater, agree))
-      | inl n ↦
-          let here : word p s w at ≡ get_or s at 0 = word_other p 0 s w i at mo.writing c.none n first in
-          λ o k. elim (cases_eq o at) [
-            | inl e ↦ ap (λ (z : ℕ). get_or (set got at (word p s w at)) z 0) e ∙ get_or-set_same got at (word p s w at) 0 (omega (arith, r.long, entry_within p i h, node_size_is p)) ∙ here ∙ ap (λ (z : ℕ). get_or s z 0) (sym e)
-            | inr ne ↦ get_or-set_other got at o (word p s w at) 0 ne ∙ f.words n (agree ∙ here) o k (omega (arith, k.low, ne))
-          ]
-    ]
+front_stands p h1 s w i got mo r c h agree = search (rules, entry_size_is, front_cases, word_other, cases_eq, get_or-set_same, entry_within, node_size_is, get_or-set_other)
 
 -- An event that a READ passes calmly: the header stays, and the entries stay but for one
 record Steady (p : ConfigParts) (s t : List ℕ) (w : Writing) (got : List ℕ) : Type 0 where
@@ -234,6 +210,4 @@ module _ (p : ConfigParts) (log : List Entry) (first : ℕ) (s : List ℕ) (w : 
 
 -- an inner node that was read and accepted stands
 pub inner_accepted : (p : ConfigParts) (level : ℕ) (Was : List ℕ → Type 0) (s : List ℕ) (w : Writing) (got : List ℕ) → IsNodeMoment p (suc level) s w → length s ≡ node_size p → FitsRead p (suc level) Was s w 0 got → get_or got 0 0 ≡ word p s w 0 → get_or got 0 0 ≡ get_or got (rear_at p) 0 → got ≡ s
-inner_accepted p level Was s w got mo long r last agree =
-    let c : IsCalm p s w got = accepted p (suc level) Was s w got mo r last agree in
-    same_number_lists got s (r.long ∙ sym long) (λ o lt. r.head c o (inr (inr ((λ z. omega (arith, z)), omega (arith, lt, r.long, node_size_is p)))) (omega arith))
+inner_accepted p level h2 s w got mo long r last agree = search (rules, accepted, same_number_lists, node_size_is)

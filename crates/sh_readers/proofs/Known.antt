@@ -1,5 +1,5 @@
 -- What a READ of a linked node knows, in a scene.
-use Rattle.std.proofs.Common.{◌≡◌, ℕ, zero, suc, ◌+◌, ◌<◌, ◌≤◌, List, length, get_or, set, sym, ◌∙◌, subst, arith}
+use Rattle.std.proofs.Common.{rules, ◌≡◌, ℕ, zero, suc, ◌+◌, ◌<◌, ◌≤◌, List, length, get_or, set, sym, ◌∙◌, subst, arith}
 use Rattle.sh_base.{specs.{declared.config.ConfigParts.{ConfigParts}, Setting.{node_size, IsSetting}, Layout.{node_word, rear_at}, Places.{Node}}, proofs.LayoutLemmas.{node_size_is}}
 use Rattle.sh_map.specs.declared.log.Entry.{Entry}
 use Rattle.sh_image.specs.{Leaf.{leaf_in}, Inner.{inner_in, SpellsInner}, Seen.{IsUntorn, SeenBy}, declared.read.Seen.TheVariants.{Odd}}
@@ -9,8 +9,7 @@ use Rattle.sh_readers.{specs.{Points.{IsReadLeaf}, Knows.{Knows, Anything, IsKno
 
 -- where the loads are
 pub loads_from : (p : ConfigParts) (log : List Entry) (first level : ℕ) (s : List ℕ) (w : Writing) (from : ℕ) (got : List ℕ) → IsKnown p log first level s w from got → from ≤ rear_at p
-loads_from p log first zero s w from got k = k.fits.begun
-loads_from p log first (suc l) s w from got k = k.begun
+loads_from p log first level s w from got k = search rules
 
 module _ (p : ConfigParts) (ok : IsSetting p) where
   -- an act of others

@@ -1,6 +1,6 @@
 -- The facts on points are true of what stands, and stay true as the log grows.
-use Rattle.std.proofs.Common.{◌≡◌, ◌≢◌, ℕ, zero, suc, ◌<◌, ◌≤◌, List, [], ◌∷◌, ◌++◌, length, length-append, get_or, Option, Some, None, refl, sym, ap, ◌∙◌, subst, inl, inr, arith}
-use Rattle.std.{specs.List.{AllByRecursion}, proofs.lemmas.List.{take-append-le}}
+use Rattle.std.proofs.Common.{◌≡◌, ◌≢◌, ℕ, ◌<◌, ◌≤◌, List, ◌++◌, length, length-append, Option, Some, None, refl, sym, ap, ◌∙◌, subst, inl, inr, arith}
+use Rattle.std.{proofs.lemmas.List.{take-append-le}}
 use Rattle.sh_logic.proofs.Lists.{all_at}
 use Rattle.sh_base.specs.{declared.config.ConfigParts.{ConfigParts}, Setting.{node_size}}
 use Rattle.sh_map.{specs.{declared.log.Entry.{Entry}, Map.{Map, get}, Log.{map_of, map_at}}, proofs.LogLemmas.{map_at-length}}

@@ -1,9 +1,9 @@
 -- The rows of a cache, as images in hand.
-use Rattle.std.{proofs.Common.{◌≡◌, ℕ, zero, suc, ◌<◌, ◌≤◌, Bool, true, false, List, [], ◌∷◌, ◌++◌, Some, length, drop, sym, subst, arith}, specs.Prelude.{◌==◌, if◌then◌else◌, nat_lt, slice_get}}
+use Rattle.std.{proofs.Common.{◌≡◌, ℕ, zero, suc, ◌<◌, ◌≤◌, true, List, [], ◌∷◌, Some, sym, subst, arith}, specs.Prelude.{slice_get}}
 use Rattle.std.{specs.List.{AllByRecursion}, proofs.lemmas.Bool.Decides.{nat_tests}}
 use Rattle.sh_base.specs.declared.config.ConfigParts.{ConfigParts}
 use Rattle.sh_image.specs.{declared.inner.Image.TheVariants.{Inner as InnerImage}, Inner.{Inner}}
-use Rattle.sh_cache.specs.Cached.{has_low, replaced, added, kept, forgotten, covers, FoundBy}
+use Rattle.sh_cache.specs.Cached.{covers, FoundBy}
 use Rattle.sh_state.specs.{TreeState.{Linked, Owner, TreeState}, Change.{ChangeFor}}
 use Rattle.sh_readers.{specs.Hand.{IsImageOf, AreRowsOf}, proofs.HandLemmas.{image_linked}}
 

@@ -1,6 +1,6 @@
 -- The clocks that are made of a sheet's rows, one row after another.
-use Rattle.std.proofs.Common.{◌≡◌, ◌≢◌, ◌<◌, ◌≤◌, ℕ, zero, suc, ◌+◌, Bool, true, false, List, [], ◌∷◌, ◌++◌, length, set, get_or, Option, Some, None, append-nil, refl, sym, ap, subst, ◌∙◌, inl, inr, arith, replicate, take}
-use Rattle.std.{specs.{Prelude.{◌==◌, nat_le, if◌then◌else◌, All}, List.{fold, sum_by}, Ordering.{nat_cmp}, BTreeMap.{BTreeMap, Updates}}, proofs.lemmas.{Bool.{cases_eq, Decides.{nat_tests}}, List.{get_or-set_same, get_or-set_other, length-set, length-replicate, get_or-replicate, take_more}}}
+use Rattle.std.proofs.Common.{rules, ◌≡◌, ◌≢◌, ◌<◌, ◌≤◌, ℕ, zero, suc, ◌+◌, Bool, true, false, List, [], ◌∷◌, ◌++◌, length, set, get_or, Option, Some, None, append-nil, refl, sym, ap, subst, ◌∙◌, inl, inr, arith, replicate, take}
+use Rattle.std.{specs.{Prelude.{◌==◌, if◌then◌else◌, All}, List.{fold, sum_by}, Ordering.{nat_cmp}, BTreeMap.{BTreeMap, Updates}}, proofs.lemmas.{Bool.{cases_eq}, List.{get_or-set_same, get_or-set_other, length-set, length-replicate, get_or-replicate, take_more}}}
 use Rattle.std.proofs.lemmas.List.Sums.{fold_push, sum_by-cons, sum_by_more}
 use Rattle.std.specs.BTreeMap as tree
 use Rattle.std.proofs.lemmas.Option.{get_or_from_slice_get, slice_get-get_or}
@@ -12,25 +12,13 @@ use Rattle.sh_replay.specs.{declared.marks.{Clock.{Clock}, AfterRow.{AfterRow}, 
 -- ---- functions that were changed at one place
 
 at_same : {A : Type 0} (f : ℕ → A) (p : ℕ) (a : A) → at_place f p a p ≡ a
-at_same f p a = by_test (p == p) refl (grind (arith, nat_tests)) where
-  by_test : (b : Bool) → (p == p) ≡ b → b ≡ true → (if b then a else f p) ≡ a
-  by_test true e t = refl
-  by_test false e t = absurd (cc)
+at_same f p a = search rules
 
 at_other : {A : Type 0} (f : ℕ → A) (p : ℕ) (a : A) (x : ℕ) → x ≢ p → at_place f p a x ≡ f x
-at_other f p a x ne = by_test (x == p) (differ x p ne) where
-  differ : (x p : ℕ) → x ≢ p → (x == p) ≡ false
-  differ x p ne = grind (arith, nat_tests)
-
-  by_test : (b : Bool) → b ≡ false → (if b then a else f x) ≡ f x
-  by_test true e = absurd (cc)
-  by_test false e = refl
+at_other f p a x ne = search rules
 
 at_alike : (f g : ℕ → ℕ) (p a b x : ℕ) → f x ≡ g x → a ≡ b → at_place f p a x ≡ at_place g p b x
-at_alike f g p a b x same here = by_test (x == p) where
-  by_test : (t : Bool) → (if t then a else f x) ≡ (if t then b else g x)
-  by_test true = here
-  by_test false = same
+at_alike f g p a b x same here = search rules
 
 -- ---- one item more
 
@@ -48,11 +36,7 @@ rows_append (r ∷ rows) more (x ∷ stops) others h k = (h.0, h.1, rows_append 
 
 module _ (items : List Item) (rows : List AfterRow) (seats : List Clock) (marks : BTreeMap ℕ Clock) (h : IsFound items rows seats marks) where
   clocks_set : (seat : ℕ) (clock : Clock) (counts : ℕ → ℕ) → seat < 64 → Agrees clock counts → (x : ℕ) → x < 64 → Agrees (get_or (set seats seat clock) x no_clock) (at_place (before items).seats seat counts x)
-  clocks_set seat clock counts below agrees x within of few = elim (cases_eq x seat) [
-    | inl same ↦ subst (λ (y : ℕ). get_or (get_or (set seats seat clock) y no_clock).counts of 0 ≡ at_place (before items).seats seat counts y of) (sym same)
-        (ap (λ (c : Clock). get_or c.counts of 0) (get_or-set_same seats seat clock no_clock (omega (arith, h.long, below))) ∙ agrees of few ∙ sym (ap (λ (f : ℕ → ℕ). f of) (at_same (before items).seats seat counts)))
-    | inr ne ↦ ap (λ (c : Clock). get_or c.counts of 0) (get_or-set_other seats seat x clock no_clock ne) ∙ h.clocks x within of few ∙ sym (ap (λ (f : ℕ → ℕ). f of) (at_other (before items).seats seat counts x ne))
-  ]
+  clocks_set seat clock counts below agrees x within of few = search (rules, get_or-set_same, at_same, get_or-set_other, at_other)
 
   next : (item : Item) → before (items ++ item ∷ []) ≡ behind (before items) item
   next item = fold_push behind nothing items item
@@ -64,17 +48,10 @@ module _ (items : List Item) (rows : List AfterRow) (seats : List Clock) (marks 
   found_next : (item : Item) (more : List AfterRow) (seats' : List Clock) (marks' : BTreeMap ℕ Clock) → length seats' ≡ 64
       → ((x : ℕ) → x < 64 → Agrees (get_or seats' x no_clock) ((behind (before items) item).seats x)) → ((n : ℕ) → AgreesAt (tree.get nat_cmp marks' n) ((behind (before items) item).marks n))
       → AreRows more (stops_from (before items) (item ∷ [])) → IsFound (items ++ item ∷ []) (rows ++ more) seats' marks'
-  found_next item more seats' marks' long clocks marked same = record {
-    long = long;
-    clocks = subst (λ (b : Before). (x : ℕ) → x < 64 → Agrees (get_or seats' x no_clock) (b.seats x)) (sym (next item)) clocks;
-    marks_are = subst (λ (b : Before). (n : ℕ) → AgreesAt (tree.get nat_cmp marks' n) (b.marks n)) (sym (next item)) marked;
-    rows_are = subst (λ (l : List Stop). AreRows (rows ++ more) l) (sym (stops_next item)) (rows_append rows more (stops_of items) (stops_from (before items) (item ∷ [])) h.rows_are same);
-  }
+  found_next item more seats' marks' long clocks marked same = search (rules, next, stops_next, rows_append)
 
   clock_of : (seat : ℕ) (clock : Clock) → seat < 64 → clock ≡ get_or seats seat clock → Agrees clock ((before items).seats seat)
-  clock_of seat clock below is of few = ap (λ (c : Clock). get_or c.counts of 0) (is ∙ any_default seats seat clock no_clock (omega (arith, h.long, below))) ∙ h.clocks seat below of few where
-    any_default : (xs : List Clock) (i : ℕ) (x y : Clock) → i < length xs → get_or xs i x ≡ get_or xs i y
-    any_default xs i x y lt = get_or_from_slice_get xs i (get_or xs i y) x (slice_get-get_or xs i y lt)
+  clock_of seat clock below is of few = search (rules, get_or_from_slice_get, slice_get-get_or)
 
   pub found_ask : (seat : ℕ) (call : Call) (clock new : Clock) → seat < 64 → clock ≡ get_or seats seat clock → ((of : ℕ) → get_or new.counts of 0 ≡ at_place (λ x. get_or clock.counts x 0) seat (get_or clock.counts seat 0 + 1) of) → IsFound (items ++ Ask seat call ∷ []) rows (set seats seat new) marks
   found_ask seat call clock new below is counted =
@@ -108,10 +85,7 @@ module _ (items : List Item) (rows : List AfterRow) (seats : List Clock) (marks 
 -- ---- how many calls come before
 
 pub greater_most : (a b k : ℕ) → a ≤ k → b ≤ k → greater a b ≤ k
-greater_most a b k x y = by_test (nat_le a b) where
-  by_test : (t : Bool) → (if t then b else a) ≤ k
-  by_test true = y
-  by_test false = x
+greater_most a b k x y = search rules
 
 pub at_all : {A : Type 0} (P : A → Type 0) (f : ℕ → A) (p : ℕ) (a : A) → P a → ((x : ℕ) → P (f x)) → (x : ℕ) → P (at_place f p a x)
 at_all {A} P f p a here all x = by_test (x == p) where
@@ -157,9 +131,7 @@ found_none rows seats marks none zeros empty = record {
 }
 
 pub found_more : (items : List Item) (i : ℕ) (item other : Item) (found new : Found) → i < length items → item ≡ get_or items i item → item ≡ other → found ≡ new → IsFound (take i items ++ other ∷ []) new.rows.items new.seats.items new.marks → IsFound (take (i + 1) items) found.rows.items found.seats.items found.marks
-found_more items i item other found new below is same so h =
-    subst (λ (f : Found). IsFound (take (i + 1) items) f.rows.items f.seats.items f.marks) (sym so)
-    (subst (λ (l : List Item). IsFound l new.rows.items new.seats.items new.marks) (ap (λ x. take i items ++ x ∷ []) (sym same ∙ is) ∙ sym (take_more items i item below)) h)
+found_more items i item other found new below is same so h = search (rules, take_more)
 
 pub few_counted : (items : List Item) (i seat : ℕ) (item : Item) (call : Call) (rows : List AfterRow) (seats : List Clock) (marks : BTreeMap ℕ Clock) → IsFound (take i items) rows seats marks → seat < 64 → i < length items → item ≡ get_or items i item → item ≡ Ask seat call → sum_by item_calls items < 4294967296 → get_or (get_or seats seat no_clock).counts seat 0 < 4294967295
 few_counted items i seat item call rows seats marks h below lt is same few =

@@ -1,5 +1,5 @@
 -- All seats are idle exactly where every call has ended.
-use Rattle.std.proofs.Common.{◌≡◌, ◌≤◌, ◌<◌, ◌*◌, ℕ, zero, suc, ◌+◌, Bool, true, false, List, [], ◌∷◌, ◌++◌, length, Option, Some, None, refl, sym, ap, ◌∙◌, arith}
+use Rattle.std.proofs.Common.{rules, ◌≡◌, ◌≤◌, ◌<◌, ℕ, zero, suc, ◌+◌, Bool, true, false, List, [], ◌∷◌, ◌++◌, length, Option, Some, None, refl, sym, ap, ◌∙◌, arith}
 use Rattle.std.{proofs.lemmas.{Bool.{and_parts, eqb-true, Decides.{nat_tests}}, Option.{slice_get_within}}, specs.Prelude.{◌==◌, ◌&&◌, is_some, slice_get}}
 use Rattle.sh_base.specs.{declared.config.ConfigParts.{ConfigParts}, Setting.{all_seats, IsSetting}}
 use Rattle.sh_map.specs.declared.{call.Reply.{Reply}, book.Done.{Done}}
@@ -20,18 +20,13 @@ abbrev pub all_count : (seat n : ℕ) → List Given → ℕ
 all_count seat n calls = length (numbers_from seat n calls)
 
 pub ended_head : (g : Given) (seat n : ℕ) (ds : List Done) (o : Option Reply) (b : Bool) → (g.seat == seat) ≡ b → length (dones_by seat (done_in n g o ++ ds)) ≡ one (is_some o && b) + length (dones_by seat ds)
-ended_head g seat n ds None b e = omega arith
-ended_head g seat n ds (Some r) true e = rw e (omega arith)
-ended_head g seat n ds (Some r) false e = rw e (omega arith)
+ended_head g seat n ds o b e = search rules
 
 pub all_head : (g : Given) (seat n : ℕ) (calls : List Given) (b : Bool) → (g.seat == seat) ≡ b → all_count seat n (g ∷ calls) ≡ one b + all_count seat (n + 1) calls
-all_head g seat n calls true e = rw e (omega arith)
-all_head g seat n calls false e = rw e (omega arith)
+all_head g seat n calls b e = search rules
 
 pub no_more : (some b : Bool) → one (some && b) ≤ one b
-no_more true b = omega arith
-no_more false true = omega arith
-no_more false false = omega arith
+no_more some b = search rules
 
 pub fewer : (seat n : ℕ) (calls : List Given) → ended_count seat n calls ≤ all_count seat n calls
 fewer seat n [] = omega arith
@@ -41,9 +36,7 @@ fewer seat n (g ∷ calls) =
 
 -- all of a seat's calls have ended where as many have
 ended_one : (some b : Bool) → b ≡ true → one b ≤ one (some && b) → some ≡ true
-ended_one true b e h = refl
-ended_one false true e h = absurd (omega (arith, h))
-ended_one false false e h = absurd (cc)
+ended_one some b e h = search rules
 
 pub each_ended : (seat n : ℕ) (calls : List Given) → ended_count seat n calls ≡ all_count seat n calls → (place : ℕ) (g : Given) → slice_get calls place ≡ Some g → g.seat ≡ seat → is_some g.reply ≡ true
 each_ended seat n [] e place g here by = absurd (cc)
@@ -111,6 +104,4 @@ pub all_rest : (s : State) → IsRunning s → AllIdle s → (seat : ℕ) (a : A
 all_rest s h idle seat a has = ap (λ (b : Actor). is_resting b.client) has.actor_is ∙ rests_at s h idle seat has.place has.here (is_resting has.place.client) refl
 
 pub few_seats : (p : ConfigParts) → IsSetting p → all_seats p ≤ 64
-few_seats p h = product p.computes p.seats h.ranged.computes.1 h.ranged.seats.1 where
-  product : (a b : ℕ) → a ≤ 8 → b ≤ 8 → a * b ≤ 64
-  product a b x y = grind arith
+few_seats p h = search rules

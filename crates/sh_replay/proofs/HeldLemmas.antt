@@ -1,16 +1,15 @@
 -- What a turn leaves of the marks that a replay keeps, and that there is always a seat that isn't held back.
-use Rattle.std.proofs.Common.{◌≡◌, ◌≢◌, ◌<◌, ◌≤◌, ℕ, zero, suc, ◌+◌, ◌-◌, Bool, true, false, List, [], ◌∷◌, map, length, get_or, set, Option, Some, None, refl, sym, ap, subst, ◌∙◌, inl, inr, arith}
+use Rattle.std.proofs.Common.{rules, ◌≡◌, ◌≢◌, ◌<◌, ◌≤◌, ℕ, zero, suc, ◌+◌, ◌-◌, Bool, true, false, List, [], ◌∷◌, map, length, get_or, set, take, Option, Some, None, refl, sym, ap, subst, ◌∙◌, inl, inr, arith}
 use Rattle.std.{specs.{Prelude.{◌==◌, ◌&&◌, if◌then◌else◌, filter, not, slice_get}, List.{fold, range_with_len}}, proofs.lemmas.Bool.{and_parts, eqb-true, Decides.{nat_tests}}}
 use Rattle.sh_map.specs.declared.{call.{Call.{Call}, Reply.{Reply}}, book.Row.{Row}}
 use Rattle.sh_client.specs.{declared.state.Want.{Want}, Wants.{want_of}}
-use Rattle.sh_client.specs.declared.state.Want.TheVariants as want
 use Rattle.sh_sheet.specs.declared.item.Item.{Item, TheVariants.{Ask, Mark, After, Turn}}
 use Rattle.sh_world.specs.{States.{Given, Place, State, answered, dones_by, dones_from}, Turning.{answer_of, asked, is_done, is_idle, is_idle_at, took, turn_at, turn_of}, Running.{IsRunning, numbers_from}, Laws.{IdlesRight}, declared.turn.Turn.{Turn as Answer}}
 use Rattle.sh_world.specs.declared.turn.Turn.TheVariants as turn
 use Rattle.sh_world.proofs.{PlaceLemmas.{number_in}}
-use Rattle.sh_replay.specs.{declared.{marks.{Marks.{Marks}}, turns.Outcome.{Outcome}}, Course.{can_turn, ended_of, have_ended, is_held_back, takes, InRound}, Marks.{at_place, behind, is_passed, nothing, Before}, Served.{is_call, item_of}, Standing.{stop_of, IsChoice, IsMove, Keeps}, Thinning.{ask_in, AllRest}}
+use Rattle.sh_replay.specs.{declared.{marks.{Marks.{Marks}}, turns.Outcome.{Outcome}}, Course.{can_turn, ended_of, goes_on, have_ended, is_held_back, takes, Asking, Course, InRound}, Marks.{behind, is_passed, nothing, Before}, Served.{is_call, item_of}, Standing.{left_after, stop_of, IsAsk, IsAt, IsChoice, IsMove, Keeps}, Thinning.{goes_in, AllRest}}
 use Rattle.sh_replay.specs.declared.turns.Outcome.TheVariants as outcome
-use Rattle.sh_replay.proofs.{EndLemmas.{all_head, by_places, each_ended, ended_head, fewer, no_more, one, there_is}, StopLemmas.{all_grow, ask_seat, at_own, goes_on, own, rises, within_next, IsWithin}, RoundLemmas.{ask_busy, ask_rests, asked_next, round_idle, round_kept, HasAsked, SoFar}, TurnLemmas.{idle_stays, turn_seats}}
+use Rattle.sh_replay.proofs.{EndLemmas.{all_head, by_places, each_ended, ended_head, fewer, no_more, one, there_is}, StopLemmas.{all_grow, ask_seat, at_own, own, seat_goes_on, rises, within_next, IsWithin}, RoundLemmas.{asked_next, round_idle, round_kept, SoFar}, TurnLemmas.{idle_stays, turn_seats}}
 
 -- ---- ended calls only become more
 
@@ -29,16 +28,13 @@ answered_grows seat n (g ∷ calls) (suc place) r rows first point =
     omega (arith, ended_head g seat n (dones_from (n + 1) calls) g.reply (g.seat == seat) refl, ended_head g seat n (dones_from (n + 1) (answered calls place r rows first point)) g.reply (g.seat == seat) refl, answered_grows seat (n + 1) calls place r rows first point)
 
 by_end : (b : Bool) (seat : ℕ) (calls : List Given) (place : ℕ) (r : Reply) (rows : List Row) (first point : ℕ) → count seat 1 calls ≤ count seat 1 (if b then answered calls place r rows first point else calls)
-by_end true seat calls place r rows first point = answered_grows seat 1 calls place r rows first point
-by_end false seat calls place r rows first point = omega arith
+by_end b seat calls place r rows first point = search (rules, answered_grows)
 
 took_grows : (of : ℕ) (s : State) (seat : ℕ) (q : Place) (w : Want) → ended_of s of ≤ ended_of (took s seat q w) of
-took_grows of s seat q want.Done = omega arith
-took_grows of s seat q w = by_end _ of s.calls _ _ _ _ _
+took_grows of s seat q w = search (rules, by_end)
 
 turn_at_grows : (of : ℕ) (s : State) (seat : ℕ) (o : Option Place) → ended_of s of ≤ ended_of (turn_at s seat o) of
-turn_at_grows of s seat None = omega arith
-turn_at_grows of s seat (Some q) = took_grows of s seat (asked s.calls q (length s.log)) (want_of (asked s.calls q (length s.log)).client)
+turn_at_grows of s seat o = search (rules, took_grows)
 
 pub turn_grows : (s : State) (seat of : ℕ) → ended_of s of ≤ ended_of (turn_of s seat) of
 turn_grows s seat of = turn_at_grows of s seat (slice_get s.seats seat)
@@ -52,12 +48,10 @@ keeps_turn items s t seat m h e = subst (λ (u : State). Keeps items u m) (sym e
 })
 
 rests_held : (b c : Bool) → c ≡ true → (b && not c) ≡ false
-rests_held true c e = rw e refl
-rests_held false c e = refl
+rests_held b c e = search rules
 
 moves : (i c : Bool) → (i ≡ true → ⊥) → c ≡ false → (not i && not c) ≡ true
-moves true c not_idle e = absurd (not_idle refl)
-moves false c not_idle e = rw e refl
+moves i c not_idle e = search rules
 
 pub held_choice : (items : List Item) (s : State) (seat : ℕ) (held : Bool) → held ≡ is_held_back items s seat → held ≡ true → can_turn items s seat ≡ false
 held_choice items s seat held is e = rests_held _ (is_held_back items s seat) (sym is ∙ e)
@@ -76,13 +70,7 @@ asks_of seat (After t n ∷ items) = asks_of seat items
 asks_of seat (Turn t count ∷ items) = asks_of seat items
 
 one_more : (b : Before) (t seat : ℕ) (call : Call) → own b seat + one (t == seat) ≤ own (behind b (Ask t call)) seat
-one_more b t seat call = by_seat (t == seat) refl where
-  at : own (behind b (Ask t call)) t ≡ own b t + 1
-  at = ap (λ (f : ℕ → ℕ). f t) (at_own b.seats t (at_place (b.seats t) t (b.seats t t + 1))) ∙ at_own (b.seats t) t (b.seats t t + 1)
-
-  by_seat : (c : Bool) → (t == seat) ≡ c → own b seat + one c ≤ own (behind b (Ask t call)) seat
-  by_seat true e = subst (λ x. own b x + 1 ≤ own (behind b (Ask t call)) x) (eqb-true t seat e) (omega (arith, at))
-  by_seat false e = omega (arith, rises b (Ask t call) seat)
+one_more b t seat call = search (rules, own, at_own, one, rises)
 
 asks_least : (items : List Item) (b : Before) (seat : ℕ) → own b seat + asks_of seat (filter is_call items) ≤ own (fold behind b items) seat
 asks_least [] b seat = omega arith
@@ -131,7 +119,7 @@ module _ (items : List Item) (s : State) (run : IsRunning s) (are : map item_of 
 
   -- where no seat takes a turn and one may be made, every call has ended
   pub rest_ended : (left : ℕ) → left ≢ 0 → AllRest items (record { world = s; left = left }) → have_ended s.calls ≡ true
-  rest_ended left some rest = elim (goes_on nothing items (ended_of s) (length s.seats) ((λ x of. omega arith), (λ x of. omega arith))) [
+  rest_ended left some rest = elim (seat_goes_on nothing items (ended_of s) (length s.seats) ((λ x of. omega arith), (λ x of. omega arith))) [
     | inl all ↦ all_ended s.calls (λ seat. omega (arith, all seat, asks_least items nothing seat, numbers_asked seat))
     | inr on ↦
         let most = (asks_most items nothing (λ of. 0) ((λ x of. omega arith), (λ x of. omega arith))).0 on.0 on.0 in
@@ -156,19 +144,13 @@ none_left items s run are (suc left) rest open_calls = absurd (apart (have_ended
 
 -- an idle seat stays idle
 pub idle_moved : (s t : State) (seat x : ℕ) (o : Outcome) → IsMove s seat t o → is_idle_at (slice_get s.seats x) ≡ true → is_idle_at (slice_get t.seats x) ≡ true
-idle_moved s t seat x outcome.Turned e idle = subst (λ (u : State). is_idle_at (slice_get u.seats x) ≡ true) (sym e) (idle_stays s seat x idle)
-idle_moved s t seat x outcome.Idle e idle = subst (λ (u : State). is_idle_at (slice_get u.seats x) ≡ true) (sym e.1) idle
-idle_moved s t seat x outcome.Held e idle = subst (λ (u : State). is_idle_at (slice_get u.seats x) ≡ true) (sym e) idle
+idle_moved s t seat x o e idle = search (rules, idle_stays)
 
 pub stopped : (items : List Item) (s t : State) (seat : ℕ) (o : Outcome) → IsMove s seat t o → IsChoice items s seat o → (o ≡ outcome.Turned → ⊥) → (can_turn items s seat ≡ false) × (t ≡ s)
-stopped items s t seat outcome.Turned e can never = absurd (never refl)
-stopped items s t seat outcome.Idle e can never = (can, e.1)
-stopped items s t seat outcome.Held e can never = (can, e)
+stopped items s t seat o e can never = search rules
 
 pub went : (items : List Item) (s t : State) (seat : ℕ) (o : Outcome) → IsMove s seat t o → IsChoice items s seat o → o ≡ outcome.Turned → (can_turn items s seat ≡ true) × (t ≡ turn_of s seat)
-went items s t seat outcome.Turned e can is = (can, e)
-went items s t seat outcome.Idle e can is = absurd (cc)
-went items s t seat outcome.Held e can is = absurd (cc)
+went items s t seat o e can is = search rules
 
 -- what becomes of the turns and the seats of a round
 abbrev pub IsKept : Outcome → (turns kept : ℕ) (seats : List ℕ) (seat : ℕ) → (turns' kept' : ℕ) (seats' : List ℕ) → Type 0
@@ -177,22 +159,21 @@ IsKept outcome.Held turns kept seats seat turns' kept' seats' = (turns' ≡ turn
 IsKept outcome.Idle turns kept seats seat turns' kept' seats' = (turns' ≡ turns) × (kept' ≡ kept) × (seats' ≡ seats)
 
 -- A round so far, from this world and these marks on.
-pub record IsRound (first : State) (m : Marks) (budget : ℕ) (old : List ℕ) (world : State) (marks : Marks) (turns : ℕ) (seats : List ℕ) (kept i : ℕ) : Type 0 where
+pub record IsRound (told : Bool) (first : State) (m : Marks) (budget : ℕ) (old : List ℕ) (begin : Option (List ℕ)) (world : State) (marks : Marks) (turns : ℕ) (seats : List ℕ) (kept i : ℕ) (now : Option (List ℕ)) : Type 0 where
   pub so_far : SoFar old world seats kept i
-  pub asked : (items : List Item) → Keeps items first m → HasAsked items (record { world = first; left = budget }) old world turns i
-  pub keeps : (items : List Item) → Keeps items first m → Keeps items world marks
+  pub at : (items : List Item) (c : Course) (held : Option (List ℕ)) → IsAt items told c first m budget held begin → IsAt items told (fold (goes_in items) c (take i old)) world marks turns held now
   pub idle : (x : ℕ) → is_idle_at (slice_get first.seats x) ≡ true → is_idle_at (slice_get world.seats x) ≡ true
   pub size : length world.seats ≡ length first.seats
   pub few : turns ≤ budget
 
-module _ (first : State) (m : Marks) (budget : ℕ) (old : List ℕ) (world : State) (marks : Marks) (turns : ℕ) (seats : List ℕ) (kept i : ℕ) (h : IsRound first m budget old world marks turns seats kept i) where
-  pub round_step : (world' : State) (marks' : Marks) (turns' : ℕ) (seats' : List ℕ) (kept' : ℕ) (o : Outcome) → i < length old → length seats ≡ length old → turns ≢ 0 → IsMove world (get_or seats i 0) world' o
-      → ((items : List Item) → Keeps items world marks → IsChoice items world (get_or seats i 0) o) → ((items : List Item) → Keeps items world marks → Keeps items world' marks') → length world'.seats ≡ length world.seats
-      → IsKept o turns kept seats (get_or seats i 0) turns' kept' seats' → IsRound first m budget old world' marks' turns' seats' kept' (i + 1)
-  round_step world' marks' turns' seats' kept' o below long some move choice keeps size is = record {
+module _ (told : Bool) (first : State) (m : Marks) (budget : ℕ) (old : List ℕ) (begin : Option (List ℕ)) (world : State) (marks : Marks) (turns : ℕ) (seats : List ℕ) (kept i : ℕ) (now : Option (List ℕ)) (h : IsRound told first m budget old begin world marks turns seats kept i now) where
+  pub round_step : (world' : State) (marks' : Marks) (turns' : ℕ) (seats' : List ℕ) (kept' : ℕ) (now' : Option (List ℕ)) (o : Outcome) → i < length old → length seats ≡ length old → turns ≢ 0 → IsMove world (get_or seats i 0) world' o
+      → ((items : List Item) (c : Course) (left : ℕ) (held : Option (List ℕ)) (a : Asking) → IsAt items told c world marks left held now → IsAsk (get_or seats i 0) left a → IsAt items told (goes_on items c a) world' marks' (left_after o a left) held now') → length world'.seats ≡ length world.seats
+      → IsKept o turns kept seats (get_or seats i 0) turns' kept' seats' → IsRound told first m budget old begin world' marks' turns' seats' kept' (i + 1) now'
+  round_step world' marks' turns' seats' kept' now' o below long some move asked size is = record {
     so_far = far o move is;
-    asked = λ items k. asked_next old world seats kept i h.so_far items (record { world = first; left = budget }) turns turns' world' below (h.asked items k) (next o items move (choice items (h.keeps items k)) is);
-    keeps = λ items k. keeps items (h.keeps items k);
+    at = λ items c held at. subst (λ (t : Course). IsAt items told t world' marks' turns' held now') (sym (asked_next old world seats kept i h.so_far items c below))
+        (subst (λ n. IsAt items told (goes_in items (fold (goes_in items) c (take i old)) (get_or seats i 0)) world' marks' n held now') (left_is o is) (asked items (fold (goes_in items) c (take i old)) turns held (InRound (get_or seats i 0)) (h.at items c held at) (refl, some)));
     idle = λ x rests. idle_moved world world' (get_or seats i 0) x o move (h.idle x rests);
     size = size ∙ h.size;
     few = fewer o is;
@@ -202,10 +183,10 @@ module _ (first : State) (m : Marks) (budget : ℕ) (old : List ℕ) (world : St
     far outcome.Held e k = subst (λ (l : List ℕ). SoFar old world' l kept' (i + 1)) (sym k.2) (subst (λ (n : ℕ). SoFar old world' (set seats kept (get_or seats i 0)) n (i + 1)) (sym k.1) (round_kept old world seats kept i h.so_far world' below long (λ x. idle_moved world world' (get_or seats i 0) x outcome.Held e)))
     far outcome.Idle e k = subst (λ (l : List ℕ). SoFar old world' l kept' (i + 1)) (sym k.2) (subst (λ (n : ℕ). SoFar old world' seats n (i + 1)) (sym k.1) (round_idle old world seats kept i h.so_far world' below e.1 e.0))
 
-    next : (o : Outcome) (items : List Item) → IsMove world (get_or seats i 0) world' o → IsChoice items world (get_or seats i 0) o → IsKept o turns kept seats (get_or seats i 0) turns' kept' seats' → record { world = world'; left = turns' } ≡ ask_in items (record { world = world; left = turns }) (get_or seats i 0)
-    next outcome.Turned items e can k = ap (λ (s : State). record { world = s; left = turns' }) e ∙ ap (λ n. record { world = turn_of world (get_or seats i 0); left = n }) k.0 ∙ sym (ask_busy items (record { world = world; left = turns }) (get_or seats i 0) some can)
-    next outcome.Held items e can k = ap (λ (s : State). record { world = s; left = turns' }) e ∙ ap (λ n. record { world = world; left = n }) k.0 ∙ sym (ask_rests items (record { world = world; left = turns }) (get_or seats i 0) can)
-    next outcome.Idle items e can k = ap (λ (s : State). record { world = s; left = turns' }) e.1 ∙ ap (λ n. record { world = world; left = n }) k.0 ∙ sym (ask_rests items (record { world = world; left = turns }) (get_or seats i 0) can)
+    left_is : (o : Outcome) → IsKept o turns kept seats (get_or seats i 0) turns' kept' seats' → left_after o (InRound (get_or seats i 0)) turns ≡ turns'
+    left_is outcome.Turned k = sym k.0
+    left_is outcome.Held k = sym k.0
+    left_is outcome.Idle k = sym k.0
 
     fewer : (o : Outcome) → IsKept o turns kept seats (get_or seats i 0) turns' kept' seats' → turns' ≤ budget
     fewer outcome.Turned k = omega (arith, k.0, h.few)

@@ -1,11 +1,11 @@
 -- The items of a sheet, one after another.
-use Rattle.std.{proofs.Common.{◌≡◌, ◌≤◌, ◌<◌, ℕ, zero, suc, ◌+◌, ◌-◌, ◌^◌, List, [], ◌∷◌, ◌++◌, length, take, get_or, refl, sym, ap, subst, ◌∙◌, arith}, specs.Prelude.{All, Option, Some, None}}
-use Rattle.std.{specs.List.{flat_map, fold, sum_by}, proofs.lemmas.List.{append-nil, length-append, take_more, Concat.{flat_map-append}, Sums.{fold-append, fold_more, sum_by-cons}}}
+use Rattle.std.{proofs.Common.{rules, ◌≡◌, ◌≤◌, ◌<◌, ℕ, zero, suc, ◌+◌, ◌-◌, ◌^◌, List, [], ◌∷◌, ◌++◌, length, take, get_or, refl, sym, ap, subst, ◌∙◌, arith}, specs.Prelude.{All, Option, Some, None}}
+use Rattle.std.{specs.List.{fold, sum_by}, proofs.lemmas.List.{length-append, take_more, Sums.{fold_more, sum_by-cons}}}
 use Rattle.sh_base.specs.declared.config.ConfigParts.{ConfigParts}
 use Rattle.sh_map.specs.declared.call.Call.{Call}
 use Rattle.sh_sheet.specs.{declared.item.Item.{Item, TheVariants.{Ask, Mark, After, Turn}}, Sheet.{item_calls, IsLawfulItem}}
 use Rattle.sh_world.specs.{States.{Place, State, fresh_call}, Turning.{give_at}}
-use Rattle.sh_replay.specs.{declared.turns.TurnRow.{TurnRow}, Course.{ask, given_by, row_asks, turn_asks, Asking, Stage}, TurnRows.{kept_asks, turn_rows}}
+use Rattle.sh_replay.specs.{declared.turns.TurnRow.{TurnRow}, Course.{given_by, row_asks, turn_asks}, TurnRows.{kept_asks, turn_rows}}
 use Rattle.sh_replay.proofs.TurnLemmas.{give_seats, give_setting}
 
 -- one item more
@@ -14,18 +14,12 @@ item_more f first world after items i item below is so e = e ∙ ap (λ (t : Sta
 
 -- an item that isn't a call changes nothing
 pub no_call : (s : State) (item : Item) → ((seat : ℕ) (call : Call) → item ≡ Ask seat call → ⊥) → given_by s item ≡ s
-no_call s (Ask seat call) not = absurd (not seat call refl)
-no_call s (Mark seat n) not = refl
-no_call s (After seat n) not = refl
-no_call s (Turn seat count) not = refl
+no_call s item not = search rules
 
 -- ---- what the items leave
 
 pub given_keeps : (s : State) (item : Item) → ((given_by s item).setting ≡ s.setting) × (length (given_by s item).seats ≡ length s.seats)
-given_keeps s (Ask seat call) = (give_setting s seat call, give_seats s seat call)
-given_keeps s (Mark seat n) = (refl, refl)
-given_keeps s (After seat n) = (refl, refl)
-given_keeps s (Turn seat count) = (refl, refl)
+given_keeps s item = search (rules, give_setting, give_seats)
 
 all_given_keep : (items : List Item) (s : State) → ((fold given_by s items).setting ≡ s.setting) × (length (fold given_by s items).seats ≡ length s.seats)
 all_given_keep [] s = (refl, refl)
@@ -45,10 +39,7 @@ give_count s seat call (Some q) =
     omega (arith, length-append s.calls (fresh_call seat call ∷ []))
 
 given_count : (s : State) (item : Item) → length (given_by s item).calls ≤ length s.calls + item_calls item
-given_count s (Ask seat call) = give_count s seat call _
-given_count s (Mark seat n) = omega arith
-given_count s (After seat n) = omega arith
-given_count s (Turn seat count) = omega arith
+given_count s item = search (rules, give_count)
 
 pub given_counts : (items : List Item) (s : State) → length (fold given_by s items).calls ≤ length s.calls + sum_by item_calls items
 given_counts [] s = omega arith
@@ -83,10 +74,7 @@ rows_more items i item old new below is so e =
     e ∙ ap (λ (rs : List TurnRow). rs ++ turn_rows (item ∷ [])) so ∙ sym (rows_append (take i items) (item ∷ [])) ∙ ap turn_rows (ap (λ (x : Item). take i items ++ x ∷ []) is ∙ sym (take_more items i item below))
 
 pub no_row : (old : List TurnRow) (item : Item) → ((seat count : ℕ) → item ≡ Turn seat count → ⊥) → old ≡ old ++ turn_rows (item ∷ [])
-no_row old (Ask seat call) not = sym (append-nil old)
-no_row old (Mark seat n) not = sym (append-nil old)
-no_row old (After seat n) not = sym (append-nil old)
-no_row old (Turn seat count) not = absurd (not seat count refl)
+no_row old item not = search rules
 
 -- their seats are those of the items
 pub kept_are : (items : List Item) → kept_asks (turn_rows items) ≡ row_asks items
@@ -95,10 +83,3 @@ kept_are (Ask seat call ∷ items) = kept_are items
 kept_are (Mark seat n ∷ items) = kept_are items
 kept_are (After seat n ∷ items) = kept_are items
 kept_are (Turn seat count ∷ items) = ap (λ xs. turn_asks seat count ++ xs) (kept_are items)
-
--- one row more is asked
-pub asked_more : {A : Type 0} (items : List Item) (f : A → List Asking) (first now after : Stage) (xs : List A) (i : ℕ) (d : A) → i < length xs → now ≡ fold (ask items) first (flat_map f (take i xs)) → after ≡ fold (ask items) now (f (get_or xs i d)) → after ≡ fold (ask items) first (flat_map f (take (i + 1) xs))
-asked_more {A} items f first now after xs i d below so e =
-    let x = get_or xs i d in
-    let next : flat_map f (take (i + 1) xs) ≡ flat_map f (take i xs) ++ f x = ap (flat_map f) (take_more xs i d below) ∙ flat_map-append f (take i xs) (x ∷ []) ∙ ap (λ ys. flat_map f (take i xs) ++ ys) (append-nil (f x)) in
-    e ∙ ap (λ (s : Stage). fold (ask items) s (f x)) so ∙ sym (ap (fold (ask items) first) next ∙ fold-append (ask items) first (flat_map f (take i xs)) (f x))

@@ -1,3 +1,4 @@
+pub mod StageLemmas
 pub mod TurnLemmas
 pub mod RoundLemmas
 pub mod RunLemmas

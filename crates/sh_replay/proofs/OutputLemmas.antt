@@ -1,10 +1,9 @@
 -- The lines of calls, one after another.
-use Rattle.std.proofs.Common.{◌≡◌, ◌<◌, ◌≤◌, Bool, ℕ, ◌+◌, true, false, List, [], ◌∷◌, ◌++◌, map, length, take, drop, get_or, Option, Some, None, refl, sym, ap, ◌∙◌, append_assoc, arith}
+use Rattle.std.proofs.Common.{rules, ◌≡◌, ◌<◌, ◌≤◌, Bool, ℕ, ◌+◌, true, false, List, [], ◌∷◌, ◌++◌, map, length, take, drop, get_or, Option, Some, refl, sym, ap, ◌∙◌, append_assoc, arith}
 use Rattle.std.{proofs.lemmas.List.{append-nil, drop_more, length-take-le, take-append-drop, take_more, Concat.{flat_map-append}, Folds.{list_all_at, list_all_more}}, specs.List.{flat_map, fold}}
 use Rattle.std.proofs.lemmas.{List.Sums.{fold-append, sum_by_more}, Option.{get_or_from_slice_get, slice_get_within}, Bool.{and_parts}}
-use Rattle.std.specs.Prelude.{◌&&◌, if◌then◌else◌, is_some, nat_lt, slice_get}
-use Rattle.sh_map.specs.declared.{call.{Call.{Call, TheVariants.{Range}}, Reply.{Reply}}, book.{Done.{Done}, Row.{Row}}}
-use Rattle.sh_map.specs.declared.call.Reply.TheVariants as reply
+use Rattle.std.specs.Prelude.{◌&&◌, if◌then◌else◌, is_some, slice_get}
+use Rattle.sh_map.specs.declared.{call.{Call.{Call}, Reply.{Reply}}, book.{Done.{Done}, Row.{Row}}}
 use Rattle.sh_port.{specs.Port.{AppendsFront}, proofs.Bytes.{appends_none}}
 use Rattle.sh_text.{specs.{Text.{calls_text, row_line}, Counts.{counts_of, no_counts, with_answer, with_part, with_rows}, declared.counts.Counts.{Counts}}, proofs.Fronts.{front_more, part_at}}
 use Rattle.sh_text.specs.declared.points.Points.TheVariants as points
@@ -46,8 +45,7 @@ row_line_more n rows i r here =
 -- ---- whether a call has ended
 
 one_at_most : (b : Bool) → (if b then 1 else 0) ≤ 1
-one_at_most true = omega arith
-one_at_most false = omega arith
+one_at_most b = search rules
 
 module _ (calls : List Given) (i : ℕ) (g : Given) (here : slice_get calls i ≡ Some g) where
   below : i < length calls
@@ -64,11 +62,7 @@ module _ (calls : List Given) (i : ℕ) (g : Given) (here : slice_get calls i �
 
   -- one more is counted
   pub count_more : (count r : ℕ) → count ≡ count_ended (take i calls) → count ≤ i → r ≡ ended_by g → (count + r ≡ count_ended (take (i + 1) calls)) × (count + r ≤ i + 1)
-  count_more count r so le is =
-      let one = sum_by_more ended_by calls i g below in
-      let read = is ∙ ap ended_by (sym same) in
-      let small = one_at_most (is_some g.reply) in
-      (omega (arith, so, one, read), omega (arith, le, is, small))
+  count_more count r so le is = search (rules, sum_by_more, below, same, one_at_most)
 
 -- ---- how many were answered in which way
 
@@ -82,8 +76,7 @@ abbrev count_one : Counts → Done → Counts
 count_one c d = with_answer c d.call d.reply
 
 count_done : (c : Counts) (n : ℕ) (g : Given) (o : Option Reply) → fold count_one c (done_in n g o ++ []) ≡ counted c g.call o
-count_done c n g None = refl
-count_done c n g (Some r) = refl
+count_done c n g o = search rules
 
 counts_more : (calls : List Given) (i : ℕ) (g : Given) → slice_get calls i ≡ Some g → counts_of (dones_of (take (i + 1) calls)) ≡ counted (counts_of (dones_of (take i calls))) g.call g.reply
 counts_more calls i g here =
@@ -92,32 +85,23 @@ counts_more calls i g here =
     ap (fold count_one no_counts) (ap dones_of next ∙ dones_append 1 (take i calls) (g ∷ [])) ∙ fold-append count_one no_counts (dones_of (take i calls)) (done_in n g g.reply ++ []) ∙ count_done (counts_of (dones_of (take i calls))) n g g.reply
 
 one_range : (b : Bool) (c : Counts) → total (if b then with_part c else with_rows c) ≡ total c + 1
-one_range true c = omega arith
-one_range false c = omega arith
+one_range b c = search rules
 
 -- each answer is counted once
 one_total : (c : Counts) (call : Call) (r : Reply) → total (with_answer c call r) ≡ total c + 1
-one_total c call (reply.Some value) = omega arith
-one_total c call reply.None = omega arith
-one_total c (Range low high) (reply.Rows upto) = one_range (nat_lt upto high) c
-one_total c call (reply.Rows upto) = omega arith
-one_total c call reply.Full = omega arith
-one_total c call (reply.Worn version) = omega arith
+one_total c call r = search (rules, one_range)
 
 counted_total : (c : Counts) (call : Call) (o : Option Reply) → total (counted c call o) ≤ total c + 1
-counted_total c call None = omega arith
-counted_total c call (Some r) = omega (arith, one_total c call r)
+counted_total c call o = search (rules, one_total)
 
 -- one call more is counted
 pub counts_step : (calls : List Given) (i : ℕ) (g : Given) (old new : Counts) → slice_get calls i ≡ Some g → new ≡ counted old g.call g.reply → old ≡ counts_of (dones_of (take i calls)) → total old ≤ i → (new ≡ counts_of (dones_of (take (i + 1) calls))) × (total new ≤ i + 1)
-counts_step calls i g old new here is so few =
-    (is ∙ ap (λ c. counted c g.call g.reply) so ∙ sym (counts_more calls i g here), omega (arith, ap total is, counted_total old g.call g.reply, few))
+counts_step calls i g old new here is so few = search (rules, counts_more, counted_total)
 
 -- ---- where every call has ended
 
 item_head : (n : ℕ) (g : Given) (o : Option Reply) (ds : List Done) → is_some o ≡ true → map done_item (done_in n g o ++ ds) ≡ item_of g ∷ map done_item ds
-item_head n g None ds e = absurd (cc)
-item_head n g (Some r) ds e = refl
+item_head n g o ds e = search rules
 
 pub done_items : (n : ℕ) (calls : List Given) → have_ended calls ≡ true → map done_item (dones_from n calls) ≡ map item_of calls
 done_items n [] e = refl
@@ -126,8 +110,7 @@ done_items n (g ∷ calls) e =
     ∙ ap (λ l. item_of g ∷ l) (done_items (n + 1) calls ((and_parts (is_some g.reply) (have_ended calls) e).1))
 
 text_head : (n : ℕ) (g : Given) (o : Option Reply) (ds : List Done) → is_some o ≡ true → text_with n g o ++ calls_text points.Shown ds ≡ calls_text points.Shown (done_in n g o ++ ds)
-text_head n g None ds e = absurd (cc)
-text_head n g (Some r) ds e = refl
+text_head n g o ds e = search rules
 
 pub done_lines : (n : ℕ) (calls : List Given) → have_ended calls ≡ true → lines_from n calls ≡ calls_text points.Shown (dones_from n calls)
 done_lines n [] e = refl

@@ -1,5 +1,5 @@
 -- Afters that hold a seat back.
-use Rattle.std.proofs.Common.{◌≡◌, ◌≢◌, ◌⊎◌, ◌<◌, ◌≤◌, ℕ, zero, suc, ◌+◌, Bool, true, false, List, [], ◌∷◌, length, get_or, Some, refl, sym, ap, subst, ◌∙◌, inl, inr, arith}
+use Rattle.std.proofs.Common.{rules, ◌≡◌, ◌≢◌, ◌⊎◌, ◌<◌, ◌≤◌, ℕ, zero, suc, ◌+◌, Bool, true, false, List, [], ◌∷◌, length, get_or, Some, refl, sym, ap, subst, ◌∙◌, inl, inr, arith}
 use Rattle.std.{specs.{Prelude.{◌==◌, ◌&&◌, ◌||◌, replicate, nat_le, if◌then◌else◌, not, slice_get}, List.{fold, list_all, list_any, range_with_len}}, proofs.lemmas.{Bool.{and_parts, cases_eq, cases_lt, Decides.{nat_tests}}, Option.{slice_get_within, slice_get-get_or, get_or_from_slice_get}, List.{FromFn.{get_or-range_with_len, length-range_with_len}, Folds.{list_all_at, list_any_at, list_any_none}}}}
 use Rattle.sh_logic.proofs.Options.{some_is}
 use Rattle.sh_map.specs.declared.call.Call.{Call}
@@ -19,8 +19,7 @@ pub above : (a b : ℕ) → b < a → nat_le a b ≡ false
 above a b e = grind (arith, nat_tests)
 
 both : (a b : Bool) → a ≡ true → b ≡ true → (a && b) ≡ true
-both true b e t = t
-both false b e t = absurd (cc)
+both a b e t = search rules
 
 -- what holds of a changed function at a place, by whether it is the changed one
 at_cases : {A : Type 0} (f : ℕ → A) (p : ℕ) (a : A) (x : ℕ) (P : ℕ → A → Type 0) → P p a → P x (f x) → P x (at_place f p a x)
@@ -45,25 +44,13 @@ at_rises : (f : ℕ → ℕ → ℕ) (p : ℕ) (g : ℕ → ℕ) → f p p ≤ g
 at_rises f p g le x = at_cases f p g x (λ y h. f y y ≤ h y) le (omega arith)
 
 greater_least : (a b : ℕ) → a ≤ greater a b
-greater_least a b = by_test (nat_le a b) refl where
-  by_test : (t : Bool) → nat_le a b ≡ t → a ≤ (if t then b else a)
-  by_test true e = grind (arith, nat_tests)
-  by_test false e = omega arith
+greater_least a b = search rules
 
 pub rises : (b : Before) (item : Item) (seat : ℕ) → own b seat ≤ own (behind b item) seat
-rises b (Ask t call) seat = at_rises b.seats t (at_place (b.seats t) t (b.seats t t + 1)) (one_more (t == t)) seat where
-  one_more : (x : Bool) → b.seats t t ≤ (if x then b.seats t t + 1 else b.seats t t)
-  one_more true = omega arith
-  one_more false = omega arith
-rises b (Mark t n) seat = omega arith
-rises b (After t n) seat = at_rises b.seats t (λ of. greater (b.seats t of) (b.marks n of)) (greater_least (b.seats t t) (b.marks n t)) seat
-rises b (Turn t count) seat = omega arith
+rises b item seat = search (rules, at_rises, greater_least)
 
 pub at_own : {A : Type 0} (f : ℕ → A) (p : ℕ) (a : A) → at_place f p a p ≡ a
-at_own f p a = by_test (p == p) (test p p refl) where
-  by_test : (t : Bool) → t ≡ true → (if t then a else f p) ≡ a
-  by_test true e = refl
-  by_test false e = absurd (cc)
+at_own f p a = search (rules, test)
 
 -- a later after has at least as many calls of its seat before it
 low : (b : Before) (items : List Item) (j : ℕ) (y : Stop) → slice_get (stops_from b items) j ≡ Some y → own b y.seat ≤ y.counts y.seat
@@ -120,18 +107,10 @@ module _ (ended : ℕ → ℕ) (seats : ℕ) (few : seats ≤ 64) (seat : ℕ) (
   rows_any (r ∷ rows) (x ∷ stops) h = ap (λ t. t || list_any (λ (y : AfterRow). stops_at ended seats seat (stop_of y)) rows) (alike r x h.0 h.1) ∙ ap (λ t. stops_at ended seats seat x || t) (rows_any rows stops h.2)
 
 falls : (a b c : Bool) → (a ≡ false) ⊎ ((b ≡ false) ⊎ (c ≡ true)) → (a && b && not c) ≡ false
-falls false b c h = refl
-falls true false c h = refl
-falls true true true h = refl
-falls true true false (inl e) = absurd (cc)
-falls true true false (inr (inl e)) = absurd (cc)
-falls true true false (inr (inr e)) = absurd (cc)
+falls a b c h = search rules
 
 holds_all : (a b c : Bool) → a ≡ true → b ≡ true → c ≡ false → (a && b && not c) ≡ true
-holds_all true true false x y z = refl
-holds_all false b c x y z = absurd (cc)
-holds_all true false c x y z = absurd (cc)
-holds_all true true true x y z = absurd (cc)
+holds_all a b c x y z = search rules
 
 module _ (items : List Item) (ended : ℕ → ℕ) (seats seat : ℕ) (few : seats ≤ 64) (below : seat < 64) (rows : List AfterRow) (are : AreRows rows (stops_of items)) (at : ℕ)
     (past : (i : ℕ) (r : AfterRow) → i < at → slice_get rows i ≡ Some r → r.seat ≡ seat → is_passed ended seats (stop_of r) ≡ true) where
@@ -197,32 +176,27 @@ own_later b [] seat = omega arith
 own_later b (i ∷ is) seat = omega (arith, rises b i seat, own_later (behind b i) is seat)
 
 none_reached : (ended : ℕ → ℕ) (seats seat : ℕ) (b : Before) (items : List Item) → ended seat < own b seat → list_any (stops_at ended seats seat) (stops_from b items) ≡ false
-none_reached ended seats seat b items less = list_any_none (stops_at ended seats seat) (stops_from b items) (λ i d lt. each i (get_or (stops_from b items) i d) (slice_get-get_or (stops_from b items) i d lt)) where
-  each : (i : ℕ) (y : Stop) → slice_get (stops_from b items) i ≡ Some y → stops_at ended seats seat y ≡ false
-  each i y here = elim (cases_eq y.seat seat) [
-    | inr ne ↦ falls (y.seat == seat) _ _ (inl (differ y.seat seat ne))
-    | inl same ↦ falls (y.seat == seat) _ _ (inr (inl (above (y.counts seat) (ended seat) (omega (arith, less, subst (λ s. own b s ≤ y.counts s) same (low b items i y here))))))
-  ]
+none_reached ended seats seat b items less = search (rules, list_any_none, slice_get-get_or, falls, differ, above, low)
 
 pub ask_seat : (t s : ℕ) (call other : Call) → Ask t call ≡ Ask s other → t ≡ s
 ask_seat t s call other e = cc
 
-pub goes_on : (b : Before) (items : List Item) (ended : ℕ → ℕ) (seats : ℕ) → IsWithin b ended → GoesOn b items ended seats
-goes_on b [] ended seats h = inl (λ seat. h.0 seat seat)
-goes_on b (Ask t call ∷ items) ended seats h =
+pub seat_goes_on : (b : Before) (items : List Item) (ended : ℕ → ℕ) (seats : ℕ) → IsWithin b ended → GoesOn b items ended seats
+seat_goes_on b [] ended seats h = inl (λ seat. h.0 seat seat)
+seat_goes_on b (Ask t call ∷ items) ended seats h =
     let c = behind b (Ask t call) in
     let more : own c t ≡ own b t + 1 = ap (λ (f : ℕ → ℕ). f t) (at_own b.seats t (at_place (b.seats t) t (b.seats t t + 1))) ∙ at_own (b.seats t) t (b.seats t t + 1) in
     elim (cases_lt (ended t) (own b t + 1)) [
       | inl less ↦ inr (t, omega (arith, less, more, own_later c items t), none_reached ended seats t c items (omega (arith, less, more)))
-      | inr all ↦ goes_on c items ended seats (within_next b ended (Ask t call) h (λ s c e. subst (λ x. own b x + 1 ≤ ended x) (ask_seat t s call c e) all))
+      | inr all ↦ seat_goes_on c items ended seats (within_next b ended (Ask t call) h (λ s c e. subst (λ x. own b x + 1 ≤ ended x) (ask_seat t s call c e) all))
     ]
-goes_on b (Mark t n ∷ items) ended seats h = goes_on (behind b (Mark t n)) items ended seats (within_next b ended (Mark t n) h (λ s c e. absurd (cc)))
-goes_on b (Turn t count ∷ items) ended seats h = goes_on b items ended seats h
-goes_on b (After t n ∷ items) ended seats h =
+seat_goes_on b (Mark t n ∷ items) ended seats h = seat_goes_on (behind b (Mark t n)) items ended seats (within_next b ended (Mark t n) h (λ s c e. absurd (cc)))
+seat_goes_on b (Turn t count ∷ items) ended seats h = seat_goes_on b items ended seats h
+seat_goes_on b (After t n ∷ items) ended seats h =
     let c = behind b (After t n) in
     let within = within_next b ended (After t n) h (λ s x e. absurd (cc)) in
     let x : Stop = record { seat = t; counts = c.seats t } in
-    elim (goes_on c items ended seats within) [
+    elim (seat_goes_on c items ended seats within) [
       | inl all ↦ inl all
       | inr found ↦ inr (found.0, found.1, ap (λ s. s || list_any (stops_at ended seats found.0) (stops_from c items)) (falls (t == found.0) _ _ (inr (inr (all_below ended (c.seats t) (range_with_len 0 seats) (λ of. within.0 t of))))) ∙ found.2)
     ]
@@ -251,15 +225,8 @@ zero_at (suc n) (suc i) = zero_at n i
 
 -- behind all rows a seat isn't held back
 pub stand_past : (ended : ℕ → ℕ) (seats seat : ℕ) (rows : List AfterRow) (at : ℕ) → length rows ≤ at → IsStand ended seats seat rows at at false
-stand_past ended seats seat rows at past = record {
-  past = λ i r from before here same. absurd (omega (arith, from, before));
-  here = λ e. absurd (cc);
-  free = λ e r here. absurd (omega (arith, past, slice_get_within rows at r here));
-}
+stand_past ended seats seat rows at past = search (rules, slice_get_within)
 
 pub past_both : (ended : ℕ → ℕ) (seats seat : ℕ) (rows : List AfterRow) (from at : ℕ) (held : Bool) → ((i : ℕ) (r : AfterRow) → i < from → slice_get rows i ≡ Some r → r.seat ≡ seat → is_passed ended seats (stop_of r) ≡ true) → IsStand ended seats seat rows from at held
     → (i : ℕ) (r : AfterRow) → i < at → slice_get rows i ≡ Some r → r.seat ≡ seat → is_passed ended seats (stop_of r) ≡ true
-past_both ended seats seat rows from at held past h i r before here same = elim (cases_lt i from) [
-  | inl old ↦ past i r old here same
-  | inr new ↦ h.past i r new before here same
-]
+past_both ended seats seat rows from at held past h i r before here same = search rules

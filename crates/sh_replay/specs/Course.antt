@@ -84,10 +84,14 @@ pub record Course : Type 0 where
 abbrev pub goes_on : List Item → Course → Asking → Course
 goes_on items c a = record { stage = ask items c.stage a; events = c.events ++ events_by items c.stage a }
 
+-- before anyone was asked
+abbrev pub begun : State → (budget : ℕ) → Course
+begun s budget = record { stage = record { world = s; left = budget }; events = [] }
+
 -- the course from this world on, with these items' marks and afters, in whose rounds so many turns may be made, when all
 -- these were asked
 abbrev pub course_from : List Item → State → (budget : ℕ) → List Asking → Course
-course_from items s budget asks = fold (goes_on items) (record { stage = record { world = s; left = budget }; events = [] }) asks
+course_from items s budget asks = fold (goes_on items) (begun s budget) asks
 
 -- ---- who is asked
 
@@ -130,9 +134,13 @@ finished s items budget = course_from items s budget (all_asks items (length s.s
 abbrev pub budget_of : (calls : ℕ) → ℕ
 budget_of calls = 4096 + 100000 * calls
 
+-- the world of these laid words that was given the items' calls
+abbrev pub given : ConfigParts → (words : List ℕ) → List Item → State
+given p words items = fold given_by (fresh_state p words) items
+
 -- the course's end, over these laid words
 abbrev pub course : ConfigParts → (words : List ℕ) → List Item → Course
-course p words items = finished (fold given_by (fresh_state p words) items) items (budget_of (sum_by item_calls items))
+course p words items = finished (given p words items) items (budget_of (sum_by item_calls items))
 
 -- every call has ended
 abbrev pub have_ended : List Given → Bool

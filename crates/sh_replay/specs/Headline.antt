@@ -1,16 +1,20 @@
 -- What a replay leaves, by how it ended.
-use Rattle.std.specs.{Prelude.{ℕ, ◌≡◌, ◌≢◌, ◌<◌, ◌⊎◌, Bool, List, Option, Some, None}, Io.KnownBytes.{Appends}, List.{sum_by}}
+use Rattle.std.specs.{Prelude.{ℕ, ◌≡◌, ◌≢◌, ◌<◌, ◌⊎◌, ◌&&◌, nat_le, Bool, true, List, Option, Some, None}, Io.KnownBytes.{Appends}, List.{sum_by}, Option.{option_map_or}}
 use Rattle.sh_base.specs.declared.config.ConfigParts.{ConfigParts}
 use Rattle.sh_map.specs.declared.book.Row.{Row}
 use Rattle.sh_sheet.specs.declared.{item.{Item.{Item}, Mode.TheVariants.{Replay}}, status.Status.{Status}}
 use Rattle.sh_sheet.specs.{Sheet.{Reading, Items, Refused, AreFew, IsTooMany, most_rows, rows_of, sheet_of}, Generate.{made_items}}
 use Rattle.sh_sheet.specs.declared.status.Status.TheVariants as status
-use Rattle.sh_text.specs.declared.write.WriteError.{WriteError}
+use Rattle.sh_text.specs.{declared.write.WriteError.{WriteError}, Write.{CauseOf}}
 use Rattle.sh_text.specs.declared.write.WriteError.TheVariants as error
 use Rattle.sh_port.specs.{Port.{HasRisen, AppendsFront}, Intake.{TookAll, TookSome, TookMost}}
 use Rattle.sh_options.specs.Order.{Asked}
 use Rattle.sh_world.specs.States.{State}
-use Rattle.sh_replay.specs.{declared.ending.Finish.{Finish, TheVariants.{Done as AllDone, Spent}}, Output.{text_of}, Served.{HasServed}}
+use Rattle.sh_replay.specs.{declared.ending.Finish.{Finish, TheVariants.{Done as AllDone, Spent}}, Course.{SeatEvent}, Output.{event_lines, lines_behind, text_of}, Served.{HasServed, HasStopped, HoldsRows}}
+
+-- calls that are made are 1 to 1,000,000
+abbrev pub HasCount : (make : Option ℕ) → Type 0
+HasCount make = option_map_or (λ n. nat_le 1 n && nat_le n 1000000) make true ≡ true
 
 -- The whole input was taken, and its reading is this one.
 pub record Read (p : ConfigParts) (left rest : Option (List ℕ)) (before now : ℕ) (reading : Reading) : Type 0 where
@@ -40,11 +44,11 @@ abbrev pub AreItems : (o : Asked) → (left rest : Option (List ℕ)) → (befor
 AreItems o left rest before now items = AreRead o left rest before now items ⊎ AreMade o left rest before now items
 
 -- The items are lawful and not too many, and the world has served them; its rounds ended so.
-pub record Served (o : Asked) (left rest : Option (List ℕ)) (before now : ℕ) (s : State) (finish : Finish) (rows : List Row) : Type 0 where
+pub record Served (o : Asked) (left rest : Option (List ℕ)) (before now : ℕ) (s : State) (finish : Finish) (events : List SeatEvent) (rows : List Row) : Type 0 where
   pub items : List Item
   pub are : AreItems o left rest before now items
   pub few : AreFew o.parts items
-  pub served : HasServed o.parts items s finish rows
+  pub served : HasServed o.parts items s finish events rows
 
 -- There are more calls, turns or rows of ranges than a sheet may ask for.
 pub record ReadTooMany (o : Asked) (left rest : Option (List ℕ)) (before now : ℕ) : Type 0 where
@@ -88,17 +92,34 @@ pub record Untouched (old new : State) (held after : Option (List ℕ)) (fell fa
 
 -- The sheet was served and its rounds ended so, and all lines of the output were written.
 pub record Written (o : Asked) (new : State) (finish : Finish) (left rest : Option (List ℕ)) (before now : ℕ) (held after : Option (List ℕ)) (fell fallen : ℕ) : Type 0 where
+  pub events : List SeatEvent
   pub rows : List Row
-  pub served : Served o left rest before now new finish rows
-  pub written : Appends held after (text_of o new.calls rows)
+  pub served : Served o left rest before now new finish events rows
+  pub written : Appends held after (text_of o events new.calls rows)
   pub count : fallen ≡ fell
 
--- The sheet was served, and a front of the output was written.
+-- The sheet was served and the lines of its events were written, and a front of the lines behind them.
 pub record HalfWritten (o : Asked) (new : State) (left rest : Option (List ℕ)) (before now : ℕ) (held after : Option (List ℕ)) : Type 0 where
   pub finish : Finish
+  pub events : List SeatEvent
   pub rows : List Row
-  pub served : Served o left rest before now new finish rows
-  pub written : AppendsFront held after (text_of o new.calls rows)
+  pub served : Served o left rest before now new finish events rows
+  pub told : Option (List ℕ)
+  pub lines : Appends held told (event_lines o.events events)
+  pub written : AppendsFront told after (lines_behind o new.calls rows)
+
+-- The items are lawful and not too many, and their run stopped at the line of an event.
+pub record Stopped (o : Asked) (new : State) (left rest : Option (List ℕ)) (before now : ℕ) (held after : Option (List ℕ)) : Type 0 where
+  pub events : o.events ≡ true
+  pub items : List Item
+  pub are : AreItems o left rest before now items
+  pub few : AreFew o.parts items
+  pub stopped : HasStopped o.parts items new held after
+
+-- A front of the output was written: the run stopped at an event, or it is over.
+abbrev pub WroteFront : (o : Asked) → (new : State) → (left rest : Option (List ℕ)) → (before now : ℕ) → (held after : Option (List ℕ)) → Type 0
+WroteFront o new left rest before now held after =
+    Stopped o new left rest before now held after ⊎ HalfWritten o new left rest before now held after
 
 -- What a replay of an order leaves. The source: the bytes that were left and that are left, and its counts of faults
 -- before and now. The sink: the bytes that it held and holds, and its counts.
@@ -116,10 +137,17 @@ Replayed o old new left rest before now held after fell fallen (status.BadRow ro
 Replayed o old new left rest before now held after fell fallen status.TooMany =
     HasNoItems o left rest before now status.TooMany × Untouched old new held after fell fallen
 Replayed o old new left rest before now held after fell fallen status.WriteFault =
-    HalfWritten o new left rest before now held after × HasRisen fell fallen
+    WroteFront o new left rest before now held after × HasRisen fell fallen
 Replayed o old new left rest before now held after fell fallen status.NoMemory =
-    HasNoItems o left rest before now status.NoMemory × (Untouched old new held after fell fallen ⊎ (HalfWritten o new left rest before now held after × (fallen ≡ fell)))
+    HasNoItems o left rest before now status.NoMemory × (Untouched old new held after fell fallen ⊎ (WroteFront o new left rest before now held after × (fallen ≡ fell)))
 Replayed o old new left rest before now held after fell fallen status.Usage = ⊥
+
+-- A run is over: all lines behind its events were written, and its status tells how the rounds ended; or a front of them,
+-- and it tells the cause.
+pub record IsWritten (o : Asked) (s : State) (finish : Finish) (held after : Option (List ℕ)) (fell fallen : ℕ) (status : Status) : Type 0 where
+  pub rows : List Row
+  pub holds : HoldsRows s finish rows
+  pub ends : (Appends held after (lines_behind o s.calls rows) × (fallen ≡ fell) × (status ≡ ended_with finish)) ⊎ ((e : WriteError) × AppendsFront held after (lines_behind o s.calls rows) × CauseOf fell fallen e × (status ≡ unwritten e))
 
 -- the words are refused, or memory is wanting
 abbrev pub IsUsage : Status → Type 0

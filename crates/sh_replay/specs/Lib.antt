@@ -1,12 +1,12 @@
 pub mod Marks
 pub mod Course
 pub mod Run
-pub mod Clocks
-pub mod Standing
-pub mod TurnRows
-pub mod Thinning
 pub mod Output
-pub mod Serving
+pub mod Stopping
+pub mod Clocks
+pub mod TurnRows
+pub mod Standing
+pub mod Thinning
 pub mod Served
 pub mod Headline
 pub mod Complete

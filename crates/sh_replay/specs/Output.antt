@@ -1,11 +1,11 @@
--- The output of a replay: the lines of each call, and the last lines.
+-- The output of a replay: the lines of the events and of each call, and the last lines.
 use Rattle.std.specs.{Prelude.{ℕ, ◌+◌, Bool, List, [], ◌∷◌, ◌++◌, length, sum, Option, Some, None, is_some, if◌then◌else◌}, List.{flat_map, sum_by}}
 use Rattle.sh_map.specs.declared.{book.Row.{Row}, call.{Call.{Call}, Reply.{Reply}}}
 use Rattle.sh_text.specs.declared.points.Points.TheVariants as points
-use Rattle.sh_text.specs.{Text.{call_text, end_line, made_line, map_line, pending_line, unfinished_line}, Counts.{counts_line, counts_of, with_answer}, declared.counts.Counts.{Counts}}
+use Rattle.sh_text.specs.{Text.{call_text, end_line, event_line, made_line, map_line, pending_line, unfinished_line}, Counts.{counts_line, counts_of, with_answer}, declared.counts.Counts.{Counts}}
 use Rattle.sh_options.specs.Order.{Asked}
 use Rattle.sh_world.specs.States.{Given, dones_of}
-use Rattle.sh_replay.specs.Course.{have_ended}
+use Rattle.sh_replay.specs.Course.{have_ended, SeatEvent}
 
 -- the lines of a call that has ended so, with those of its rows, or the line of one that hasn't ended
 abbrev pub text_with : (n : ℕ) → Given → Option Reply → List ℕ
@@ -54,6 +54,17 @@ abbrev pub calls_lines : (make : Option ℕ) → (seed : ℕ) → List Given →
 calls_lines None seed calls = lines_from 1 calls
 calls_lines (Some n) seed calls = made_line n seed ++ counts_line (counts_of (dones_of calls))
 
--- the output of an order for these calls, and the rows that the words hold
-unfoldable pub text_of : Asked → List Given → List Row → List ℕ
-text_of o calls rows = calls_lines o.make o.seed calls ++ last_lines o.map calls rows
+-- the output of an order behind its events: for these calls, and the rows that the words hold
+unfoldable pub lines_behind : Asked → List Given → List Row → List ℕ
+lines_behind o calls rows = calls_lines o.make o.seed calls ++ last_lines o.map calls rows
+
+-- a line for each event, where they are asked for
+abbrev pub line_of : SeatEvent → List ℕ
+line_of e = event_line e.seat e.event e.found
+
+abbrev pub event_lines : (asked : Bool) → List SeatEvent → List ℕ
+event_lines asked es = if asked then flat_map line_of es else []
+
+-- the whole output
+abbrev pub text_of : Asked → List SeatEvent → List Given → List Row → List ℕ
+text_of o events calls rows = event_lines o.events events ++ lines_behind o calls rows

@@ -4,8 +4,9 @@ ghost use Rattle.sh_sheet.specs.{declared.status.Status.{Status}, Sheet.{item_ca
 ghost use Rattle.sh_text.specs.Text.{calls_text};
 ghost use Rattle.sh_text.specs.declared.points.Points.TheVariants as points;
 ghost use Rattle.sh_world.specs.States.{Given, dones_of, State, IsBlank};
-ghost use Rattle.sh_replay.specs.{Output.{lines_from}, Served.{done_item, item_of}, Course.{budget_of, have_ended}, Serving.{accepted}, Headline.{Headline}, Complete.{IsFree, EndsWell, IsNoFault}};
-ghost use Rattle.sh_options.specs.Order.{Asked};
+ghost use Rattle.sh_replay.specs.{Output.{lines_from}, Served.{done_item, item_of}, Course.{budget_of, have_ended}, Headline.{Headline}, Complete.{IsFree, EndsWell, IsNoFault}};
+ghost use Rattle.sh_options.specs.Order.{Asked, order_of};
+ghost use Rattle.sh_sheet.specs.declared.item.Mode.TheVariants.{Replay};
 
 use crate::replay_top;
 use sh_port::{Sink, Source, SureSink, SureSource};
@@ -34,7 +35,7 @@ pub fn replay_sure(
 ) -> Status
     requires { IsBlank world.old }
     ensures no_fault { IsNoFault result }
-    ensures headline { Headline (accepted (map (λ w. w.now) words.now)) world.old world.new (⟦<SureSource as Source>⟧.left source.old) (⟦<SureSource as Source>⟧.left source.new) 0 0 (⟦<SureSink as Sink>⟧.held sink.old) (⟦<SureSink as Sink>⟧.held sink.new) 0 0 result }
+    ensures headline { Headline (order_of Replay (map (λ w. w.now) words.now)) world.old world.new (⟦<SureSource as Source>⟧.left source.old) (⟦<SureSource as Source>⟧.left source.new) 0 0 (⟦<SureSink as Sink>⟧.held sink.old) (⟦<SureSink as Sink>⟧.held sink.new) 0 0 result }
 {
     replay_top(alloc, words, world, source, sink)
 }

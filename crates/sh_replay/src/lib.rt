@@ -7,7 +7,7 @@ mod marks;
 mod output;
 mod replay;
 mod serve;
-mod serving;
+mod tells;
 mod turns;
 
 pub use ending::Finish;

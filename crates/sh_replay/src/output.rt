@@ -5,7 +5,7 @@ ghost use Rattle.sh_port.specs.Port.{AppendsFront};
 ghost use Rattle.sh_options.specs.Order.{asked_of};
 ghost use Rattle.sh_text.specs.{Counts.{counts_of}, Text.{row_line}, Write.{HasWriteCause}};
 ghost use Rattle.sh_world.specs.States.{dones_of, rows_at, with_rows};
-ghost use Rattle.sh_replay.specs.Output.{calls_lines, count_ended, counted, end_lines, last_lines, lines_from, map_lines, sum_of, text_of, text_with, total};
+ghost use Rattle.sh_replay.specs.Output.{calls_lines, count_ended, counted, end_lines, last_lines, lines_from, map_lines, sum_of, lines_behind, text_with, total};
 
 use crate::turns::have_ended;
 use sh_base::Value;
@@ -250,11 +250,11 @@ fn write_calls_lines<K: Sink>(
     }
 }
 
-/// Writes the lines of a replay: those of each call, in the order in which they were given, a range's rows behind its own,
+/// Writes the lines of a replay behind those of its events: those of each call, in the order in which they were given, a range's rows behind its own,
 /// or of made calls their number and seed, and how many were answered in which way; then, where every call has ended, the
 /// map where it is asked for and the last line, and else the line of a run that was given up. Conditions: at most 1,000,000
 /// calls, and at most 2^32 keys in the map.
-#[tactic(auto, unfolding(crate::specs::Output::text_of))]
+#[tactic(auto, unfolding(crate::specs::Output::lines_behind))]
 pub fn write_lines<K: Sink>(
     alloc: Global,
     sink: &mut K,
@@ -264,8 +264,8 @@ pub fn write_lines<K: Sink>(
 ) -> Result<(), WriteError>
     requires calls { length calls.now.calls ≤ 1000000 }
     requires rows { length rows.now ≤ 4294967296 }
-    ensures ok { OnOk result (Appends (K.held sink.old) (K.held sink.new) (text_of (asked_of order.now) calls.now.calls rows.now)) }
-    ensures err { OnErr result (AppendsFront (K.held sink.old) (K.held sink.new) (text_of (asked_of order.now) calls.now.calls rows.now)) }
+    ensures ok { OnOk result (Appends (K.held sink.old) (K.held sink.new) (lines_behind (asked_of order.now) calls.now.calls rows.now)) }
+    ensures err { OnErr result (AppendsFront (K.held sink.old) (K.held sink.new) (lines_behind (asked_of order.now) calls.now.calls rows.now)) }
     ensures cause { HasWriteCause (K.faults sink.old) (K.faults sink.new) result }
 {
     match write_calls_lines(alloc, sink, order.make, order.seed, calls) {

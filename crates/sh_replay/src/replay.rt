@@ -1,43 +1,19 @@
 // From the bytes in to the bytes out.
-ghost use Rattle.std.specs.{Prelude.{◌≡◌, ◌≤◌, ℕ, List, Option, None, Some, length, map, All, IfOk, MatchResult, OnOk, OnErr}, Io.KnownBytes.{Appends}};
+ghost use Rattle.std.specs.Prelude.{◌≡◌, ◌≤◌, ℕ, List, Option, None, Some, length, map, All, IfOk, MatchResult};
 ghost use Rattle.sh_base.specs.Parts.{parts_of};
-ghost use Rattle.sh_port.specs.Port.{AppendsFront};
-ghost use Rattle.sh_sheet.specs.Sheet.{AreFew, IsLawfulItem};
-ghost use Rattle.sh_text.specs.Write.{HasWriteCause};
-ghost use Rattle.sh_options.specs.Order.{asked_of};
+ghost use Rattle.sh_sheet.specs.{declared.item.Mode.TheVariants.{Replay}, Sheet.{AreFew, IsLawfulItem}};
+ghost use Rattle.sh_options.specs.Order.{asked_of, order_of};
 ghost use Rattle.sh_world.specs.States.{IsBlank};
-ghost use Rattle.sh_replay.specs.{Serving.{accepted, HasCount}, Headline.{ended_with, unwritten, AreItems, HasNoItems, Headline, Replayed}};
+ghost use Rattle.sh_replay.specs.Headline.{AreItems, HasCount, HasNoItems, Headline, Replayed};
 
-use crate::Finish;
-use crate::output::write_lines;
-use crate::serve::serve;
-use crate::serving::read_order;
-use sh_options::{Order, WordFault};
+use crate::serve::{serve, world_of};
+use crate::tells::{Told, Untold};
+use crate::turns::Plan;
+use sh_options::{Order, WordFault, read_words};
 use sh_port::{Intake, Sink, Source, read_all};
 use sh_sheet::{Mode, Sheet, SheetFault, Status, generate, read_sheet};
-use sh_text::WriteError;
 use sh_world::World;
 use std::alloc::Global;
-
-// The status of a run whose lines weren't all written.
-fn unwritten(error: WriteError) -> Status
-    ensures { result ≡ unwritten error }
-{
-    match error {
-        WriteError::Fault => Status::WriteFault,
-        WriteError::NoMemory => Status::NoMemory,
-    }
-}
-
-// The status of a run whose lines were all written.
-fn ended_with(finish: Finish) -> Status
-    ensures { result ≡ ended_with finish }
-{
-    match finish {
-        Finish::Done(_) => Status::Ok,
-        Finish::Spent(turns) => Status::Unfinished { turns },
-    }
-}
 
 // The sheet that the source's bytes say.
 fn read_items<S: Source>(alloc: Global, order: &Order, source: &mut S) -> Result<Sheet, Status>
@@ -105,13 +81,17 @@ fn replay<S: Source, K: Sink>(
         Ok(sheet) => sheet,
         Err(status) => return status,
     };
-    let Ok((served, finish, rows)) = serve(alloc, &order.cfg, sheet) else {
+    let Ok(given) = world_of(alloc, &order.cfg, &sheet) else {
         return Status::NoMemory;
     };
-    *world = served;
-    match write_lines(alloc, sink, order, world.calls(), rows.as_slice()) {
-        Ok(()) => ended_with(finish),
-        Err(error) => unwritten(error),
+    let Ok(plan) = Plan::of(alloc, sheet) else {
+        return Status::NoMemory;
+    };
+    *world = given;
+    if order.events {
+        serve::<K, Told>(alloc, order, world, plan, sink)
+    } else {
+        serve::<K, Untold>(alloc, order, world, plan, sink)
     }
 }
 
@@ -119,20 +99,21 @@ fn replay<S: Source, K: Sink>(
 /// gives the calls to their seats; makes the turns of its rows in their order, and then rounds of all seats until every call
 /// has ended; and writes a line for each call to the sink, or of made calls their number and seed and how many were answered
 /// in which way; then the map where it is asked for, and a last line with the number of calls, the keys that the pool's
-/// words hold, and the sum of their values. All turns are made before the first line is written. Condition: the world is
-/// blank.
+/// words hold, and the sum of their values. Where events are asked for, the line of each is written right behind its turn;
+/// all other lines come behind the last turn. Condition: the world is blank.
 ///
 /// A seat before an after takes no turn until the after's mark is passed: until its seat's earlier calls have ended, and the
 /// marks of its seat's earlier afters are passed.
 ///
-/// `Usage` comes exactly where the words are refused, and for now where they ask for events; then nothing is read.
-/// `ReadFault` comes only where the source's count of faults rose, `TooLong` exactly where 16,777,217 bytes were taken,
-/// `BadRow` exactly where a row is refused, with the first such row and its cause, and `TooMany` exactly where the rows ask
-/// for too many calls, turns or rows of ranges, or the calls that are made for too many rows. Up to there nothing is written
-/// and the world is blank. `Unfinished` comes exactly where the rounds made 4,096 turns and 100,000 more for each call, and a
-/// call hasn't ended; then a call without an end has the word `pending` in its line, and the last line tells how many have
-/// ended. `WriteFault` comes only where the sink's count rose; what was written is a front of the output. `NoMemory` is
-/// free: nothing was written, or a front of the output.
+/// `Usage` comes exactly where the words are refused; then nothing is read. `ReadFault` comes only where the source's count
+/// of faults rose, `TooLong` exactly where 16,777,217 bytes were taken, `BadRow` exactly where a row is refused, with the
+/// first such row and its cause, and `TooMany` exactly where the rows ask for too many calls, turns or rows of ranges, or the
+/// calls that are made for too many rows. Up to there nothing is written and the world is blank. `Unfinished` comes exactly
+/// where the rounds made 4,096 turns and 100,000 more for each call, a call hasn't ended, and all lines were written; then a
+/// call without an end has the word `pending` in its line, and the last line tells how many have ended. `WriteFault` comes
+/// only where the sink's count rose; what was written is a front of the output, and where the line of an event failed, no
+/// turn is made behind that event's. `NoMemory` is free: nothing was written, or a front of the output in the same way, and
+/// the world is blank, or its book is lawful.
 pub fn replay_top<S: Source, K: Sink>(
     alloc: Global,
     words: &[&str],
@@ -141,9 +122,9 @@ pub fn replay_top<S: Source, K: Sink>(
     sink: &mut K,
 ) -> Status
     requires { IsBlank world.old }
-    ensures { Headline (accepted (map (λ w. w.now) words.now)) world.old world.new (S.left source.old) (S.left source.new) (S.faults source.old) (S.faults source.new) (K.held sink.old) (K.held sink.new) (K.faults sink.old) (K.faults sink.new) result }
+    ensures { Headline (order_of Replay (map (λ w. w.now) words.now)) world.old world.new (S.left source.old) (S.left source.new) (S.faults source.old) (S.faults source.new) (K.held sink.old) (K.held sink.new) (K.faults sink.old) (K.faults sink.new) result }
 {
-    match read_order(alloc, words) {
+    match read_words(alloc, words, Mode::Replay) {
         Ok(order) => replay(alloc, &order, world, source, sink),
         Err(WordFault::Usage) => Status::Usage,
         Err(WordFault::NoMemory) => Status::NoMemory,

@@ -142,7 +142,8 @@ fn refused_words_leave_nothing(rt: HostRuntime) -> Result<(), Fail> {
         &["-h"],
         &[""],
         &["--map=1"],
-        &["--events"],
+        &["--events=1"],
+        &["--events", "--events"],
         &["--make", "0"],
         &["--make", "1000001"],
         &["--make=1", "--seed"],
@@ -200,6 +201,58 @@ fn seats_wait_for_marks(rt: HostRuntime) -> Result<(), Fail> {
 }
 
 // The sheet that stands in the input is never read.
+// The words of a small setting that tell its events.
+const TELLING: [&str; 15] = [
+    "--servers",
+    "1",
+    "--chunks",
+    "4",
+    "--chunk-nodes",
+    "8",
+    "--leaf",
+    "4",
+    "--computes",
+    "1",
+    "--seats",
+    "3",
+    "--cached",
+    "0",
+    "--events",
+];
+
+// A get's events over a fresh pool, and its lines.
+const TOLD: &str =
+    "event,0,load,1,1\nevent,0,load,89,0\nevent,0,load,88,0\nevent,0,load,87,0\nevent,0,load,86,0\n\
+event,0,load,85,0\nevent,0,load,84,0\nevent,0,load,83,0\nevent,0,load,82,0\nevent,0,load,81,0\nevent,0,load,80,0\n\
+event,0,load,79,0\nevent,0,load,78,0\nevent,0,load,77,0\nevent,0,load,76,0\nevent,0,load,75,0\nevent,0,load,74,0\n\
+event,0,load,73,0\nevent,0,load,72,0\nevent,0,load,71,0\nevent,0,load,70,18446744073709551615\nevent,0,load,69,0\n\
+event,0,load,68,0\nevent,0,load,67,0\n1,0,get,5,,none,,0\nend,1,0,0\n";
+
+#[test]
+fn events_are_told(rt: HostRuntime) -> Result<(), Fail> {
+    let alloc = rt.alloc();
+    assert!(rt; answers(alloc, &TELLING, "get,0,5,\n", TOLD)?);
+    Ok(())
+}
+
+// Whether a run whose write of this number fails is told so, and leaves a front of what is written where none fails. Behind
+// the last event's line its call has ended.
+fn stops_at(alloc: Global, write: u64) -> Result<bool, AllocError> {
+    let input = b"get,0,5,\n".to_vec(alloc)?;
+    let ended = replay_in_pieces(alloc, &TELLING, input, 4096, 0, write)?;
+    let front = TOLD.as_bytes().starts_with(ended.written.as_slice());
+    let over = turns::have_ended(ended.world.calls());
+    Ok(ended.status == Status::WriteFault && front && over == (write >= 24))
+}
+
+#[test]
+fn a_run_stops_at_the_line_of_an_event(rt: HostRuntime) -> Result<(), Fail> {
+    for write in 0..26 {
+        assert!(rt; stops_at(rt.alloc(), write + 1)?);
+    }
+    Ok(())
+}
+
 #[test]
 fn made_calls_are_counted(rt: HostRuntime) -> Result<(), Fail> {
     let alloc = rt.alloc();

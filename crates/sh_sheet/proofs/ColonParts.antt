@@ -1,6 +1,6 @@
 -- Where a text is cut at its colons.
-use Rattle.std.proofs.Common.{ℕ, ◌≡◌, ◌<◌, ◌≤◌, ◌+◌, ◌-◌, ◌==◌, Bool, true, false, List, [], ◌∷◌, length, take, drop, Option, Some, None, refl, sym, ap, ◌∙◌, arith, ◌++◌, option_map, append_assoc}
-use Rattle.std.{specs.List.{position, position_or_len}, proofs.lemmas.{Bool.Decides.{nat_tests}, List.{append-nil, take_rest, Splits.{slice_split_first, length-slice_split}}, Option.{cond_some}}}
+use Rattle.std.proofs.Common.{rules, ℕ, ◌≡◌, ◌<◌, ◌≤◌, ◌+◌, ◌-◌, ◌==◌, Bool, List, [], ◌∷◌, length, take, drop, Option, Some, None, refl, arith, ◌++◌, option_map, append_assoc}
+use Rattle.std.{specs.List.{position, position_or_len}, proofs.lemmas.{Bool.Decides.{nat_tests}, List.{take_rest, Splits.{slice_split_first, length-slice_split}}, Option.{cond_some}}}
 use Rattle.sh_sheet.specs.{Number.{number_of}, Row.{colon_parts, joined, numbers_of, value_in}}
 
 -- a byte that is a colon
@@ -9,8 +9,7 @@ is_colon b = b == 58
 
 no_part_more : (b : ℕ) (bs : List ℕ) (t : Bool) → is_colon b ≡ t → length (b ∷ bs) ≤ position_or_len is_colon (b ∷ bs)
     → (length bs ≤ position_or_len is_colon bs → colon_parts bs ≡ bs ∷ []) → colon_parts (b ∷ bs) ≡ (b ∷ bs) ∷ []
-no_part_more b bs true e h rest = let none = simp e at h in absurd (omega arith)
-no_part_more b bs false e h rest = let more = simp e at h in simp (e, rest (omega arith))
+no_part_more b bs t e h rest = search rules
 
 no_part : (text : List ℕ) → length text ≤ position_or_len is_colon text → colon_parts text ≡ text ∷ []
 no_part [] h = refl
@@ -37,19 +36,12 @@ pub record IsCut (text ns : List ℕ) (at : ℕ) (left : List (List ℕ)) : Type
   pub numbers : numbers_of (colon_parts text) ≡ behind ns (numbers_of left)
 
 behind_more : (ns : List ℕ) (n : ℕ) (o : Option (List ℕ)) → behind ns (joined (Some n) o) ≡ behind (ns ++ n ∷ []) o
-behind_more ns n None = refl
-behind_more ns n (Some ms) = ap (λ t. Some t) (sym (append_assoc ns (n ∷ []) ms))
+behind_more ns n o = search (rules, append_assoc)
 
 -- one number more
 pub cut_more : (text ns part : List ℕ) (at n : ℕ) (left more : List (List ℕ)) → IsCut text ns at left → left ≡ part ∷ more → Some n ≡ number_of part → IsCut text (ns ++ n ∷ []) (at + 1) more
-cut_more text ns part at n left more was parts number = record {
-  count = was.count ∙ rw parts (omega arith);
-  numbers = was.numbers ∙ rw (parts, ← number) (behind_more ns n (numbers_of more));
-}
+cut_more text ns part at n left more was parts number = search (rules, behind_more)
 
 -- more parts than words; a text has at least one part
 pub too_many_parts : (text ns more : List ℕ) (at count : ℕ) → IsCut text ns at (colon_parts more) → at ≡ count → None ≡ value_in count text
-too_many_parts text ns more at count was full =
-    let all = was.count in
-    let some = length-slice_split is_colon more in
-    grind (arith, nat_tests)
+too_many_parts text ns more at count was full = search (rules, length-slice_split)

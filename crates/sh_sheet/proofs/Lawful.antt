@@ -1,29 +1,25 @@
 -- The items of a sheet are lawful.
-use Rattle.std.proofs.Common.{ℕ, ◌≡◌, ◌+◌, ◌<◌, ◌^◌, Bool, true, false, not, List, [], ◌∷◌, ◌++◌, length, Option, Some, None, Ok, Err, option_map, refl, sym, ap, subst, ◌∙◌, ⊎_elim, arith}
+use Rattle.std.proofs.Common.{rules, ℕ, ◌≡◌, ◌+◌, ◌<◌, ◌^◌, Bool, true, false, not, List, [], ◌∷◌, ◌++◌, length, Option, Some, None, Ok, option_map, refl, sym, ap, subst, ◌∙◌, ⊎_elim, arith}
 use Rattle.std.{specs.{Prelude.{All, Result, if◌then◌else◌, nat_lt}, List.{Contains}}, proofs.lemmas.{Bool.{eqb-true, Decides.{nat_tests}}, Cmp.{nat_eq_equiv}, List.{take-append-le}}}
 use Rattle.std.proofs.{Math.Seq.{take-append_seam}, lemmas.{List.Elements.{All-nil, All-push}, Map.Views.{Contains-from_any, list_any-from_Contains}, Option.{cond_some, same_Some, slice_get_within}}}
 use Rattle.sh_logic.proofs.Lists.{slice_get-push_back}
 use Rattle.sh_base.specs.{Setting.{all_seats}, declared.config.ConfigParts.{ConfigParts}}
 use Rattle.sh_map.specs.{declared.call.Call.TheVariants.{Get, Put, Del, Range}, Calls.{IsKey}}
 use Rattle.sh_sheet.specs.Number.{number_of}
-use Rattle.sh_sheet.specs.Row.{joined, numbers_of, value_in, colon_parts, if_empty, is_key, is_here, is_marked, has_key, has_bounds, has_mark, op_of, deed_of, by_seat, or_cause, tested, item_in, is_heading}
+use Rattle.sh_sheet.specs.Row.{joined, numbers_of, value_in, if_empty, is_key, is_here, is_marked, has_key, has_bounds, has_mark, op_of, deed_of, by_seat, or_cause, tested, item_in, is_heading}
 use Rattle.sh_sheet.specs.{Sheet.{Reading, Items, Refused, marks_in, row_then, rows_from, rows_in, IsLawfulItem, IsLawfulMark, AreMarksLawful}, declared.status.RowCause.{RowCause}}
 use Rattle.sh_sheet.specs.declared.{status.RowCause.TheVariants.{BadOp, TurnNotHere, BadNumber, BadSeat, BadKey, BadBounds, BadMark}, item.{Mode.{Mode}, Item.{Item}}, deed.{Op.{Op}, Deed.{Deed}}}
 use Rattle.sh_sheet.specs.declared.deed.Deed.TheVariants.{Ask, Mark, After, Turn}
 use Rattle.sh_sheet.specs.declared.deed.Op.TheVariants as op
 
 then_some : {A : Type 0} (b : Bool) (o : Option A) (y : A) → (if b then o else None) ≡ Some y → (b ≡ true) × (o ≡ Some y)
-then_some true o y e = (refl, e)
-then_some false o y e = cc
+then_some h0 o y e = search rules
 
 mapped_some : {A B : Type 0} (f : A → B) (o : Option A) (y : B) → option_map f o ≡ Some y → (x : A) × (o ≡ Some x) × (f x ≡ y)
-mapped_some f None y e = cc
-mapped_some f (Some x) y e = (x, refl, same_Some _ _ e)
+mapped_some f h1 y e = search (rules, same_Some)
 
 length-joined : (o : Option ℕ) (os : Option (List ℕ)) (ns : List ℕ) (k : ℕ) → ((ms : List ℕ) → os ≡ Some ms → length ms ≡ k) → joined o os ≡ Some ns → length ns ≡ k + 1
-length-joined None os ns k h e = cc
-length-joined (Some n) None ns k h e = cc
-length-joined (Some n) (Some ms) ns k h e = let long = h ms refl in ap length (sym (same_Some _ _ e)) ∙ omega arith
+length-joined o os ns k h e = search (rules, same_Some)
 
 length-numbers_of : (parts : List (List ℕ)) (ns : List ℕ) → numbers_of parts ≡ Some ns → length ns ≡ length parts
 length-numbers_of [] ns e = ap length (sym (same_Some _ _ e))
@@ -31,10 +27,7 @@ length-numbers_of (part ∷ parts) ns e = length-joined (number_of part) (number
 
 -- a value has as many words as it is to have
 pub length-value_in : (count : ℕ) (text ns : List ℕ) → value_in count text ≡ Some ns → length ns ≡ count
-length-value_in count text ns e =
-    let parts = then_some _ _ _ e in
-    let counted : length (colon_parts text) ≡ count = grind (arith, nat_tests) in
-    length-numbers_of (colon_parts text) ns parts.1 ∙ counted
+length-value_in count text ns e = search (rules, then_some, length-numbers_of)
 
 -- an item of the setting, and lawful behind these marks
 record IsLawful (p : ConfigParts) (marks : List ℕ) (item : Item) : Type 0 where
@@ -88,12 +81,10 @@ deed_lawful p marks seat (After n) fits is_seat keyed bounds mark = record { ask
 deed_lawful p marks seat (Turn n) fits is_seat keyed bounds mark = record { asks = is_seat; mark = tt }
 
 given_ok : {A B : Type 0} (o : Option A) (why : RowCause) (next : A → Result B RowCause) (y : B) → or_cause o why next ≡ Ok y → (x : A) × (o ≡ Some x) × (next x ≡ Ok y)
-given_ok None why next y e = cc
-given_ok (Some x) why next y e = (x, refl, e)
+given_ok h0 why next y e = search rules
 
 tested_ok : {B : Type 0} (holds : Bool) (why : RowCause) (next : Result B RowCause) (y : B) → tested holds why next ≡ Ok y → (holds ≡ true) × (next ≡ Ok y)
-tested_ok true why next y e = (refl, e)
-tested_ok false why next y e = cc
+tested_ok h0 why next y e = search rules
 
 ok_is : {B : Type 0} (x y : B) (r : Result B RowCause) → r ≡ Ok x → r ≡ Ok y → x ≡ y
 ok_is x y r e f = cc
@@ -163,8 +154,7 @@ same_items h k xs ys e = ap items_of e
 
 row_then_lawful : (p : ConfigParts) (h k : Bool) (i : ℕ) (r : Result Item RowCause) (next : Item → Reading) (all : List Item)
     → ((item : Item) → r ≡ Ok item → next item ≡ Items k all → AreLawful p all) → row_then h i r next ≡ Items k all → AreLawful p all
-row_then_lawful p h k i (Ok item) next all more e = more item refl e
-row_then_lawful p h k i (Err why) next all more e = cc
+row_then_lawful p h k i r next all more e = search rules
 
 rows_from_lawful : (p : ConfigParts) (mode : Mode) (h k : Bool) (found : List Item) (rows : List (List (List ℕ))) (all : List Item) → AreLawful p found → rows_from p mode h found rows ≡ Items k all → AreLawful p all
 rows_from_lawful p mode h k found [] all was e = subst (AreLawful p) (same_items h k found all e) was
@@ -176,8 +166,7 @@ none_lawful : (p : ConfigParts) → AreLawful p []
 none_lawful p = record { each = All-nil (IsLawfulItem p); marks = λ i item at. cc }
 
 either_lawful : (p : ConfigParts) (mode : Mode) (b k : Bool) (all rows : List (List (List ℕ))) (found : List Item) → (if b then rows_from p mode true [] rows else rows_from p mode false [] all) ≡ Items k found → AreLawful p found
-either_lawful p mode true k all rows found e = rows_from_lawful p mode true k [] rows found (none_lawful p) e
-either_lawful p mode false k all rows found e = rows_from_lawful p mode false k [] all found (none_lawful p) e
+either_lawful p mode b k all rows found e = search (rules, rows_from_lawful, none_lawful)
 
 -- the items of a sheet are lawful
 pub rows_lawful : (p : ConfigParts) (mode : Mode) (k : Bool) (rows : List (List (List ℕ))) (found : List Item) → rows_in p mode rows ≡ Items k found → AreLawful p found

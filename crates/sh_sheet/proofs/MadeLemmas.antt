@@ -1,10 +1,10 @@
 -- The made calls: one call more, and that they are lawful and few.
-use Rattle.std.proofs.Common.{ℕ, zero, suc, ◌≡◌, ◌≤◌, ◌<◌, ◌+◌, ◌-◌, ◌/◌, ◌%◌, ◌^◌, Bool, true, false, List, [], ◌∷◌, ◌++◌, length, map, take, set, Some, subst, refl, sym, ap, ◌∙◌, arith, add-one, mod-lt, lt_of_not-le}
-use Rattle.std.{specs.{Prelude.{All, nat_le, if◌then◌else◌}, List.{fold, range_with_len, slice_get, sum_by}}, proofs.lemmas.List.{take_more_set, Elements.{All-cons, All-nil}}}
+use Rattle.std.proofs.Common.{rules, ℕ, zero, suc, ◌≡◌, ◌≤◌, ◌<◌, ◌+◌, ◌-◌, ◌%◌, Bool, List, [], ◌∷◌, ◌++◌, length, map, take, set, Some, subst, refl, sym, ap, ◌∙◌, arith, add-one, mod-lt, lt_of_not-le}
+use Rattle.std.{specs.{Prelude.{All, if◌then◌else◌}, List.{fold, range_with_len, slice_get, sum_by}}, proofs.lemmas.List.{take_more_set, Elements.{All-cons, All-nil}}}
 use Rattle.std.proofs.lemmas.{List.FromFn.{length-range_with_len, map-range_with_len_more}, Option.{same_Some}}
 use Rattle.sh_base.specs.{declared.config.ConfigParts.{ConfigParts}, Setting.{all_seats, IsSetting}}
 use Rattle.sh_map.specs.{declared.call.Call.{Call, TheVariants.{Get, Put, Del, Range}}, Calls.{IsInRange}}
-use Rattle.sh_sheet.specs.Generate.{key_from, made_call, made_item, made_items, next_number, drawn_number}
+use Rattle.sh_sheet.specs.Generate.{made_call, made_item, made_items, next_number, drawn_number}
 use Rattle.sh_sheet.specs.{Sheet.{AreFew, AreMarksLawful, IsLawfulItem, IsLawfulMark, item_calls, most_rows, rows_of, item_turns}, declared.item.Item.{Item, TheVariants.{Ask}}}
 
 -- numbers from a on, and one more
@@ -46,20 +46,11 @@ module _ (p : ConfigParts) (n seed : ℕ) where
 
   call_in_range : (one two three : Bool) (key : ℕ) (value : List ℕ) → 1 ≤ key → key ≤ 1000000 → length value ≡ p.value_words
       → IsInRange p (if one then Put key value else if two then Get key else if three then Del key else Range key (key + 16))
-  call_in_range true two three key value low high long = ((low, omega arith), long)
-  call_in_range false true three key value low high long = (low, omega arith)
-  call_in_range false false true key value low high long = (low, omega arith)
-  call_in_range false false false key value low high long = ((low, omega arith), omega arith, omega arith)
+  call_in_range one two three key value low high long = search rules
 
   -- a made call is by a seat of the setting, and in range
   item_lawful : IsSetting p → 1 ≤ n → n ≤ 1000000 → (i : ℕ) → IsLawfulItem p (made_item p n seed i)
-  item_lawful is low high i =
-      let seats : 0 < all_seats p = grind (arith, is.ranged.computes.0, is.ranged.seats.0) in
-      let x : ℕ = drawn_number seed i in
-      let below : x / 2 ^ 33 % n < n = mod-lt (x / 2 ^ 33) (omega arith) in (
-        mod-lt (i - 1) seats,
-        call_in_range (nat_le (x / 2 ^ 60) 7) (nat_le (x / 2 ^ 60) 12) (nat_le (x / 2 ^ 60) 14) (key_from n x) (range_with_len i p.value_words) (omega arith) (omega arith) (length-range_with_len i p.value_words),
-      )
+  item_lawful is low high i = search (rules, mod-lt, call_in_range, length-range_with_len)
 
   all_lawful : IsSetting p → 1 ≤ n → n ≤ 1000000 → (is : List ℕ) → All (IsLawfulItem p) (map (made_item p n seed) is)
   all_lawful set low high [] = All-nil (IsLawfulItem p)

@@ -1,5 +1,5 @@
 -- The records of a text from a state on, one by one.
-use Rattle.std.proofs.Common.{ℕ, zero, suc, ◌≡◌, ◌≤◌, ◌<◌, ◌+◌, ◌-◌, Bool, true, false, List, [], ◌∷◌, ◌++◌, length, Option, Some, None, refl, sym, ap, subst, ◌∙◌, inl, arith, add-one}
+use Rattle.std.proofs.Common.{rules, ℕ, zero, suc, ◌≡◌, ◌≤◌, ◌<◌, ◌+◌, ◌-◌, Bool, true, false, List, [], ◌∷◌, ◌++◌, length, Option, Some, None, refl, sym, ap, subst, ◌∙◌, inl, arith, add-one}
 use Rattle.std.specs.Prelude.{if◌then◌else◌}
 use Rattle.csv.specs.Machine.{Read, next_record, step, is_end, fields_after, field_after, ends_at_end}
 use Rattle.csv.specs.Reading.{records_from, records_next, default_config, ReadRecord, Ready, Reached, source_of, reader_config, reader_state, reader_trim, took_first}
@@ -137,5 +137,4 @@ reading_more left a b n m rows fields was took first turns =
 -- after the last record
 pub reading_end : {R : Type 0} (left : R → Option (List ℕ)) (a b : Reader R) (n : ℕ) (rows : List (List (List ℕ))) (fields : List (List ℕ))
     → IsReading left a n rows → ReadRecord left a b false fields → rows ≡ []
-reading_end left a b n rows fields was none =
-    was.whole ∙ records_end a.state was.rest (rows-end left a b fields default_config was.rest was.config was.known none)
+reading_end left a b n rows fields was none = search (rules, records_end, rows-end)

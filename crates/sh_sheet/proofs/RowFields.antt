@@ -1,5 +1,5 @@
 -- The fields of a row, one by one.
-use Rattle.std.proofs.Common.{ℕ, zero, suc, ◌≡◌, ◌≢◌, List, [], ◌∷◌, length, get_or, Some, None, Err, refl, arith, false}
+use Rattle.std.proofs.Common.{rules, ℕ, zero, suc, ◌≡◌, ◌≢◌, List, [], ◌∷◌, length, get_or, Some, None, Err, refl, arith, false}
 use Rattle.csv.specs.Records.{field_at}
 use Rattle.sh_base.specs.declared.config.ConfigParts.{ConfigParts}
 use Rattle.sh_sheet.specs.{Row.{item_in, is_heading}, declared.{item.Mode.{Mode}, status.RowCause.TheVariants.{FieldCount}}}
@@ -29,17 +29,7 @@ four (op ∷ seat ∷ a ∷ b ∷ c ∷ more) h = absurd (omega arith)
 
 -- any other number of fields is refused, and is no heading
 pub not_four : (p : ConfigParts) (mode : Mode) (marks : List ℕ) (fields : List (List ℕ)) → length fields ≢ 4 → Err FieldCount ≡ item_in p mode marks fields
-not_four p mode marks [] h = refl
-not_four p mode marks (op ∷ []) h = refl
-not_four p mode marks (op ∷ seat ∷ []) h = refl
-not_four p mode marks (op ∷ seat ∷ a ∷ []) h = refl
-not_four p mode marks (op ∷ seat ∷ a ∷ b ∷ []) h = absurd (h refl)
-not_four p mode marks (op ∷ seat ∷ a ∷ b ∷ c ∷ more) h = refl
+not_four p mode marks fields h = search rules
 
 pub not_four_heading : (fields : List (List ℕ)) → length fields ≢ 4 → false ≡ is_heading fields
-not_four_heading [] h = refl
-not_four_heading (op ∷ []) h = refl
-not_four_heading (op ∷ seat ∷ []) h = refl
-not_four_heading (op ∷ seat ∷ a ∷ []) h = refl
-not_four_heading (op ∷ seat ∷ a ∷ b ∷ []) h = absurd (h refl)
-not_four_heading (op ∷ seat ∷ a ∷ b ∷ c ∷ more) h = refl
+not_four_heading fields h = search rules

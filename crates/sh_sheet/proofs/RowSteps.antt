@@ -1,5 +1,5 @@
 -- The reading of a sheet, row by row.
-use Rattle.std.{proofs.Common.{ℕ, ◌≡◌, ◌<◌, Bool, true, false, List, [], ◌∷◌, Option, ◌∙◌, ap, subst, sym, refl, arith}, specs.{Prelude.{Result, MatchResult}, Result.{IsErrAnd}}}
+use Rattle.std.{proofs.Common.{rules, ℕ, ◌≡◌, ◌<◌, Bool, true, false, List, [], ◌∷◌, Option, ◌∙◌, ap, subst, sym, arith}, specs.{Prelude.{Result, MatchResult}, Result.{IsErrAnd}}}
 use Rattle.std.proofs.lemmas.Result.{err_from_is_err_and}
 use Rattle.csv.specs.{Reading.{ReadRecord, took_first}, declared.reader.Reader.{Reader}}
 use Rattle.sh_base.specs.declared.config.ConfigParts.{ConfigParts}
@@ -29,9 +29,7 @@ taking_stops left p mode bytes h found a b n row why was took first fault =
     subst (λ (r : Reading). IsFault p r why) (sym (was.whole ∙ ap (rows_behind p mode h found) is)) (fault rest)
 
 none_behind : (p : ConfigParts) (mode : Mode) (heading : Bool) (found : List Item) → rows_behind p mode heading found [] ≡ Items heading found
-none_behind p mode false [] = refl
-none_behind p mode false (item ∷ found) = refl
-none_behind p mode true found = refl
+none_behind p mode heading found = search rules
 
 -- after the last row
 pub taking_ends : {R : Type 0} (left : R → Option (List ℕ)) (p : ConfigParts) (mode : Mode) (bytes : List ℕ) (h : Bool) (found : List Item) (a b : Reader R) (n : ℕ) (row : List (List ℕ))
@@ -41,6 +39,4 @@ taking_ends left p mode bytes h found a b n row was none =
 
 -- a fault that a call passes on
 pub fault_kept : {T : Type 0} (r : Result T SheetFault) (p : ConfigParts) (reading : Reading) (why : SheetFault) (P : T → Type 0) → IsErrAnd r (λ e. e ≡ why) → IsFault p reading why → MatchResult r P (IsFault p reading)
-fault_kept r p reading why P is fault =
-    let failed = err_from_is_err_and r is in
-    subst (λ s. MatchResult s P (IsFault p reading)) (sym failed.1) (subst (IsFault p reading) (sym failed.2) fault)
+fault_kept r p reading why h4 is fault = search (rules, err_from_is_err_and)

@@ -1,5 +1,5 @@
 -- Each row is served or refused by one of its tests.
-use Rattle.std.{proofs.Common.{ℕ, ◌≢◌, Bool, true, false, List, [], ◌∷◌, ◌++◌, length, Option, Some, None, Ok, Err}, specs.Prelude.{Result, if◌then◌else◌, nat_lt}}
+use Rattle.std.{proofs.Common.{rules, ℕ, ◌≢◌, Bool, true, false, List, [], ◌∷◌, ◌++◌, length, Option, Some, None, Ok, Err}, specs.Prelude.{Result, if◌then◌else◌, nat_lt}}
 use Rattle.sh_base.specs.{Setting.{all_seats}, declared.config.ConfigParts.{ConfigParts}}
 use Rattle.sh_sheet.specs.{Number.{number_of}, Records.{records_in}, Row.{is_here, has_key, has_bounds, has_mark, op_of, deed_of, by_seat, or_cause, tested, item_in, is_heading}}
 use Rattle.sh_sheet.specs.{Sheet.{Reading, Refused, marks_in, row_then, rows_from, rows_in, sheet_of}, declared.status.RowCause.{RowCause}}
@@ -58,8 +58,7 @@ rows_from_served p mode h n found (row ∷ rows) e =
     (λ item. rows_from_served p mode h n (found ++ item ∷ []) rows) e
 
 either_served : (p : ConfigParts) (mode : Mode) (b : Bool) (n : ℕ) (all rows : List (List (List ℕ))) → (if b then rows_from p mode true [] rows else rows_from p mode false [] all) ≢ Refused n NotYet
-either_served p mode true n all rows e = rows_from_served p mode true n [] rows e
-either_served p mode false n all rows e = rows_from_served p mode false n [] all e
+either_served p mode b n all rows e = search (rules, rows_from_served)
 
 rows_served : (p : ConfigParts) (mode : Mode) (n : ℕ) (rows : List (List (List ℕ))) → rows_in p mode rows ≢ Refused n NotYet
 rows_served p mode n [] e = cc

@@ -1,5 +1,5 @@
 -- An entry in its leaf's words.
-use Rattle.std.proofs.{Common.{◌≡◌, ℕ, ◌+◌, ◌<◌, ◌≤◌, List, length, get_or, take, drop, sym, ap, ◌∙◌, arith}, lemmas.Grind.{same_number_lists}}
+use Rattle.std.proofs.{Common.{rules, ◌≡◌, ℕ, ◌+◌, ◌<◌, ◌≤◌, List, length, get_or, take, drop, sym, ap, ◌∙◌, arith}, lemmas.Grind.{same_number_lists}}
 use Rattle.std.proofs.lemmas.List.{length-take-le, length-drop, get_or-take, get_or-drop}
 use Rattle.sh_base.{specs.{declared.config.ConfigParts.{ConfigParts}, Setting.{node_size}, Layout.{entry_at}}, proofs.LayoutLemmas.{node_size_is, entry_within, entry_size_is}}
 use Rattle.sh_image.{specs.declared.leaf.LeafEntry.{LeafEntry}, proofs.{EntriesLemmas.{length-entries_in}, ReadLemmas.{entry_read}}}
@@ -7,12 +7,7 @@ use Rattle.sh_read.specs.Reading.{IsEntryWord}
 use Rattle.sh_state.specs.Nodes.{standing_entries}
 
 same_take : (n at : ℕ) (a b : List ℕ) → at + n ≤ length a → at + n ≤ length b → ((o : ℕ) → o < n → get_or a (at + o) 0 ≡ get_or b (at + o) 0) → take n (drop at a) ≡ take n (drop at b)
-same_take n at a b long_a long_b same =
-    let la : length (take n (drop at a)) ≡ n = length-take-le n (drop at a) (omega (arith, length-drop at a, long_a)) in
-    let lb : length (take n (drop at b)) ≡ n = length-take-le n (drop at b) (omega (arith, length-drop at b, long_b)) in
-    same_number_lists (take n (drop at a)) (take n (drop at b)) (la ∙ sym lb) (λ k lt.
-    let less : k < n = omega (arith, lt, la) in
-    get_or-take n (drop at a) k 0 less ∙ get_or-drop at a k 0 ∙ same k less ∙ sym (get_or-take n (drop at b) k 0 less ∙ get_or-drop at b k 0))
+same_take n at a b long_a long_b same = search (rules, length-take-le, length-drop, same_number_lists, get_or-take, get_or-drop)
 
 module _ (p : ConfigParts) where
   -- an entry is known by its words

@@ -1,5 +1,5 @@
 -- Two acts of one turn, of which one leaves the nodes and their WRITEs.
-use Rattle.std.{proofs.Common.{◌≡◌, ◌≢◌, ℕ, List, [], ◌∷◌, ◌++◌, refl, ap, sym, ◌∙◌, subst, append-nil, append_assoc}, specs.List.{AllByRecursion}}
+use Rattle.std.{proofs.Common.{◌≡◌, ◌≢◌, ℕ, List, [], ◌++◌, refl, ap, sym, ◌∙◌, subst, append-nil, append_assoc}}
 use Rattle.sh_logic.proofs.Lists.{all_join}
 use Rattle.sh_base.specs.{declared.config.ConfigParts.{ConfigParts}, Layout.{lock_of}}
 use Rattle.sh_map.specs.declared.log.Entry.{Entry}

@@ -1,5 +1,5 @@
 -- Functions that are changed at one number, and what a store leaves of the words that are shown.
-use Rattle.std.proofs.Common.{◌≡◌, ◌≢◌, ℕ, ◌<◌, List, length, get_or, set, refl, ap, sym, ◌∙◌, subst, arith, length-set, get_or-set_same, get_or-set_other, ne_eqb, eq-eqb}
+use Rattle.std.proofs.Common.{rules, ◌≡◌, ◌≢◌, ℕ, ◌<◌, List, length, get_or, set, refl, ap, sym, ◌∙◌, arith, length-set, get_or-set_same, get_or-set_other, ne_eqb, eq-eqb}
 use mathlib.Core.Logic.{dite}
 use native.Mathlib.Decide.{ℕ_discrete}
 use Rattle.sh_base.{specs.{declared.config.ConfigParts.{ConfigParts}, Places.{Site, address, IsSite}}, proofs.PlacesLemmas.{are_places_apart}}
@@ -13,9 +13,7 @@ put_else f n x m ne = rw (ne_eqb m n ne)
 
 -- what holds of a changed function at a number
 pub put_case : {A : Type 0} (P : A → Type 0) (f : ℕ → A) (n : ℕ) (x : A) (m : ℕ) → (m ≡ n → P x) → (m ≢ n → P (f m)) → P (put f n x m)
-put_case P f n x m here away = dite (ℕ_discrete m n)
-    (λ (e : m ≡ n). subst P (sym (ap (put f n x) e ∙ put_here f n x)) (here e))
-    (λ (ne : m ≢ n). subst P (sym (put_else f n x m ne)) (away ne))
+put_case h0 f n x m here away = search (rules, put_here, put_else)
 
 module _ (p : ConfigParts) (words : List ℕ) (f : Site → ℕ) (s : Shows p words f) where
   -- the same words show what is equal place by place

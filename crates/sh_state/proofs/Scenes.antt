@@ -1,11 +1,11 @@
 -- What a scene keeps where its nodes' links only grow.
-use Rattle.std.{proofs.Common.{◌≡◌, ◌≢◌, ◌⊎◌, ℕ, zero, suc, ◌<◌, ◌≤◌, List, [], ◌∷◌, ◌++◌, refl, ap, sym, ◌∙◌, subst, inl, inr, arith, ne_eqb, eq-eqb}, specs.Prelude.{◌-◌, ◌^◌}}
+use Rattle.std.{proofs.Common.{rules, ◌≡◌, ◌≢◌, ◌⊎◌, ℕ, zero, suc, List, [], ◌∷◌, ◌++◌, refl, ap, sym, ◌∙◌, subst, inl, inr, arith, ne_eqb, eq-eqb}}
 use Rattle.sh_base.specs.{declared.config.ConfigParts.{ConfigParts}, Setting.{IsSetting}, Layout.{lock_of}}
 use Rattle.sh_map.specs.declared.log.Entry.{Entry}
 use Rattle.sh_image.{specs.{declared.inner.Pair.{Pair}, Leaf.{leaf_in}, Inner.{inner_in}}, proofs.UntornLemmas.{untorn_spelled, untorn_inner}}
 use Rattle.sh_read.specs.Moments.{Writing, Idle, IsWriting, IsVersioned, IsNodeMoment}
-use Rattle.sh_state.specs.TreeState.{Class, Undrawn, Reserved, Fresh, Linked, LockState, Nobody, Held, Writes, TreeState, writing_of, writing}
-use Rattle.sh_state.specs.{Nodes.{level_in, low_in, high_in, next_in, IsLinked, LeadsTo, standing_pairs, LeadDown, IsStandingLeaf, IsStandingInner, Body, LeadsRight, Sits, Orderly}, Ground.{Ground}}
+use Rattle.sh_state.specs.TreeState.{Undrawn, Fresh, Linked, LockState, Nobody, Held, Writes, TreeState, writing_of, writing}
+use Rattle.sh_state.specs.{Nodes.{level_in, IsLinked, LeadsTo, standing_pairs, LeadDown, IsStandingLeaf, IsStandingInner, Body, LeadsRight, Sits, Orderly}, Ground.{Ground}}
 
 -- what one pair leads to is linked
 pub led_down : (s : TreeState) (l n : ℕ) (pairs : List Pair) → LeadDown s l pairs → LeadsTo pairs n → (a : ℕ) × (s.class n ≡ Linked l a)
@@ -33,19 +33,7 @@ abbrev pub Links : TreeState → TreeState → Type 0
 Links s t = (n level low : ℕ) → s.class n ≡ Linked level low → t.class n ≡ Linked level low
 
 pub linked_is : (l a m b : ℕ) → Linked l a ≡ Linked m b → (l ≡ m) × (a ≡ b)
-linked_is l a m b e = (ap level e, ap low e)
-  where
-    level : Class → ℕ
-    level Undrawn = 0
-    level Reserved = 0
-    level (Fresh i) = 0
-    level (Linked l a) = l
-
-    low : Class → ℕ
-    low Undrawn = 0
-    low Reserved = 0
-    low (Fresh i) = 0
-    low (Linked l a) = a
+linked_is l a m b e = search rules
 
 pub fresh_linked : (i l a : ℕ) → Fresh i ≡ Linked l a → ⊥
 fresh_linked i l a e = cc
@@ -70,17 +58,10 @@ writes_here n i d w = rw (eq-eqb n n refl)
 
 module _ (p : ConfigParts) (s t : TreeState) (on : Links s t) where
   pub links_on : (n : ℕ) → IsLinked (s.class n) → IsLinked (t.class n)
-  links_on n h = go (s.class n) refl h
-    where
-      go : (c : Class) → s.class n ≡ c → IsLinked c → IsLinked (t.class n)
-      go Undrawn e h = absurd h
-      go Reserved e h = absurd h
-      go (Fresh j) e h = absurd h
-      go (Linked l a) e h = subst IsLinked (sym (on n l a e)) tt
+  links_on n h = search rules
 
   pub follows_on : (l high next : ℕ) → LeadsRight s l high next → LeadsRight t l high next
-  follows_on l high next (inl e) = inl e
-  follows_on l high next (inr e) = inr (on next l high e)
+  follows_on l high next h3 = search rules
 
   pub lead_on : (l : ℕ) (pairs : List Pair) → LeadDown s l pairs → LeadDown t l pairs
   lead_on l [] h = tt
@@ -96,25 +77,11 @@ module _ (p : ConfigParts) (s t : TreeState) (on : Links s t) where
 
   -- a node that stands as it did
   pub sits_on : (n l a : ℕ) → t.node n ≡ s.node n → (Body p s l (s.node n) → Body p t l (s.node n)) → Sits p s n l a → Sits p t n l a
-  sits_on n l a e body h =
-      let P : List ℕ → Type 0 = λ ws. (level_in ws ≡ l) × (low_in ws ≡ a) × (a < high_in ws) × (high_in ws ≤ 2 ^ 64 - 1) × LeadsRight t l (high_in ws) (next_in ws) × Body p t l ws in
-      let q : P (t.node n) = subst P (sym e) (h.level_is, h.low_is, h.fences, h.past, follows_on l (high_in (s.node n)) (next_in (s.node n)) h.next, body h.body) in
-      record { real = h.real; level_is = q.0; low_is = q.1; fences = q.2; past = q.3; next = q.4; body = q.5 }
+  sits_on n l a e body h = search (rules, follows_on)
 
   -- a holder whose node stands as it did
   pub orderly_on : (lock : ℕ) (h : LockState) → ((i d n : ℕ) (w : Writing) → h ≡ Writes i d n w → t.node n ≡ s.node n) → Orderly p s lock h → Orderly p t lock h
-  orderly_on lock Nobody e o = tt
-  orderly_on lock (Held owner depth) e o = o
-  orderly_on lock (Writes i d n w) e o = (
-    o.0,
-    let u = o.1 in record {
-      level = u.level;
-      low = u.low;
-      lock_is = u.lock_is;
-      linked = on n u.level u.low u.linked;
-      stores = subst (λ (ws : List ℕ). IsWriting p u.level ws w) (sym (e i d n w refl)) u.stores;
-    },
-  )
+  orderly_on lock h e o = search rules
 
 module _ (p : ConfigParts) (words : List ℕ) (s : TreeState) (set : IsSetting p) (g : Ground p words s) where
   versioned : (l : ℕ) (ws : List ℕ) → level_in ws ≡ l → Body p s l ws → IsVersioned p l ws

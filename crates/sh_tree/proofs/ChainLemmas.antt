@@ -1,5 +1,5 @@
 -- What a tree's levels are like: their nodes rise, and each node's children are some of the level below.
-use Rattle.std.proofs.Common.{◌≡◌, ℕ, zero, suc, ◌+◌, ◌<◌, ◌≤◌, Bool, true, false, List, [], ◌∷◌, ◌++◌, length, get_or, map, drop, refl, sym, ap, subst, ◌∙◌, inl, inr, length-append, arith}
+use Rattle.std.proofs.Common.{rules, ◌≡◌, ℕ, zero, suc, ◌+◌, ◌<◌, ◌≤◌, Bool, true, false, List, [], ◌∷◌, ◌++◌, length, get_or, map, drop, refl, sym, ap, subst, ◌∙◌, inl, inr, length-append, arith}
 use Rattle.std.{specs.List.{concat, AllByRecursion}, proofs.lemmas.List.{get_or-drop}}
 use Rattle.sh_logic.proofs.Lists.{all_join}
 use Rattle.sh_base.specs.{declared.config.ConfigParts.{ConfigParts}, Setting.{nodes, IsNode}, Layout.{node_part}}
@@ -49,11 +49,7 @@ module _ (p : ConfigParts) (words : List ℕ) where
 
   -- and the first alone begins there
   pub first_by_low : (low : ℕ) (ns : List ℕ) (m : ℕ) → IsChain p words low ns → AllByRecursion IsFenced ns → is_in ns m ≡ true → low_at p words m ≡ low → m ≡ first_of ns
-  first_by_low low [] m h f among here = absurd (cc)
-  first_by_low low (n ∷ ns) m h f among here = elim (in_cases n m ns among) [
-    | inl e ↦ sym e
-    | inr rest ↦ absurd (omega (arith, here, h.1, f.0, chain_low (high_at p words n) ns m h.3 f.1 rest))
-  ]
+  first_by_low low ns m h f among here = search (rules, in_cases, chain_low)
 
   -- a chain is known by its first node
   pub chains_are_one : (low other : ℕ) (ns ms : List ℕ) → IsChain p words low ns → IsChain p words other ms → first_of ns ≡ first_of ms → ns ≡ ms
@@ -77,8 +73,7 @@ module _ (p : ConfigParts) (words : List ℕ) where
   ]
 
   rising_new : (n : ℕ) (ns : List ℕ) (b : Bool) → is_in ns n ≡ b → AreRising (low_at p words n + 1) ns → b ≡ false
-  rising_new n ns true is h = absurd (omega (arith, rising_low (low_at p words n + 1) ns n h is))
-  rising_new n ns false is h = refl
+  rising_new n ns b is h = search (rules, rising_low)
 
   pub rising_differ : (low : ℕ) (ns : List ℕ) → AreRising low ns → AreDifferent ns
   rising_differ low [] h = tt
@@ -125,8 +120,7 @@ module _ (p : ConfigParts) (words : List ℕ) where
 
   -- the first pair's child begins where the node does
   first_pair : (low : ℕ) (below : List ℕ) (k : ℕ) (ws : List ℕ) → 1 ≤ length (pairs_in k ws) → separator_at (pairs_in k ws) 0 ≡ low → AllByRecursion (IsChildIn p words below) (pairs_in k ws) → (is_in below (get_or ws 1 0) ≡ true) × (low_at p words (get_or ws 1 0) ≡ low) × (is_in (named_by (pairs_in k ws)) (get_or ws 1 0) ≡ true)
-  first_pair low below zero ws some first h = absurd (omega (arith, some))
-  first_pair low below (suc k) ws some first h = (h.0.among, h.0.low ∙ first, in_head (get_or ws 1 0) (named_by (pairs_in k (drop 2 ws))))
+  first_pair low below k ws some first h = search (rules, in_head)
 
   -- so of the first node of a level it is the first node of the level below
   pub child_first : (level : ℕ) (below ns : List ℕ) → IsChain p words 0 ns → AllByRecursion (IsInnerOf p words level below) ns → IsChain p words 0 below → AllByRecursion IsFenced below → (get_or (node_part p words (first_of ns)) 7 0 ≡ first_of below) × (is_in (children_of p words ns) (first_of below) ≡ true)
@@ -141,33 +135,26 @@ module _ (p : ConfigParts) (words : List ℕ) where
 
   -- ---- the levels
   pub top_chain : (ns : List ℕ) (rest : List (List ℕ)) → AreLevels p words (ns ∷ rest) → IsChain p words 0 ns
-  top_chain ns [] h = h.0
-  top_chain ns (below ∷ rest) h = h.0
+  top_chain ns rest h = search rules
 
   pub top_fenced : (ns : List ℕ) (rest : List (List ℕ)) → AreLevels p words (ns ∷ rest) → AllByRecursion IsFenced ns
-  top_fenced ns [] h = leaves_fenced ns h.1
-  top_fenced ns (below ∷ rest) h = inners_fenced (length (below ∷ rest)) below ns h.1
+  top_fenced ns rest h = search (rules, leaves_fenced, inners_fenced)
 
   pub first_node : (ns : List ℕ) → IsChain p words 0 ns → IsNode p (first_of ns)
-  first_node [] h = absurd (omega (arith, h))
-  first_node (n ∷ ns) h = h.0
+  first_node ns h = search rules
 
   first_leaf_level : (ns : List ℕ) → IsChain p words 0 ns → AllByRecursion (IsLeafOf p words) ns → get_or (node_part p words (first_of ns)) 1 0 ≡ 0
-  first_leaf_level [] h k = absurd (omega (arith, h))
-  first_leaf_level (n ∷ ns) h k = leaf_level n k.0
+  first_leaf_level ns h k = search (rules, leaf_level)
 
   first_inner_level : (level : ℕ) (below ns : List ℕ) → IsChain p words 0 ns → AllByRecursion (IsInnerOf p words level below) ns → 1 ≤ get_or (node_part p words (first_of ns)) 1 0
-  first_inner_level level below [] h k = absurd (omega (arith, h))
-  first_inner_level level below (n ∷ ns) h k = inner_level level below n k.0
+  first_inner_level level below ns h k = search (rules, inner_level)
 
   -- the level word of a level's first node, and its first child, tell whether there is a level below and where it begins
   pub leaf_first : (ns : List ℕ) → AreLevels p words (ns ∷ []) → get_or (node_part p words (first_of ns)) 1 0 ≡ 0
   leaf_first ns h = first_leaf_level ns h.0 h.1
 
   pub inner_first : (ns below : List ℕ) (rest : List (List ℕ)) → AreLevels p words (ns ∷ below ∷ rest) → (1 ≤ get_or (node_part p words (first_of ns)) 1 0) × (get_or (node_part p words (first_of ns)) 7 0 ≡ first_of below) × IsNode p (first_of below)
-  inner_first ns below rest h =
-      let next = top_chain below rest h.2 in
-      (first_inner_level (length (below ∷ rest)) below ns h.0 h.1, (child_first (length (below ∷ rest)) below ns h.0 h.1 next (top_fenced below rest h.2)).0, first_node below next)
+  inner_first ns below rest h = search (rules, top_chain, first_inner_level, child_first, top_fenced, first_node)
 
   -- words have one tree's levels
   levels_are_one : (a b : List (List ℕ)) → AreLevels p words a → AreLevels p words b → first_of (top_of a) ≡ first_of (top_of b) → a ≡ b

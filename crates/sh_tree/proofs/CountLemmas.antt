@@ -1,5 +1,5 @@
 -- The nodes that aren't named: of each level as many as it has more nodes than the level above has pairs.
-use Rattle.std.proofs.Common.{◌≡◌, ℕ, zero, suc, ◌+◌, ◌-◌, ◌*◌, ◌<◌, min, ◌≤◌, List, [], ◌∷◌, ◌++◌, length, map, drop, get_or, take, refl, sym, ap, subst, ◌∙◌, length-append, arith}
+use Rattle.std.proofs.Common.{rules, ◌≡◌, ℕ, zero, suc, ◌+◌, ◌-◌, ◌*◌, ◌<◌, min, ◌≤◌, List, [], ◌∷◌, ◌++◌, length, map, drop, get_or, take, sym, ap, subst, ◌∙◌, length-append, arith}
 use Rattle.std.{specs.List.{concat, AllByRecursion}, proofs.{lemmas.List.{length-map, take_more, drop_more, drop_all}, Math.Nat.{min-eq_left}}}
 use Rattle.sh_base.specs.{declared.config.ConfigParts.{ConfigParts}, Layout.{node_part}}
 use Rattle.sh_image.proofs.InnerLemmas.{length-pairs_in}
@@ -31,12 +31,10 @@ module _ (p : ConfigParts) (words : List ℕ) where
       omega (arith, here, unnamed_is_left (children_of p words ns) below (length (children_of p words ns)) rest next h.2 behind)
 
   one_less : (ns : List ℕ) → outside [] (drop 1 ns) ≡ length ns - 1
-  one_less [] = refl
-  one_less (n ∷ ns) = omega (arith, outside_none ns)
+  one_less ns = search (rules, outside_none)
 
   pub unposted_left : (levels : List (List ℕ)) → IsTree p words levels → unposted_in p words levels ≡ left_over 1 levels
-  unposted_left [] h = absurd h.lawful
-  unposted_left (ns ∷ rest) h = unnamed_is_left [] ns 1 rest (one_less ns) h.lawful h.apart
+  unposted_left levels h = search (rules, unnamed_is_left, one_less)
 
   pub left_few : (named : ℕ) (levels : List (List ℕ)) → left_over named levels ≤ length (concat levels)
   left_few named [] = omega arith
@@ -76,8 +74,7 @@ module _ (p : ConfigParts) (words : List ℕ) where
   level_few (c ∷ r) (suc i) = omega (arith, level_few r i, length-append c (concat r))
 
   left_on : (level : List ℕ) (rest : List (List ℕ)) (named more count total : ℕ) → AreLevels p words (level ∷ rest) → ((above : ℕ) (below : List ℕ) → AllByRecursion (IsInnerOf p words above below) level → more ≡ length (children_of p words level)) → count + left_over named (level ∷ rest) ≡ total → count + (length level - named) + left_over more rest ≡ total
-  left_on level [] named more count total h pairs so_far = omega (arith, so_far)
-  left_on level (below ∷ rest) named more count total h pairs so_far = rw (pairs (length (below ∷ rest)) below h.1) (omega (arith, so_far))
+  left_on level rest named more count total h pairs so_far = search rules
 
   pub left_more : (levels : List (List ℕ)) (i named more count total : ℕ) (level : List ℕ) → AreLevels p words levels → i < length levels → level ≡ get_or levels i [] → ((above : ℕ) (below : List ℕ) → AllByRecursion (IsInnerOf p words above below) level → more ≡ length (children_of p words level)) → count + left_over named (drop i levels) ≡ total → count + (length level - named) + left_over more (drop (i + 1) levels) ≡ total
   left_more levels i named more count total level h below is pairs so_far =

@@ -1,5 +1,5 @@
 -- The map that the leaves hold, leaf by leaf.
-use Rattle.std.proofs.Common.{◌≡◌, ◌⊎◌, ℕ, zero, suc, ◌+◌, ◌-◌, ◌<◌, ◌≤◌, Bool, true, false, Some, None, List, [], ◌∷◌, ◌++◌, length, get_or, eqb, drop, take, refl, sym, ap, subst, ◌∙◌, inl, inr, arith}
+use Rattle.std.proofs.Common.{rules, ◌≡◌, ◌⊎◌, ℕ, zero, suc, ◌+◌, ◌-◌, ◌<◌, ◌≤◌, Bool, Some, None, List, [], ◌∷◌, ◌++◌, length, get_or, eqb, drop, take, refl, sym, ap, subst, ◌∙◌, inl, inr, arith}
 use Rattle.std.{specs.{Prelude.{slice_get}, List.{AllByRecursion}, Ordering.{nat_cmp}, Cmp.{nat_cmp_total}, FinMap.{find, from_entries, get-from_entries}}, proofs.lemmas.Bool.{cases_eq, cases_lt}}
 use Rattle.std.proofs.lemmas.{List.{drop_more, append-nil, take_more, Concat.{flat_map-append}}, Option.{get_or_from_slice_get}}
 use Rattle.sh_logic.proofs.Lookups.{find_past, find_before}
@@ -11,8 +11,7 @@ use Rattle.sh_tree.specs.{Nodes.{leaf_at, low_at, high_at}, Tree.{IsChain, IsLea
 
 -- ---- a leaf's entries, from the last to the first
 one_before : (b : Bool) (e : LeafEntry) (es : List LeafEntry) (pairs : List (ℕ × List ℕ)) → eqb e.key 0 ≡ b → pairs_of (e ∷ []) ++ (pairs_of es ++ pairs) ≡ pairs_of (e ∷ es) ++ pairs
-one_before true e es pairs is = rw is refl
-one_before false e es pairs is = rw is refl
+one_before b e es pairs is = search rules
 
 -- one entry more, from behind
 pub adds_before : (es : List LeafEntry) (step at : ℕ) (e : LeafEntry) (old map new : Map) → step < length es → at ≡ length es - 1 - step → slice_get es at ≡ Some e → Adds old (drop (length es - step) es) map → Adds map (e ∷ []) new → Adds old (drop (length es - (step + 1)) es) new

@@ -1,9 +1,9 @@
 -- What a walk along a level, and one down a tree, has gathered so far.
-use Rattle.std.proofs.Common.{◌≡◌, ◌≢◌, ℕ, ◌+◌, ◌<◌, ◌≤◌, List, [], ◌∷◌, ◌++◌, length, get_or, map, refl, sym, ap, subst, ◌∙◌, inl, inr, append_assoc, length-append, arith}
+use Rattle.std.proofs.Common.{rules, ◌≡◌, ◌≢◌, ℕ, ◌+◌, ◌<◌, ◌≤◌, List, [], ◌∷◌, ◌++◌, length, get_or, map, refl, sym, ap, subst, ◌∙◌, inl, inr, append_assoc, length-append, arith}
 use Rattle.std.{proofs.{lemmas.{List.{append-nil, get_or_append_left, map-append, length-map}, Bool.{cases_lt}}, Math.Seq.{get_or-append_seam}}, specs.Prelude.{slice_index}}
 use Rattle.sh_base.specs.{declared.config.ConfigParts.{ConfigParts}, Setting.{nodes, node_size, pool_words, IsNode, IsSetting}}
 use Rattle.sh_base.{proofs.LayoutLemmas.{node_size_is, entry_size_is, entry_at_first, entry_high}, specs.Layout.{root_word, node_part}}
-use Rattle.sh_tree.{specs.{Lists.{first_of, AreNodes}, Nodes.{next_at, high_at}, Tree.{top_of, IsChain, AreLevels, IsTree}}, proofs.ChainLemmas.{top_chain, first_node, leaf_first, inner_first}}
+use Rattle.sh_tree.{specs.{Lists.{first_of, AreNodes}, Nodes.{next_at}, Tree.{top_of, IsChain, AreLevels, IsTree}}, proofs.ChainLemmas.{top_chain, first_node, leaf_first, inner_first}}
 
 -- the nodes of a level so far, and the node that comes next
 pub record IsAlong (p : ConfigParts) (words : List ℕ) (chain so_far : List ℕ) (node : ℕ) : Type 0 where
@@ -54,40 +54,19 @@ gathered_more p count so_far node next some small h = record {
 
 module _ (p : ConfigParts) (words : List ℕ) where
   next_small : (low : ℕ) (ns : List ℕ) → IsChain p words low ns → first_of ns ≤ nodes p
-  next_small low [] h = omega arith
-  next_small low (n ∷ ns) h = h.0.last
+  next_small low ns h = search rules
 
   pub along_none : (first low : ℕ) (chain : List ℕ) → first ≡ first_of chain → IsChain p words low chain → IsAlong p words chain [] first
   along_none first low chain is h = record { rest = chain; low = low; whole = refl; here = is; lawful = h }
 
   pub along_more : (chain so_far : List ℕ) (node next : ℕ) → node ≢ 0 → (next_at p words node ≤ nodes p → next ≡ next_at p words node) → IsAlong p words chain so_far node → IsAlong p words chain (so_far ++ node ∷ []) next
-  along_more chain so_far node next some is h = go h.rest h.low h.whole h.here h.lawful
-    where
-      go : (rest : List ℕ) (low : ℕ) → chain ≡ so_far ++ rest → node ≡ first_of rest → IsChain p words low rest → IsAlong p words chain (so_far ++ node ∷ []) next
-      go [] low whole here lawful = absurd (some here)
-      go (n ∷ rest) low whole here lawful =
-          let leads : next_at p words node ≡ first_of rest = ap (next_at p words) here ∙ lawful.2 in
-          record {
-            rest = rest;
-            low = high_at p words n;
-            whole = whole ∙ sym (append_assoc so_far (n ∷ []) rest) ∙ ap (λ m. (so_far ++ m ∷ []) ++ rest) (sym here);
-            here = is (omega (arith, leads, next_small (high_at p words n) rest lawful.3)) ∙ leads;
-            lawful = lawful.3;
-          }
+  along_more chain so_far node next some is h = search (rules, append_assoc, next_small)
 
   pub along_all : (chain so_far : List ℕ) (node : ℕ) → length chain ≤ nodes p → (node ≢ 0 → nodes p ≤ length so_far) → IsAlong p words chain so_far node → so_far ≡ chain
-  along_all chain so_far node few end h = go h.rest h.low h.whole h.here h.lawful
-    where
-      go : (rest : List ℕ) (low : ℕ) → chain ≡ so_far ++ rest → node ≡ first_of rest → IsChain p words low rest → so_far ≡ chain
-      go [] low whole here lawful = sym (whole ∙ append-nil so_far)
-      go (n ∷ rest) low whole here lawful = absurd (omega (arith, end (λ z. omega (arith, z, here, lawful.0.first)), ap length whole, length-append so_far (n ∷ rest)))
+  along_all chain so_far node few end h = search (rules, append-nil, length-append)
 
   pub down_none : (levels : List (List ℕ)) (node : ℕ) → IsTree p words levels → (slice_index words root_word ≤ nodes p → node ≡ slice_index words root_word) → IsDown p words levels [] node
-  down_none levels node h is = record { rest = levels; done = []; whole = refl; firsts = refl; here = is (omega (arith, h.root, root_small levels h.lawful)) ∙ h.root; lawful = λ ne. h.lawful }
-    where
-      root_small : (levels : List (List ℕ)) → AreLevels p words levels → first_of (top_of levels) ≤ nodes p
-      root_small [] h = absurd h
-      root_small (c ∷ rest) h = (first_node p words c (top_chain p words c rest h)).last
+  down_none levels node h is = search (rules, first_node, top_chain)
 
   pub down_more : (levels : List (List ℕ)) (so_far : List ℕ) (node child : ℕ) → node ≢ 0 → (get_or (node_part p words node) 1 0 ≡ 0 → child ≡ 0) → (get_or (node_part p words node) 1 0 ≢ 0 → get_or (node_part p words node) 7 0 ≤ nodes p → child ≡ get_or (node_part p words node) 7 0) → IsDown p words levels so_far node → IsDown p words levels (so_far ++ node ∷ []) child
   down_more levels so_far node child some leaf inner h = go h.rest h.done h.whole h.firsts h.here h.lawful
@@ -125,10 +104,4 @@ module _ (p : ConfigParts) (words : List ℕ) where
           }
 
   pub down_all : (levels : List (List ℕ)) (so_far : List ℕ) (node : ℕ) → length levels ≤ nodes p → (node ≢ 0 → nodes p ≤ length so_far) → IsDown p words levels so_far node → so_far ≡ map first_of levels
-  down_all levels so_far node few end h = go h.rest h.done h.whole h.firsts h.here h.lawful
-    where
-      go : (rest done : List (List ℕ)) → levels ≡ done ++ rest → so_far ≡ map first_of done → node ≡ first_of (top_of rest) → (rest ≢ [] → AreLevels p words rest) → so_far ≡ map first_of levels
-      go [] done whole firsts here lawful = firsts ∙ ap (map first_of) (sym (whole ∙ append-nil done))
-      go (c ∷ rest) done whole firsts here lawful =
-          let first = first_node p words c (top_chain p words c rest (lawful (λ e. absurd (cc)))) in
-          absurd (omega (arith, end (λ z. omega (arith, z, here, first.first)), ap length whole, length-append done (c ∷ rest), ap length firsts, length-map done first_of))
+  down_all levels so_far node few end h = search (rules, append-nil, first_node, top_chain, length-append, length-map)

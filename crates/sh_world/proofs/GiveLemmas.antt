@@ -1,5 +1,5 @@
 -- A world whose pool was just laid, and one where a seat is given a call.
-use Rattle.std.proofs.Common.{◌≡◌, ℕ, zero, suc, ◌+◌, ◌*◌, ◌<◌, ◌≤◌, List, [], ◌∷◌, ◌++◌, length, get_or, take, replicate, Option, Some, None, refl, sym, ap, ◌∙◌, subst, arith, inr, append-nil, ◌≢◌}
+use Rattle.std.proofs.Common.{rules, ◌≡◌, ℕ, zero, suc, ◌+◌, ◌*◌, ◌<◌, ◌≤◌, List, [], ◌∷◌, ◌++◌, length, get_or, take, replicate, Option, Some, None, refl, sym, ap, ◌∙◌, subst, arith, inr, append-nil, ◌≢◌}
 use Rattle.std.proofs.{Common.{◌⊎◌, ◌-◌, ◌^◌, inl, Bool, true, false, set, eq-eqb, ne_eqb}, lemmas.{Bool.{cases_eq}, List.{length-replicate, length-take-le, take_more, length-set, length_push}}}
 use Rattle.std.{proofs.lemmas.Option.{slice_get_within}, specs.Prelude.{slice_get, ◌==◌, if◌then◌else◌}}
 use Rattle.sh_logic.proofs.{Options.{none_some, some_is}, Lists.{set_here, set_else, slice_get-append_left, slice_get-push_back}}
@@ -28,9 +28,7 @@ dones_more calls i g lt read =
     ap dones_of (take_more calls i g lt ∙ ap (λ (x : Given). take i calls ++ x ∷ []) (sym read)) ∙ dones_snoc 1 (take i calls) g ∙ ap (λ (m : ℕ). dones_of (take i calls) ++ done_in m g g.reply) n
 
 pub seats_more : (p : ConfigParts) (n : ℕ) (old new : List Place) (m : Machine) (ns : List ℕ) → old ≡ fresh_from p 0 n → m ≡ fresh_machine p n → ns ≡ [] → new ≡ old ++ record { client = m; numbers = ns; ended = 0; number = 0; ticket = 0; seen = 0; first = 0; point = 0 } ∷ [] → new ≡ fresh_from p 0 (n + 1)
-seats_more p n old new m ns old_is m_is ns_is new_is =
-    let x : n ≡ 0 + n = omega arith in
-    new_is ∙ (λ z. old_is z ++ record { client = (m_is ∙ ap (fresh_machine p) x) z; numbers = ns_is z; ended = 0; number = 0; ticket = 0; seen = 0; first = 0; point = 0 } ∷ []) ∙ sym (fresh_snoc p 0 n)
+seats_more p n old new m ns old_is m_is ns_is new_is = search (rules, fresh_snoc)
 
 pub told_more : (calls : List Given) (i : ℕ) (g : Given) (r : Reply) (old new : List Done) (d : Done) → i < length calls → g ≡ get_or calls i g → old ≡ dones_of (take i calls) → g.reply ≡ Some r → new ≡ old ++ d ∷ [] → d ∷ [] ≡ done_in (i + 1) g (Some r) → new ≡ dones_of (take (i + 1) calls)
 told_more calls i g r old new d lt read old_is reply_is new_is d_is = new_is ∙ (λ z. old_is z ++ d_is z) ∙ ap (λ (o : Option Reply). dones_of (take i calls) ++ done_in (i + 1) g o) (sym reply_is) ∙ sym (dones_more calls i g lt read)
@@ -206,15 +204,10 @@ module _ (s : State) (run : IsRunning s) (i : ℕ) (q : Place) (at : slice_get s
 -- what is given makes the world of that call
 pub give_is : (s t : State) (i n : ℕ) (q x : Place) (call : Call) (calls : List Given) (log : List Entry) → s ≡ t → slice_get s.seats i ≡ Some q → n ≡ length s.calls + 1 → x ≡ queued q n → calls ≡ s.calls ++ fresh_call i call ∷ [] → log ≡ s.log
     → record { setting = s.setting; words = s.words; log = log; seats = set s.seats i x; calls = calls; lines = s.lines } ≡ give_of t i call
-give_is s t i n q x call calls log e at n_is x_is calls_is log_is =
-    (λ z. record { setting = s.setting; words = s.words; log = log_is z; seats = set s.seats i ((x_is ∙ ap (queued q) n_is) z); calls = calls_is z; lines = s.lines })
-    ∙ sym (ap (give_at s i call) at) ∙ ap (λ (u : State). give_of u i call) e
+give_is s t i n q x call calls log e at n_is x_is calls_is log_is = search rules
 
 pub given_long : (calls more : List Given) (g : Given) → more ≡ calls ++ g ∷ [] → length more ≡ length calls + 1
 given_long calls more g is = ap length is ∙ (let l = length_push calls g in omega (arith, l))
 
 pub given_world : (s t : State) (i room : ℕ) (kept : ConfigParts) (q : Place) (call : Call) (u : State) → s ≡ t → IsRunning s → slice_get s.seats i ≡ Some q → IsInRange t.setting call → length t.calls < 2 ^ 32 - 1 → u ≡ give_of t i call → length u.calls < room → kept ≡ s.setting → IsWorld u room kept
-given_world s t i room kept q call u e run at in_range few u_is lt kept_is =
-    let r = given_runs s run i q at call (subst (λ (x : State). IsInRange x.setting call) (sym e) in_range) (subst (λ (x : State). length x.calls < 2 ^ 32 - 1) (sym e) few) in
-    let same : u.setting ≡ s.setting = ap (λ (x : State). x.setting) (u_is ∙ ap (λ (x : State). give_of x i call) (sym e)) ∙ ap (λ (o : Option Place). (give_at s i call o).setting) at in
-    inr (subst IsRunning (sym (u_is ∙ ap (λ (x : State). give_of x i call) (sym e))) r, lt, kept_is ∙ sym same)
+given_world s t i room kept q call u e run at in_range few u_is lt kept_is = search (rules, given_runs, same)

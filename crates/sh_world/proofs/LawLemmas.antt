@@ -1,11 +1,11 @@
 -- What holds of a world after any turns, by the core's laws.
-use Rattle.std.proofs.Common.{◌≡◌, ◌≢◌, ℕ, zero, suc, ◌+◌, ◌-◌, ◌<◌, ◌≤◌, inl, inr, Bool, true, false, List, [], ◌∷◌, ◌++◌, length, Option, Some, None, refl, sym, ap, ◌∙◌, subst, arith, append-nil}
+use Rattle.std.proofs.Common.{rules, ◌≡◌, ◌≢◌, ℕ, zero, suc, ◌+◌, ◌-◌, ◌<◌, ◌≤◌, inl, inr, Bool, true, List, [], ◌∷◌, ◌++◌, length, Option, Some, None, refl, sym, ap, ◌∙◌, subst, arith, append-nil}
 use Rattle.std.{proofs.{Common.{eq-eqb, eqb-true}, lemmas.{Bool.{and_parts}, List.{Elements.{All-cons}, Kept.{AllPairs-cons}}, Option.{slice_get_cases, slice_get_past}}}, specs.List.{AllByRecursion}}
-use Rattle.std.specs.Prelude.{◌==◌, ◌&&◌, if◌then◌else◌, slice_get, map, All, AllPairs}
+use Rattle.std.specs.Prelude.{◌==◌, if◌then◌else◌, slice_get, map, All, AllPairs}
 use Rattle.sh_logic.proofs.{Lists.{set_same}, Options.{none_some, some_none}}
-use Rattle.sh_map.specs.{declared.{call.{Reply.{Reply}, Call.{Call}}, book.Done.{Done}, log.Entry.{Entry}}, Made.{entries_by}}
-use Rattle.sh_client.{proofs.BeginLemmas.{has_begun}, specs.{Giving.{changes_map, entries_of, made_in}, InLine.{stand_in, IsIn}, Machine.{Machine}, Rests.{is_resting}, Wants.{want_of}}}
-use Rattle.sh_client.specs.declared.state.{Phase.{TheVariants.{Body}, Phase}, Want.{Want}}
+use Rattle.sh_map.specs.{declared.{call.{Reply.{Reply}, Call.{Call}}, book.Done.{Done}, log.Entry.{Entry}}}
+use Rattle.sh_client.{proofs.BeginLemmas.{has_begun}, specs.{Giving.{made_in}, InLine.{stand_in, IsIn}, Machine.{Machine}, Rests.{is_resting}, Wants.{want_of}}}
+use Rattle.sh_client.specs.declared.state.{Phase.{Phase}, Want.{Want}}
 use Rattle.sh_core.specs.Actors.{Actor}
 use Rattle.sh_core_says.{specs.Books.{numbered, IsBookOf}, proofs.{AtRest.{at_rest}, Books.{books_are_lawful, calls_are_answered, refusals_have_causes}, Moments.{each_moment}}}
 use Rattle.sh_core_turns.proofs.Senses.{never_senseless}
@@ -43,13 +43,7 @@ owners Has n (g ∷ calls) h = by_reply (owners Has (n + 1) calls (λ k x e. h (
 
 -- one call more: no more of the seat's have ended than there are, and fewer where it's the seat's and has no reply
 one_more : (seat n m : ℕ) (g : Given) (ds : List Done) (ns : List ℕ) (o : Option Reply) (b : Bool) → (g.seat == seat) ≡ b → let ended = length (dones_by seat (done_in n g o ++ ds)) + length ns in let all = length (if b then m ∷ ns else ns) + length (dones_by seat ds) in (ended ≤ all) × (b ≡ true → o ≡ None → ended < all)
-one_more seat n m g ds ns None true e = (omega arith, λ x y. omega arith)
-one_more seat n m g ds ns None false e = (omega arith, λ x. cc)
-one_more seat n m g ds ns (Some r) b e = by_test b (ap (λ (t : Bool). length (if t then record { n = n; seat = g.seat; call = g.call; reply = r; first = g.first; point = g.point; rows = g.rows } ∷ dones_by seat ds else dones_by seat ds)) e) where
-  by_test : (t : Bool) → length (dones_by seat (done_in n g (Some r) ++ ds)) ≡ length (if t then record { n = n; seat = g.seat; call = g.call; reply = r; first = g.first; point = g.point; rows = g.rows } ∷ dones_by seat ds else dones_by seat ds)
-      → let ended = length (dones_by seat (done_in n g (Some r) ++ ds)) + length ns in let all = length (if t then m ∷ ns else ns) + length (dones_by seat ds) in (ended ≤ all) × (t ≡ true → Some r ≡ None → ended < all)
-  by_test true l = (omega (arith, l), λ x y. absurd (some_none y))
-  by_test false l = (omega (arith, l), λ x. cc)
+one_more seat n m g ds ns o b e = search (rules, some_none)
 
 ended_few : (seat n m : ℕ) (calls : List Given) → length (dones_by seat (dones_from n calls)) ≤ length (numbers_from seat m calls)
 ended_few seat n m [] = omega arith
@@ -67,8 +61,7 @@ ended_all_of seat n m (x ∷ calls) e (suc k) g at own none =
     ended_all_of seat (n + 1) (m + 1) calls (omega (arith, e, one.0, ended_few seat (n + 1) (m + 1) calls)) k g at own none
 
 done_is : (w : Want) → is_done w ≡ true → w ≡ want.Done
-done_is want.Done e = refl
-done_is w e = cc
+done_is w e = search rules
 
 module _ (s : State) (run : IsRunning s) where
   client_at : (k : ℕ) (g : Given) → slice_get s.calls k ≡ Some g → (a : Actor) × Clients s g.seat a
@@ -125,24 +118,19 @@ module _ (s : State) (run : IsRunning s) where
 -- ---- the log
 
 took_log : (s : State) (i : ℕ) (r : Place) (w : Want) → (took s i r w).log ≡ s.log ++ entries_wanted r w
-took_log s i r want.Done = sym (append-nil s.log)
-took_log s i r w = refl
+took_log s i r w = search (rules, append-nil)
 
 if_one : (es : List Entry) → length es ≤ 1 → (b : Bool) → length (if b then es else []) ≤ 1
-if_one es h true = h
-if_one es h false = omega arith
+if_one es h b = search rules
 
 made_one : (m : Machine) (ph : Phase) → length (made_in m ph) ≤ 1
-made_one m (Body carry done giving) = if_one (entries_of m giving.write) (if_one (entries_by m.seat m.registers.call m.registers.reply) (entries_one m.seat m.registers.call m.registers.reply) (changes_map giving.write)) (done + 1 == length m.registers.body)
-made_one m ph = omega arith
+made_one m ph = search (rules, if_one, entries_one)
 
 in_one : (r : Place) (w : Want) → length (entries_wanted r w) ≤ 1
-in_one r (want.Event e) = made_one r.client r.client.phase
-in_one r w = omega arith
+in_one r w = search (rules, made_one)
 
 extends_at : (s : State) (i : ℕ) (o : Option Place) → ((turn_at s i o).log ≡ s.log ++ entries_at s o) × (length (entries_at s o) ≤ 1)
-extends_at s i None = (sym (append-nil s.log), omega arith)
-extends_at s i (Some q) = let r = asked s.calls q (length s.log) in (took_log s i r (want_of r.client), in_one r (want_of r.client))
+extends_at s i o = search (rules, append-nil, took_log, in_one)
 
 pub extends : (s : State) (i : ℕ) → Extends s i
 extends s i = let h = extends_at s i (slice_get s.seats i) in record { log = h.0; one = h.1 }
@@ -150,19 +138,14 @@ extends s i = let h = extends_at s i (slice_get s.seats i) in record { log = h.0
 -- ---- idle turns
 
 answer_done : (words : List ℕ) (w : Want) → turn_answer_in words w ≡ turn.Idle → w ≡ want.Done
-answer_done words want.Done e = refl
-answer_done words w e = cc
+answer_done words w e = search rules
 
 started_wants : (q : Place) (n seen : ℕ) (call : Call) → want_of (started q n call seen).client ≢ want.Done
 started_wants q n seen call = (has_begun q.client call).wants
 
 module _ (s : State) (i : ℕ) (q : Place) where
   asked_idle : is_idle q ≡ true → asked s.calls q (length s.log) ≡ q
-  asked_idle e =
-      let a = and_parts (is_done (want_of q.client)) (q.ended == length q.numbers) e in
-      let n = eqb-true q.ended (length q.numbers) a.1 in
-      let past = slice_get_past q.numbers q.ended (omega (arith, n)) in
-      ap (asked_in s.calls q (length s.log)) (done_is (want_of q.client) a.0) ∙ ap (starts_next s.calls q (length s.log)) past
+  asked_idle e = search (rules, and_parts, eqb-true, slice_get_past, done_is)
 
   idle_wants : is_idle q ≡ true → want_of (asked s.calls q (length s.log)).client ≡ want.Done
   idle_wants e = ap (λ (x : Place). want_of x.client) (asked_idle e) ∙ done_is (want_of q.client) (and_parts (is_done (want_of q.client)) (q.ended == length q.numbers) e).0
@@ -172,10 +155,7 @@ module _ (s : State) (i : ℕ) (q : Place) where
 
 -- a turn of an idle seat changes nothing
 pub turn_idle : (s : State) (i : ℕ) → is_idle_at (slice_get s.seats i) ≡ true → turn_of s i ≡ s
-turn_idle s i idle = by_seat (slice_get s.seats i) refl idle where
-  by_seat : (o : Option Place) → slice_get s.seats i ≡ o → is_idle_at o ≡ true → turn_at s i o ≡ s
-  by_seat None e idle = refl
-  by_seat (Some q) e idle = turned_idle s i q e idle
+turn_idle s i idle = search (rules, turned_idle)
 
 module _ (s : State) (run : IsRunning s) (i : ℕ) (q : Place) (at : slice_get s.seats i ≡ Some q) where
   calls_none : (o : Option Given) (n : ℕ) → slice_get s.calls (n - 1) ≡ o → slice_get q.numbers q.ended ≡ Some n → want_of (starts s.calls q n (length s.log) o).client ≡ want.Done → ⊥
@@ -186,8 +166,7 @@ module _ (s : State) (run : IsRunning s) (i : ℕ) (q : Place) (at : slice_get s
   calls_none (Some g) n e next w = started_wants q n (length s.log) g.call w
 
   next_none : (o : Option ℕ) → slice_get q.numbers q.ended ≡ o → want_of (starts_next s.calls q (length s.log) o).client ≡ want.Done → slice_get q.numbers q.ended ≡ None
-  next_none None e w = e
-  next_none (Some n) e w = absurd (calls_none (slice_get s.calls (n - 1)) n refl e w)
+  next_none o e w = search (rules, calls_none)
 
   ended_all : slice_get q.numbers q.ended ≡ None → q.ended ≡ length q.numbers
   ended_all e = elim (slice_get_cases q.numbers q.ended).1 [
@@ -196,19 +175,13 @@ module _ (s : State) (run : IsRunning s) (i : ℕ) (q : Place) (at : slice_get s
   ]
 
   idle_from : (w : Want) → want_of q.client ≡ w → want_of (asked_in s.calls q (length s.log) w).client ≡ want.Done → is_idle q ≡ true
-  idle_from want.Done e d =
-      let all = ended_all (next_none (slice_get q.numbers q.ended) refl d) in
-      ap (λ (v : Want). is_done v && (q.ended == length q.numbers)) e ∙ eq-eqb q.ended (length q.numbers) all
-  idle_from w e d = let f : w ≡ want.Done = sym e ∙ d in cc
+  idle_from w e d = search (rules, ended_all, next_none, eq-eqb)
 
   answers_idle : answer_of s i ≡ turn.Idle → is_idle q ≡ true
   answers_idle e = idle_from (want_of q.client) refl (answer_done s.words (want_of (asked s.calls q (length s.log)).client) (sym (ap (answer_at s) at) ∙ e))
 
   pub idles_right : IdlesRight s i
-  idles_right = record {
-    cause = (λ e. ap is_idle_at at ∙ answers_idle e, λ e. ap (answer_at s) at ∙ ap (turn_answer_in s.words) (idle_wants s i q (sym (ap is_idle_at at) ∙ e)));
-    same = λ e. turn_idle s i (ap is_idle_at at ∙ answers_idle e);
-  }
+  idles_right = search (rules, answers_idle, idle_wants, turn_idle)
 
 pub idle_at : (s : State) (run : IsRunning s) (i : ℕ) → i < length s.seats → IdlesRight s i
 idle_at s run i lt = let q = seat_at s run i lt in idles_right s run i q.0 q.1

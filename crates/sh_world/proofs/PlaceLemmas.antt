@@ -1,5 +1,5 @@
 -- The ended calls of seats; one seat's actor changes and the others stay; and a seat's place among its calls.
-use Rattle.std.proofs.Common.{◌≡◌, ◌≢◌, ℕ, zero, suc, ◌+◌, ◌≤◌, inl, inr, List, [], ◌∷◌, ◌++◌, length, get_or, set, Option, Some, None, refl, sym, ap, ◌∙◌, subst, arith, append-nil, append_assoc}
+use Rattle.std.proofs.Common.{rules, ◌≡◌, ◌≢◌, ℕ, zero, suc, ◌+◌, ◌≤◌, inl, inr, List, [], ◌∷◌, ◌++◌, length, get_or, set, Option, Some, None, refl, sym, ap, ◌∙◌, subst, arith, append-nil, append_assoc}
 use Rattle.std.proofs.{Common.{ne_eqb, eq-eqb, ◌⊎◌, ◌-◌, ◌<◌, Bool, true, false}, lemmas.{Bool.{cases_eq}, List.{Elements.{filter-append}, length_push}, Option.{slice_get_within}}}
 use Rattle.std.specs.Prelude.{◌==◌, slice_get, if◌then◌else◌}
 use Rattle.sh_map.specs.{declared.{call.Reply.{Reply}, book.{Done.{Done}, Row.{Row}}, log.Entry.{Entry}}, Points.{point_of}}
@@ -26,10 +26,7 @@ length_answered (x ∷ calls) (suc k) r rs f p = ap suc (length_answered calls k
 
 -- a call that ends is answered, and as many calls stay
 pub calls_long : (calls : List Given) (q : Place) (log : List Entry) (m : Machine) → length (calls_after calls q log m) ≡ length calls
-calls_long calls q log m = by_end (has_ended m.phase) where
-  by_end : (b : Bool) → length (if b then answered calls (q.number - 1) m.registers.reply (rows_told m) q.first (point_of log q.first q.point m.registers.call m.registers.reply) else calls) ≡ length calls
-  by_end true = length_answered calls (q.number - 1) m.registers.reply (rows_told m) q.first (point_of log q.first q.point m.registers.call m.registers.reply)
-  by_end false = refl
+calls_long calls q log m = search (rules, length_answered)
 
 -- the ended ones of calls and of one more
 pub dones_snoc : (n : ℕ) (calls : List Given) (g : Given) → dones_from n (calls ++ g ∷ []) ≡ dones_from n calls ++ done_in (n + length calls) g g.reply
@@ -52,8 +49,7 @@ module _ (seat : ℕ) where
 
   -- of another seat's call nothing is among them
   none_of : (n : ℕ) (g : Given) (o : Option Reply) → g.seat ≢ seat → by (done_in n g o) ≡ []
-  none_of n g None ne = refl
-  none_of n g (Some r) ne = rw (ne_eqb g.seat seat ne) refl
+  none_of n g o ne = search (rules, ne_eqb)
 
   one_of : (n : ℕ) (g : Given) (r : Reply) → g.seat ≡ seat → by (done_in n g (Some r)) ≡ done_in n g (Some r)
   one_of n g r is = rw (eq-eqb g.seat seat is) refl
@@ -108,10 +104,7 @@ module _ (seat : ℕ) where
 
 -- what stands at a place where one was set
 pub set_cases : {X : Type 0} (xs : List X) (i j : ℕ) (x y : X) → i < length xs → slice_get (set xs i x) j ≡ Some y → ((j ≡ i) × (y ≡ x)) ⊎ ((j ≢ i) × (slice_get xs j ≡ Some y))
-set_cases xs i j x y lt e = elim (cases_eq j i) [
-  | inl is ↦ inl (is, some_is (sym e ∙ ap (slice_get (set xs i x)) is ∙ set_here xs i x lt))
-  | inr ne ↦ inr (ne, sym (set_else xs i j x ne) ∙ e)
-]
+set_cases xs i j x y lt e = search (rules, cases_eq, some_is, set_here, set_else)
 
 -- the others' actors stay where their ended calls do
 abbrev pub AgreeBut : (i : ℕ) → (calls now : List Given) → Type 0
@@ -128,9 +121,7 @@ module _ (seats : List Place) (calls now : List Given) (i : ℕ) (q : Place) (a 
   own_here = record { place = q; here = set_here seats i q lt; actor_is = is }
 
   own_back : (b : Actor) → HasActor (set seats i q) now i b → b ≡ a
-  own_back b h =
-      let same : h.place ≡ q = some_is (sym h.here ∙ set_here seats i q lt) in
-      h.actor_is ∙ ap (actor_of now i) same ∙ sym is
+  own_back b h = search (rules, some_is, set_here)
 
   pub moves_from : (Has : ℕ → Actor → Type 0) → ((j : ℕ) (b : Actor) → j ≢ i → Has j b → HasActor seats calls j b) → ((j : ℕ) (b : Actor) → j ≢ i → HasActor seats calls j b → Has j b) → Moves Has i a (HasActor (set seats i q) now)
   moves_from Has to from = core_moves Has (HasActor (set seats i q) now) i a own_here own_back (λ j b ne h. from j b ne (other_back j b ne h)) (λ j b ne h. other_on j b ne (to j b ne h))
@@ -148,8 +139,7 @@ pub record IsNext (calls : List Given) (i number : ℕ) (m : Machine) : Type 0 w
   pub later : (j : ℕ) (x : Given) → number - 1 ≤ j → slice_get calls j ≡ Some x → x.seat ≡ i → x.reply ≡ None
 
 phase_ended : (ph : Phase) → has_ended ph ≡ true → ph ≡ Ended
-phase_ended Ended e = refl
-phase_ended ph e = cc
+phase_ended ph e = search rules
 
 module _ (p : ConfigParts) (seats : List Place) (calls : List Given) (i : ℕ) (q : Place) (lt : i < length seats) (log more : List Entry) (m : Machine) where
   abbrev A : Actor
@@ -193,20 +183,14 @@ pub record IsNumber (calls : List Given) (seat n m : ℕ) : Type 0 where
   pub seat_is : given.seat ≡ seat
 
 number_on : (x : Given) (calls : List Given) (seat n m : ℕ) → IsNumber calls seat (n + 1) m → IsNumber (x ∷ calls) seat n m
-number_on x calls seat n m h =
-    let e : m - n ≡ suc (m - (n + 1)) = omega (arith, h.low) in
-    record { given = h.given; low = omega (arith, h.low); here = ap (slice_get (x ∷ calls)) e ∙ h.here; seat_is = h.seat_is }
+number_on x calls seat n m h = search rules
 
 abbrev numbers : (seat n : ℕ) → List Given → Bool → List ℕ
 numbers seat n calls t = if t then n ∷ numbers_from seat (n + 1) calls else numbers_from seat (n + 1) calls
 
 number_head : (x : Given) (calls : List Given) (seat n i m : ℕ) → ((i : ℕ) → slice_get (numbers_from seat (n + 1) calls) i ≡ Some m → IsNumber calls seat (n + 1) m)
     → slice_get (n ∷ numbers_from seat (n + 1) calls) i ≡ Some m → x.seat ≡ seat → IsNumber (x ∷ calls) seat n m
-number_head x calls seat n zero m next h is =
-    let same : n ≡ m = some_is h in
-    let e : m - n ≡ 0 = omega (arith, same) in
-    record { given = x; low = omega (arith, same); here = ap (slice_get (x ∷ calls)) e; seat_is = is }
-number_head x calls seat n (suc i) m next h is = number_on x calls seat n m (next i h)
+number_head x calls seat n i m next h is = search (rules, some_is, number_on)
 
 pub number_in : (seat n : ℕ) (calls : List Given) (i m : ℕ) → slice_get (numbers_from seat n calls) i ≡ Some m → IsNumber calls seat n m
 number_in seat n [] i m e = cc
@@ -255,9 +239,7 @@ next_is calls i q m h busy same =
     record { given = n.given; real = n.low; here = n.here; seat_is = n.seat_is; call_is = h.call n.given busy n.here ∙ sym same; later = λ j x le at own. h.waiting q.number j x (h.busy busy) (omega (arith, le)) at own }
 
 idle_phase : (ph : Phase) → rests ph ≡ true → has_ended ph ≡ false → ph ≡ Idle
-idle_phase Idle a b = refl
-idle_phase Ended a b = cc
-idle_phase ph a b = cc
+idle_phase ph a b = search rules
 
 module _ (calls : List Given) (i : ℕ) (q : Place) (log more : List Entry) (m : Machine) (h : IsPlace calls i q) (busy : is_resting q.client ≡ false) (same : m.registers.call ≡ q.client.registers.call) where
   place_going : has_ended m.phase ≡ false → IsPlace calls i (going q log more m)
@@ -288,8 +270,7 @@ module _ (calls : List Given) (i : ℕ) (q : Place) (log more : List Entry) (m :
       }
 
   place_by_end : (b : Bool) → has_ended m.phase ≡ b → IsPlace (if b then N else calls) i (if b then resting q log m else going q log more m)
-  place_by_end true e = place_ended
-  place_by_end false e = place_going e
+  place_by_end b e = search (rules, place_ended, place_going)
 
   -- the seat's place after its turn
   pub place_own : IsPlace (calls_after calls q log m) i (place_after q log more m)

@@ -1,15 +1,14 @@
 -- The walk over the entries that were made during a call finds the least point of its reply; and what a client's call
 -- answers when it has ended.
-use Rattle.std.proofs.Common.{◌≡◌, ◌≢◌, ℕ, ◌+◌, ◌<◌, ◌≤◌, inl, inr, List, length, get_or, Option, refl, sym, ap, ◌∙◌, arith, ◌-◌, ◌^◌, Bool, true, false, [], ◌∷◌, take, drop, Some, None, subst}
-use Rattle.std.{proofs.lemmas.{Bool.{cases_eq, cases_lt}, List.{length-take-le, length-drop}, Option.{slice_get_read}}, specs.Prelude.{if◌then◌else◌}}
+use Rattle.std.proofs.Common.{rules, ◌≡◌, ◌≢◌, ℕ, ◌+◌, ◌<◌, ◌≤◌, inl, inr, List, length, get_or, Option, refl, sym, ap, ◌∙◌, arith, ◌-◌, ◌^◌, true, false, take, drop, subst}
+use Rattle.std.{proofs.lemmas.{Bool.{cases_eq, cases_lt}, List.{length-take-le, length-drop}, Option.{slice_get_read}}}
 use Rattle.sh_map.{proofs.{LeastLemmas.{least_is}, LogLemmas.{changed_other, map_more, IsLegal-at}}, specs.{Log.{change_key, changed, map_at, IsLegal}, Map.{get}, declared.call.Call.{Call}}}
-use Rattle.sh_map.specs.{Points.{IsLeastPoint, least_point, point_of}, declared.{call.{Call.TheVariants.{Get, Put, Del}, Reply.{Reply}}, log.Entry.{Entry}}}
+use Rattle.sh_map.specs.{Points.{IsLeastPoint, least_point, point_of}, declared.{call.{Reply.{Reply}}, log.Entry.{Entry}}}
 use Rattle.sh_readers.specs.Points.{HadSince}
 use Rattle.sh_base.specs.declared.config.ConfigParts.{ConfigParts}
 use Rattle.sh_client.specs.Rests.{has_ended}
 use Rattle.sh_core.specs.Actors.{point_after, seen_after}
-use Rattle.sh_world.specs.{States.{Given, Place}, Turning.{going, place_after, resting}, Running.{HasPoint}, Seats.{CanEnd, CanSettle}}
-use Rattle.sh_map.specs.declared.call.Reply.TheVariants as reply
+use Rattle.sh_world.specs.{States.{Given, Place}, Turning.{place_after}, Running.{HasPoint}, Seats.{CanEnd, CanSettle}}
 
 -- from first on, none before start has it, and from start up to here the map has the same at the key
 pub record IsWalked (log : List Entry) (first key : ℕ) (had : Option (List ℕ)) (start at : ℕ) : Type 0 where
@@ -21,15 +20,7 @@ pub record IsWalked (log : List Entry) (first key : ℕ) (had : Option (List ℕ
 
 module _ (log : List Entry) (first key : ℕ) (had : Option (List ℕ)) where
   unique : (p : ℕ) → IsLeastPoint log first key had p → p ≡ least_point log first key had
-  unique p h =
-      let l = least_is log first key had p h.from h.within h.here in
-      elim (cases_eq p (least_point log first key had)) [
-        | inl e ↦ e
-        | inr ne ↦ elim (cases_lt p (least_point log first key had)) [
-          | inl lt ↦ absurd (l.least p h.from lt h.here)
-          | inr le ↦ absurd (h.least (least_point log first key had) l.from (omega (arith, le, ne)) l.here)
-        ]
-      ]
+  unique p h = search (rules, least_is, cases_eq, cases_lt)
 
   pub begins : first ≤ length log → IsWalked log first key had first first
   begins le = record { from = omega arith; upto = omega arith; within = le; before = λ q from lt. absurd (omega (arith, from, lt)); since = λ q a b. let e : q ≡ first = omega (arith, a, b) in ap (λ (n : ℕ). get (map_at log n) key) e }
@@ -71,12 +62,7 @@ module _ (log : List Entry) (first key : ℕ) (had : Option (List ℕ)) where
     finds is same = unique start (record { from = w.from; within = omega (arith, w.upto, lt); here = sym (tells is) ∙ same; least = w.before })
 
   pub ends : (start at : ℕ) → IsWalked log first key had start at → length log ≤ at → HadSince log first key had → start ≡ least_point log first key had
-  ends start at w le h = unique start (record { from = w.from; within = omega (arith, w.upto, w.within); here = sym (w.since h.0 (late h.0 h.1 h.3) (omega (arith, h.2, le))) ∙ h.3; least = w.before }) where
-    late : (q : ℕ) → first ≤ q → get (map_at log q) key ≡ had → start ≤ q
-    late q a b = elim (cases_lt q start) [
-      | inl lt ↦ absurd (w.before q a lt b)
-      | inr le ↦ le
-    ]
+  ends start at w le h = search (rules, unique, cases_lt)
 
 -- ---- what a client's call answers when it has ended, and what its seat has seen
 
@@ -87,20 +73,11 @@ can_end p log calls x y e h t = subst (λ (z : Place). CanEnd p log calls z z.cl
 -- a call goes on
 pub place_going : (log more : List Entry) (x y w : Place) (seen point : ℕ) → x ≡ y → has_ended x.client.phase ≡ false → w ≡ record x { point = point } → seen ≡ seen_after more (length log) → point ≡ point_after more x.point (length log)
     → record w { seen = seen } ≡ place_after y log more y.client
-place_going log more x y w seen point e t w_is s_is p_is =
-    subst (λ (z : Place). record w { seen = seen } ≡ place_after z log more z.client) e
-    (ap (λ (z : Place). record z { seen = seen }) w_is ∙ (λ z. record x { seen = s_is z; point = p_is z })
-    ∙ sym (ap (λ (b : Bool). if b then resting x log x.client else going x log more x.client) t))
+place_going log more x y w seen point e t w_is s_is p_is = search rules
 
 -- the point of a reply is a word of half the size
 pub point_small : (log : List Entry) (first point : ℕ) (c : Call) (r : Reply) → HasPoint log first c r → length log < 2 ^ 32 → point < 2 ^ 32 → point_of log first point c r < 2 ^ 32
-point_small log first point (Get key) (reply.Some v) h few small = let l = least_is log first key (Some v) h.0 h.1 h.2 h.3 in omega (arith, l.within, few)
-point_small log first point (Get key) reply.None h few small = let l = least_is log first key None h.0 h.1 h.2 h.3 in omega (arith, l.within, few)
-point_small log first point (Del key) reply.None h few small = let l = least_is log first key None h.0 h.1 h.2 h.3 in omega (arith, l.within, few)
-point_small log first point (Put key value) (reply.Some old) h few small = small
-point_small log first point (Put key value) reply.None h few small = small
-point_small log first point (Del key) (reply.Some old) h few small = small
-point_small log first point c r h few small = few
+point_small log first point c r h few small = search (rules, least_is)
 
 pub point_fits : (log : List Entry) (first point pt : ℕ) (c d : Call) (r q : Reply) → c ≡ d → r ≡ q → HasPoint log first d q → length log < 2 ^ 32 → point < 2 ^ 32 → pt ≡ point_of log first point c r → pt < 2 ^ 32
 point_fits log first point pt c d r q c_is r_is h few small is = rw (is ∙ (λ z. point_of log first point (c_is z) (r_is z))) (point_small log first point d q h few small)
@@ -108,22 +85,19 @@ point_fits log first point pt c d r q c_is r_is h few small is = rw (is ∙ (λ 
 module _ (log : List Entry) (seen : ℕ) (within : seen ≤ length log) where
   -- what a seat has seen behind its turn, and where its entry is
   tail_seen : (more : List Entry) → length more ≡ length log - seen → length log ≤ seen + 1 → seen_after more (length (take seen log)) ≡ length log
-  tail_seen [] e one = omega (arith, length-take-le seen log within, e, within)
-  tail_seen (x ∷ more) e one = omega (arith, length-take-le seen log within, e, one)
+  tail_seen more e one = search (rules, length-take-le)
 
   pub seen_is : length log ≤ seen + 1 → seen_after (drop seen log) (length (take seen log)) ≡ length log
   seen_is one = tail_seen (drop seen log) (length-drop seen log) one
 
   tail_point : (more : List Entry) (point : ℕ) → length more ≡ length log - seen → seen < length log → point_after more point (length (take seen log)) ≡ seen
-  tail_point [] point e lt = absurd (omega (arith, e, lt))
-  tail_point (x ∷ more) point e lt = length-take-le seen log within
+  tail_point more point e lt = search (rules, length-take-le)
 
   pub point_made : (point : ℕ) → seen < length log → point_after (drop seen log) point (length (take seen log)) ≡ seen
   point_made point lt = tail_point (drop seen log) point (length-drop seen log) lt
 
   tail_stays : (more : List Entry) (point : ℕ) → length more ≡ length log - seen → length log ≤ seen → point_after more point (length (take seen log)) ≡ point
-  tail_stays [] point e le = refl
-  tail_stays (x ∷ more) point e le = absurd (omega (arith, e, le))
+  tail_stays more point e le = search rules
 
   pub point_stays : (point : ℕ) → length log ≤ seen → point_after (drop seen log) point (length (take seen log)) ≡ point
   point_stays point le = tail_stays (drop seen log) point (length-drop seen log) le

@@ -1,11 +1,11 @@
 -- Ticket lines: where they lie, and what differences of words are; that the turns of a line keep it one; and the rights
 -- in lines.
-use Rattle.std.proofs.Common.{◌≡◌, ℕ, ◌+◌, ◌-◌, ◌*◌, ◌^◌, ◌<◌, ◌≤◌, ap, arith, inl, inr, ◌≢◌, ◌⊎◌, suc, List, length, set, Option, Some, None, refl, sym, ◌∙◌, subst, Bool, true, false}
-use Rattle.std.{proofs.{Math.Nat.{div-lt_iff_lt-mul}, lemmas.{Bool.{cases_lt, cases_eq}, List.{length-set}, Option.{slice_get_within}}}, specs.Prelude.{slice_get, if◌then◌else◌}}
+use Rattle.std.proofs.Common.{rules, ◌≡◌, ℕ, ◌+◌, ◌-◌, ◌*◌, ◌^◌, ◌<◌, ◌≤◌, ap, arith, inl, inr, ◌≢◌, ◌⊎◌, suc, List, length, set, Option, Some, None, refl, sym, ◌∙◌, subst}
+use Rattle.std.{proofs.{Math.Nat.{div-lt_iff_lt-mul}, lemmas.{Bool.{cases_lt, cases_eq}, List.{length-set}, Option.{slice_get_within}}}, specs.Prelude.{slice_get}}
 use Rattle.sh_base.specs.{declared.config.ConfigParts.{ConfigParts}, Setting.{all_locks, all_seats, IsSetting}, Layout.{compute_of}}
-use Rattle.sh_world.specs.{States.{line_at, Place, IsLeft}, Turning.{minus, next_ticket, drawn, left_line, going, place_after, resting}, declared.state.Line.{Line}, Lines.{StandsIn, IsLine, AreLines}}
+use Rattle.sh_world.specs.{States.{line_at, Place, IsLeft}, Turning.{minus, next_ticket, drawn, left_line, place_after}, declared.state.Line.{Line}, Lines.{StandsIn, IsLine, AreLines}}
 use Rattle.sh_logic.proofs.{Lists.{set_here, set_else}, Options.{some_is}, Pigeons.{at_most}}
-use Rattle.sh_client.{specs.{InLine.{Stand, Away, Waits, Served, is_some, stand_of, IsIn, HasTurn, WillHand}, Machine.{Machine}, Rests.{has_ended}}, proofs.Wanting.{stand_ended}}
+use Rattle.sh_client.{specs.{InLine.{Stand, Away, Waits, Served, is_some, stand_of, IsIn, HasTurn, WillHand}, Machine.{Machine}}, proofs.Wanting.{stand_ended}}
 use Rattle.sh_map.specs.declared.log.Entry.{Entry}
 use Rattle.sh_core.{specs.{Actors.{Actor}, Core.{Inv}}, proofs.Moves.{same_keeps}}
 
@@ -22,13 +22,7 @@ row_below : (m i k : ℕ) → i < k → i * m + m ≤ k * m
 row_below m i k lt = grind arith
 
 pub row_apart : (m i j k l : ℕ) → j < m → l < m → i * m + j ≡ k * m + l → (i ≡ k) × (j ≡ l)
-row_apart m i j k l a b e = elim (cases_eq i k) [
-  | inl is ↦ let same : i * m ≡ k * m = ap (λ (n : ℕ). n * m) is in (is, omega (arith, e, same))
-  | inr ne ↦ elim (cases_lt i k) [
-    | inl lt ↦ absurd (omega (arith, row_below m i k lt, e, a))
-    | inr le ↦ absurd (omega (arith, row_below m k i (omega (arith, le, ne)), e, b))
-  ]
-]
+row_apart m i j k l a b e = search (rules, cases_eq, cases_lt, row_below)
 
 module _ (p : ConfigParts) (ok : IsSetting p) where
   pub compute_within : (seat : ℕ) → seat < all_seats p → compute_of p seat < p.computes
@@ -67,14 +61,10 @@ minus_one n a b = omega (arith, a, b)
 -- ---- the turns of a line keep it a line
 
 pub turn_in : (lock : ℕ) (k : Stand) → HasTurn lock k → IsIn lock k
-turn_in lock Away e = elim e [ ]
-turn_in lock (Waits l) e = elim e [ ]
-turn_in lock (Served l h) e = e
+turn_in lock k e = search rules
 
 pub hand_turn : (lock : ℕ) (k : Stand) → WillHand lock k → HasTurn lock k
-hand_turn lock Away e = elim e [ ]
-hand_turn lock (Waits l) e = elim e [ ]
-hand_turn lock (Served l h) e = e.0
+hand_turn lock k e = search rules
 
 -- a seat that is the same in other seats stands there, too
 stays_in : (p : ConfigParts) (xs ys : List Place) (l c j : ℕ) (r : Place) → slice_get ys j ≡ slice_get xs j → StandsIn p xs l c j r → StandsIn p ys l c j r
@@ -82,9 +72,7 @@ stays_in p xs ys l c j r same h = record { here = same ∙ h.here; compute_is = 
 
 -- the one at this place
 own_in : (p : ConfigParts) (xs : List Place) (i : ℕ) (q : Place) → slice_get xs i ≡ Some q → (l c j : ℕ) (r : Place) → j ≡ i → StandsIn p xs l c j r → (r ≡ q) × (compute_of p i ≡ c) × IsIn l (stand_of q.client)
-own_in p xs i q at l c j r e h =
-    let same : r ≡ q = some_is (sym h.here ∙ ap (slice_get xs) e ∙ at) in
-    (same, ap (compute_of p) (sym e) ∙ h.compute_is, subst (λ (x : Place). IsIn l (stand_of x.client)) same h.stands)
+own_in p xs i q at l c j r e h = search (rules, some_is)
 
 record IsLike (p : ConfigParts) (xs : List Place) (l c j : ℕ) (r : Place) : Type 0 where
   place : Place
@@ -94,13 +82,7 @@ record IsLike (p : ConfigParts) (xs : List Place) (l c j : ℕ) (r : Place) : Ty
 -- whoever stands in a line of these seats stands with the same ticket in that of those, which differ at one place
 like : (p : ConfigParts) (xs ys : List Place) (i : ℕ) (q r : Place) → slice_get xs i ≡ Some q → slice_get ys i ≡ Some r → ((j : ℕ) → j ≢ i → slice_get ys j ≡ slice_get xs j) → (l c : ℕ) → (IsIn l (stand_of q.client) → compute_of p i ≡ c → IsIn l (stand_of r.client) × (r.ticket ≡ q.ticket))
     → (j : ℕ) (x : Place) → StandsIn p xs l c j x → IsLike p ys l c j x
-like p xs ys i q r at here same l c own j x h = elim (cases_eq j i) [
-  | inl e ↦
-      let o = own_in p xs i q at l c j x e h in
-      let k = own o.2 o.1 in
-      record { place = r; stands = record { here = ap (slice_get ys) e ∙ here; compute_is = h.compute_is; stands = k.0 }; ticket = k.1 ∙ ap (λ (y : Place). y.ticket) (sym o.0) }
-  | inr ne ↦ record { place = x; stands = stays_in p xs ys l c j x (same j ne) h; ticket = refl }
-]
+like p xs ys i q r at here same l c own j x h = search (rules, cases_eq, own_in, stays_in)
 
 module _ (p : ConfigParts) (ok : IsSetting p) (seats : List Place) (i : ℕ) (q q' : Place) (at : slice_get seats i ≡ Some q) where
   abbrev S : List Place
@@ -317,16 +299,10 @@ module _ (p : ConfigParts) (ok : IsSetting p) (seats : List Place) (i : ℕ) (q 
 -- ---- behind a turn the seat stands where its client does
 
 pub place_stand : (q : Place) (log more : List Entry) (m : Machine) → stand_of (place_after q log more m).client ≡ stand_of m
-place_stand q log more m = by_end (has_ended m.phase) refl where
-  by_end : (b : Bool) → has_ended m.phase ≡ b → stand_of (if b then resting q log m else going q log more m).client ≡ stand_of m
-  by_end true e = sym (stand_ended m m.phase e)
-  by_end false e = refl
+place_stand q log more m = search (rules, stand_ended)
 
 pub place_ticket : (q : Place) (log more : List Entry) (m : Machine) → (place_after q log more m).ticket ≡ q.ticket
-place_ticket q log more m = by_end (has_ended m.phase) where
-  by_end : (b : Bool) → (if b then resting q log m else going q log more m).ticket ≡ q.ticket
-  by_end true = refl
-  by_end false = refl
+place_ticket q log more m = search rules
 
 -- ---- rights
 
@@ -368,16 +344,10 @@ module _ (p : ConfigParts) (ok : IsSetting p) (lines : List Line) (lock compute 
   left_mine d e = record { line = new; lock_is = lock_ok; compute_is = compute_ok; here = new_here; left = e }
 
   pub left_on : new.left ≡ old.left → (l c d : ℕ) → IsLeft p lines l c d → IsLeft p L l c d
-  left_on same l c d h = elim (cases_eq (line_at p l c) K) [
-    | inl e ↦ let o = left_old l c d e h in subst (λ (k : ℕ). IsLeft p L k c d) o.1 (subst (λ (k : ℕ). IsLeft p L lock k d) o.2 (left_mine d (same ∙ o.0)))
-    | inr ne ↦ elsewhere_on l c d ne h
-  ]
+  left_on same l c d h = search (rules, cases_eq, left_old, left_mine, elsewhere_on)
 
   pub left_back : new.left ≡ old.left → (l c d : ℕ) → IsLeft p L l c d → IsLeft p lines l c d
-  left_back same l c d h = elim (cases_eq (line_at p l c) K) [
-    | inl e ↦ let o = left_new l c d e h in subst (λ (k : ℕ). IsLeft p lines k c d) o.1 (subst (λ (k : ℕ). IsLeft p lines lock k d) o.2 (record { line = old; lock_is = lock_ok; compute_is = compute_ok; here = at; left = sym same ∙ o.0 }))
-    | inr ne ↦ elsewhere_back l c d ne h
-  ]
+  left_back same l c d h = search (rules, cases_eq, left_new, here, elsewhere_back)
 
   -- ---- all lines
 

@@ -1,6 +1,6 @@
 -- Calls in columns: rows in words and their room; how calls are read, pushed and answered by their places; and that they
 -- stay in columns.
-use Rattle.std.proofs.Common.{◌≡◌, ℕ, zero, suc, ◌+◌, ◌*◌, ◌<◌, ◌≤◌, List, [], ◌∷◌, ◌++◌, length, set, take, drop, Some, None, refl, sym, ap, ◌∙◌, arith, ◌-◌, get_or, subst}
+use Rattle.std.proofs.Common.{rules, ◌≡◌, ℕ, zero, suc, ◌+◌, ◌*◌, ◌<◌, ◌≤◌, List, [], ◌∷◌, ◌++◌, length, set, take, drop, Some, None, refl, sym, ap, ◌∙◌, arith, ◌-◌, get_or, subst}
 use Rattle.std.{proofs.Math.Nat.{mul-le-mul_right, le-min}, specs.{List.{flat_map, All}, Prelude.{slice_get, slice_index, slice_index_or}}}
 use Rattle.std.proofs.lemmas.List.{drop-drop, drop_all, drop_more, take_all, take-append-le, drop-append-le, length-drop, drop-take, take-take, length-append, length_push, length-set, length-take-le}
 use Rattle.std.proofs.lemmas.{List.{take_at}, Option.{get_or_from_slice_get, slice_get_read, slice_get_within}}
@@ -92,11 +92,7 @@ owed_answered p (x ∷ calls) (suc i) g r rs f pt e waits = let rest = owed_answ
 
 -- it lies among the words of its call's rows
 pub row_within : (W w row start count len : ℕ) → w ≡ W → row < count → start + count * (W + 1) ≤ len → start + row * (w + 1) + (w + 1) ≤ len
-row_within W w row start count len is lt le =
-    let next = next_row row W in
-    let more : suc row * (W + 1) ≤ count * (W + 1) = mul-le-mul_right (W + 1) (omega (arith, lt)) in
-    let same : row * (w + 1) ≡ row * (W + 1) = ap (λ (n : ℕ). row * (n + 1)) is in
-    omega (arith, next, more, same, le, is)
+row_within h0 w row start count len is lt le = search (rules, next_row, mul-le-mul_right)
 
 -- and is read there
 pub row_read : (W w row start count : ℕ) (words : List ℕ) (key : ℕ) (value : List ℕ) → w ≡ W → row < count → start + count * (W + 1) ≤ length words

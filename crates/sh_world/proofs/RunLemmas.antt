@@ -1,5 +1,5 @@
 -- A turn keeps all that holds of a world: its log, its values, its ranges, and what a call is answered.
-use Rattle.std.proofs.Common.{◌≡◌, ◌≢◌, ℕ, zero, suc, ◌+◌, ◌<◌, ◌≤◌, inl, inr, Bool, true, false, List, [], ◌∷◌, length, Some, refl, sym, ap, ◌∙◌, arith, eq-eqb, ne_eqb, ◌++◌, take, Option, None}
+use Rattle.std.proofs.Common.{rules, ◌≡◌, ◌≢◌, ℕ, zero, suc, ◌+◌, ◌<◌, ◌≤◌, inl, inr, Bool, true, false, List, [], ◌∷◌, length, Some, refl, sym, ap, ◌∙◌, arith, eq-eqb, ne_eqb, ◌++◌, take, Option}
 use Rattle.std.proofs.{Common.{subst, get_or, All, ◌-◌, set, append-nil}, lemmas.{Bool.{cases_eq}, List.{length-append, length-set}, Option.{slice_get_within}}}
 use Rattle.std.specs.Prelude.{◌==◌, filter, if◌then◌else◌, slice_get}
 use Rattle.sh_map.{proofs.{LastLemmas.{value_from}, LogLemmas.{IsLegal-at}, RangeLemmas.{is_rising}, RowsLemmas.{found_in}}, specs.{Book.{AnswersAt, AnswersRange}, Calls.{IsInRange}, Map.{get}}}
@@ -8,7 +8,7 @@ use Rattle.sh_map.specs.declared.{call.Reply.{Reply}, log.{Change.{Change}, Entr
 use Rattle.sh_core.{proofs.Moves.{put_moves}, specs.Actors.{made_by, updates, Actor, becomes, done_of, ending, actor_going, point_after, AreAnswered, IsAnswered, IsLeast}}
 use Rattle.sh_core.specs.{Causes.{HasCause, HaveCauses}, Core.{Inv, Moves, Instead}, Keeps.{pending, KeepsActor}}
 use Rattle.sh_core_says.{specs.Rest.{sum_below}, proofs.Books.{pending_stands, MayStand}}
-use Rattle.sh_client.specs.{Giving.{changes_map, entries_of, made_in}, Machine.{Machine}, Rests.{rows_for, has_ended, is_resting, rows_told}, declared.state.Phase.{TheVariants.{Body}, Phase}}
+use Rattle.sh_client.specs.{Giving.{made_in}, Machine.{Machine}, Rests.{rows_for, has_ended, is_resting, rows_told}, declared.state.Phase.{Phase}}
 use Rattle.sh_world.proofs.PlaceLemmas.{calls_long, agree_ended, set_cases, settled_keeps, AgreeBut, IsNext, get_answered, next_is, place_other, place_own}
 use Rattle.sh_world.specs.{Columns.{IsReplyWide, IsRowWide, keys_of}, Lines.{AreLines}, Running.{numbers_from, HasPoint, IsGiven, IsPlace, IsRunning}, Seats.{CanEnd}, declared.state.Line.{Line}}
 use Rattle.sh_world.specs.{States.{Given, done_in, dones_by, dones_from, Place, State, actor_of, answered, dones_of, HasActor, IsLeft}, Turning.{calls_after, going, place_after, resting}}
@@ -73,10 +73,7 @@ numbers_few j n (g ∷ calls) = by_test (numbers_few j (n + 1) calls) (g.seat ==
 
 -- a call makes one entry at most
 pub entries_one : (seat : ℕ) (c : Call) (r : Reply) → length (entries_by seat c r) ≤ 1
-entries_one seat (Put key value) (reply.Some old) = omega arith
-entries_one seat (Put key value) reply.None = omega arith
-entries_one seat (Del key) (reply.Some old) = omega arith
-entries_one seat c r = omega arith
+entries_one seat c r = search rules
 
 pub updates_few : (ds : List Done) → length (updates ds) ≤ length ds
 updates_few [] = omega arith
@@ -84,24 +81,14 @@ updates_few (d ∷ ds) = let e = entries_one d.seat d.call d.reply in let r = up
 
 -- they are of the seat
 pub entries_of_seat : (seat : ℕ) (c : Call) (r : Reply) (k : ℕ) (e : Entry) → slice_get (entries_by seat c r) k ≡ Some e → e.seat ≡ seat
-entries_of_seat seat (Put key value) (reply.Some old) zero e h = cc
-entries_of_seat seat (Put key value) (reply.Some old) (suc k) e h = cc
-entries_of_seat seat (Put key value) reply.None zero e h = cc
-entries_of_seat seat (Put key value) reply.None (suc k) e h = cc
-entries_of_seat seat (Del key) (reply.Some old) zero e h = cc
-entries_of_seat seat (Del key) (reply.Some old) (suc k) e h = cc
-entries_of_seat seat c r k e h = cc
+entries_of_seat seat c r k e h = search rules
 
 -- the entries that a turn makes are its seat's
 made_if : (seat : ℕ) (es : List Entry) → ((k : ℕ) (e : Entry) → slice_get es k ≡ Some e → e.seat ≡ seat) → (b : Bool) (k : ℕ) (e : Entry) → slice_get (if b then es else []) k ≡ Some e → e.seat ≡ seat
-made_if seat es own true k e h = own k e h
-made_if seat es own false k e h = cc
+made_if seat es own b k e h = search rules
 
 pub made_of_seat : (m : Machine) (ph : Phase) (k : ℕ) (e : Entry) → slice_get (made_in m ph) k ≡ Some e → e.seat ≡ m.seat
-made_of_seat m (Body carry done giving) k e h =
-    let own = entries_of_seat m.seat m.registers.call m.registers.reply in
-    made_if m.seat (entries_of m giving.write) (made_if m.seat (entries_by m.seat m.registers.call m.registers.reply) own (changes_map giving.write)) (done + 1 == length m.registers.body) k e h
-made_of_seat m ph k e h = cc
+made_of_seat m ph k e h = search (rules, entries_of_seat, made_if)
 
 -- ---- the values of the log, and so those of replies, have the setting's number of words
 
@@ -127,19 +114,14 @@ wide_none width k e h = absurd (cc)
 
 -- a call in range makes no others
 pub wide_by : (p : ConfigParts) (seat : ℕ) (c : Call) (r : Reply) → IsInRange p c → AreWide p.value_words (entries_by seat c r)
-wide_by p seat (Put key value) (reply.Some old) h zero e is = subst (λ (x : Entry). IsWide p.value_words x.change) (some_is is) h.1
-wide_by p seat (Put key value) reply.None h zero e is = subst (λ (x : Entry). IsWide p.value_words x.change) (some_is is) h.1
-wide_by p seat (Del key) (reply.Some old) h zero e is = subst (λ (x : Entry). IsWide p.value_words x.change) (some_is is) tt
-wide_by p seat c r h k e is = absurd (cc)
+wide_by p seat c r h h5 e is = search (rules, some_is)
 
 -- these ended calls are in range
 abbrev pub AreIn : ConfigParts → List Done → Type 0
 AreIn p ds = (k : ℕ) (d : Done) → slice_get ds k ≡ Some d → IsInRange p d.call
 
 in_one : (p : ConfigParts) (n : ℕ) (g : Given) (o : Option Reply) → IsInRange p g.call → AreIn p (done_in n g o)
-in_one p n g None h k d is = absurd (cc)
-in_one p n g (Some r) h zero d is = subst (λ (x : Done). IsInRange p x.call) (some_is is) h
-in_one p n g (Some r) h (suc k) d is = absurd (cc)
+in_one p n g o h k d is = search (rules, some_is)
 
 pub in_from : (p : ConfigParts) (n : ℕ) (calls : List Given) → ((k : ℕ) (g : Given) → slice_get calls k ≡ Some g → IsInRange p g.call) → AreIn p (dones_from n calls)
 in_from p n [] h k d is = absurd (cc)
@@ -179,22 +161,13 @@ slice_get-take (suc n) (x ∷ log) (suc k) e h = slice_get-take n log k e h
 module _ (width : ℕ) (log : List Entry) (legal : IsLegal log) (wide : AreWide width log) where
   -- what the map has came from a put
   pub found_wide : (at key : ℕ) (value : List ℕ) → get (map_at log at) key ≡ Some value → length value ≡ width
-  found_wide at key value has =
-      let f = value_from (take at log) key value has in
-      subst (IsWide width) f.3 (wide f.0 f.1 (slice_get-take at log f.0 f.1 f.2.here))
+  found_wide at key value has = search (rules, value_from, slice_get-take)
 
   old_wide : (at : ℕ) (e : Entry) (old : List ℕ) → slice_get log at ≡ Some e → e.old ≡ Some old → length old ≡ width
   old_wide at e old here is = found_wide at _ old (sym (IsLegal-at log at e legal here).0 ∙ is)
 
   pub reply_wide : (d : Done) (c : Call) (r : Reply) → AnswersAt log d c r → IsReplyWide width r
-  reply_wide d (Get key) (reply.Some value) h = found_wide d.point key value h
-  reply_wide d (Put key value) (reply.Some old) h = old_wide d.point _ old h refl
-  reply_wide d (Del key) (reply.Some old) h = old_wide d.point _ old h refl
-  reply_wide d (Range low high) (reply.Some value) h = absurd h
-  reply_wide d c reply.None h = tt
-  reply_wide d c (reply.Rows upto) h = tt
-  reply_wide d c reply.Full h = tt
-  reply_wide d c (reply.Worn version) h = tt
+  reply_wide d c r h = search (rules, found_wide, old_wide)
 
 -- ---- the rows of a range that ends: they are no more than its keys and than its buffer holds, and their values have
 -- the setting's words. Any other call has none
@@ -254,10 +227,7 @@ module _ (s : State) (run : IsRunning s) where
   under j q k = pending_stands p run.inv.scene j q.first q.point q.seen q.client.registers k.work.duty k.work.owes q.client.phase k.work.fits
 
   under_one : (j : ℕ) (q : Place) → KeepsActor p run.inv.scene j (actor_of s.calls j q) → length (pending j q.client.registers q.client.phase) ≤ 1
-  under_one j q k = elim (under j q k) [
-    | inl none ↦ let l = ap length none in omega (arith, l)
-    | inr own ↦ let l = ap length own.0 in omega (arith, l, entries_one j q.client.registers.call q.client.registers.reply)
-  ]
+  under_one j q k = search (rules, under, entries_one)
 
   -- with it so many have no more entries than the seat has calls
   under_few : (j : ℕ) (q : Place) → slice_get s.seats j ≡ Some q → (b : Bool) → is_resting q.client ≡ b → q.ended + length (pending j q.client.registers q.client.phase) ≤ length q.numbers
@@ -310,10 +280,7 @@ causes_last p counter log [] d h = h.0
 causes_last p counter log (c ∷ ds) d h = causes_last p counter log ds d h.1
 
 has_point : (log : List Entry) (d : Done) (c : Call) (r : Reply) → IsLeast log d c r → HasPoint log d.first c r
-has_point log d (Get key) (reply.Some value) h = (d.point, h.from, h.within, h.here)
-has_point log d (Get key) reply.None h = (d.point, h.from, h.within, h.here)
-has_point log d (Del key) reply.None h = (d.point, h.from, h.within, h.here)
-has_point log d c r h = tt
+has_point log d c r h = search rules
 
 -- the ticket says nothing of a seat's calls
 pub ticket_place : (calls : List Given) (i : ℕ) (q : Place) (t : ℕ) → IsPlace calls i q → IsPlace calls i (record q { ticket = t })

@@ -1,12 +1,12 @@
 -- A step that a seat makes at once, inside a verb or while it waits, is the turn that its client wants.
-use Rattle.std.proofs.{Common.{◌≡◌, ℕ, ◌-◌, ◌<◌, Bool, true, false, List, [], ◌++◌, length, set, take, get_or, Some, None, refl, sym, ap, ◌∙◌, subst}, lemmas.List.{append-nil, set-get_or, take_at}}
+use Rattle.std.proofs.{Common.{rules, ◌≡◌, ℕ, ◌-◌, ◌<◌, Bool, true, false, List, [], ◌++◌, length, set, take, get_or, Some, None, refl, sym, ap, ◌∙◌, subst}, lemmas.List.{append-nil, set-get_or, take_at}}
 use Rattle.std.{proofs.lemmas.Option.{slice_get_read}, specs.Prelude.{◌==◌, not, if◌then◌else◌}}
 use Rattle.sh_base.specs.{declared.config.ConfigParts.{ConfigParts}, Layout.{compute_of}, Memory.{found_by}, Setting.{all_locks}}
 use Rattle.sh_client.{proofs.Wanting.{goes_on, look_busy, look_stays, look_wants}, specs.{Feeds.{fed_by, turned_by}, Giving.{makes}, Machine.{Machine}, Rests.{has_ended, rows_told}}}
 use Rattle.sh_client.specs.{Steps.{looks_of, IsStep}, declared.state.Step.{Step}}
 use Rattle.sh_map.specs.{declared.log.Entry.{Entry}, Points.{point_of}}
 use Rattle.sh_world.{proofs.WorldLemmas.{called_world, event_world, is_asked, running, IsAsked}, specs.{Running.{IsWorld}, States.{Given, Place, State, actor_of, answered, line_at}}}
-use Rattle.sh_world.specs.{Turning.{asked_in, calls_after, going, looked_client, looked_line, place_after, resting, place_stepped, took, IsTurn}, declared.{state.Line.{Line}, turn.Turn.{Turn}}}
+use Rattle.sh_world.specs.{Turning.{calls_after, going, looked_client, looked_line, place_after, resting, place_stepped, took, IsTurn}, declared.{state.Line.{Line}, turn.Turn.{Turn}}}
 use Rattle.sh_client.specs.declared.state.Want.TheVariants as want
 
 -- the setting of a seat's client is the world's
@@ -17,17 +17,14 @@ seat_setting s t room kept i q e h lt read =
 
 -- the seat that makes a step was asked, and wants its event
 pub step_asked : (s t : State) (room : ℕ) (kept : ConfigParts) (i : ℕ) (q : Place) (m : Machine) (before after : List ℕ) (st : Step) → s ≡ t → IsWorld s room kept → i < length t.seats → q ≡ get_or s.seats i q → IsStep before after q.client m st → IsAsked s i room kept q (want.Event st.event)
-step_asked s t room kept i q m before after st e h lt read step =
-    is_asked s t room kept i q q s.calls (length s.log) (want.Event st.event) (want.Event st.event) e h lt read refl refl (sym (ap (asked_in s.calls q (length s.log)) step.event)) (sym step.event) step.within refl
+step_asked s t room kept i q m before after st e h lt read step = search (rules, is_asked)
 
 module _ (q : Place) (m : Machine) (before after : List ℕ) (st : Step) (step : IsStep before after q.client m st) where
   not_ended : has_ended m.phase ≡ false
   not_ended = goes_on m.phase step.busy
 
   step_place : (log : List Entry) → record q { client = m; seen = length log } ≡ place_after q log (makes q.client) m
-  step_place log =
-      sym (ap (λ (more : List Entry). place_after q log more m) step.log
-      ∙ ap (λ (b : Bool). if b then resting q log m else going q log [] m) not_ended)
+  step_place log = search (rules, not_ended)
 
   step_calls : (cs : List Given) (log : List Entry) → cs ≡ calls_after cs q log m
   step_calls cs log = sym (ap (λ (b : Bool). if b then answered cs (q.number - 1) m.registers.reply (rows_told m) q.first (point_of log q.first q.point m.registers.call m.registers.reply) else cs) not_ended)
@@ -45,10 +42,7 @@ step_world s i q R x m before after rest nw seen st R_is step before_is nw_is se
 -- where no step was made the world is as it was
 pub still_is : (s t : State) (i : ℕ) (q x : Place) (before after rest : List ℕ) (nw : ℕ) → s ≡ t → q ≡ get_or s.seats i q → x ≡ q → after ≡ before → before ≡ s.words → length s.words ≡ nw
     → record { setting = s.setting; words = take nw (after ++ rest); log = s.log; seats = set s.seats i x; calls = s.calls; lines = s.lines } ≡ t
-still_is s t i q x before after rest nw e read same words before_is nw_is =
-    let w : take nw (after ++ rest) ≡ s.words = take_at after rest nw (ap length (words ∙ before_is) ∙ nw_is) ∙ words ∙ before_is in
-    let p : set s.seats i x ≡ s.seats = ap (set s.seats i) (same ∙ read) ∙ set-get_or s.seats i q in
-    (λ z. record { setting = s.setting; words = w z; log = s.log; seats = p z; calls = s.calls; lines = s.lines }) ∙ e
+still_is s t i q x before after rest nw e read same words before_is nw_is = search (rules, take_at, set-get_or)
 
 -- and a turn of it is one of the world before
 pub still_turns : (u t new : State) (i : ℕ) (told : Turn) → u ≡ t → IsTurn u i new told → IsTurn t i new told
@@ -61,14 +55,11 @@ pub looks_seen : (x q : Place) (lock : ℕ) → x ≡ q → Some lock ≡ looks_
 looks_seen x q lock e is = ap (λ (y : Place). looks_of y.client) (sym e) ∙ sym is
 
 is_false : (b : Bool) → true ≡ not b → b ≡ false
-is_false true e = cc
-is_false false e = refl
+is_false b e = search rules
 
 -- the seat that looks was asked, and wants a look
 pub look_asked : (s t : State) (room : ℕ) (kept : ConfigParts) (i : ℕ) (q : Place) (lock : ℕ) → s ≡ t → IsWorld s room kept → i < length t.seats → q ≡ get_or s.seats i q → looks_of q.client ≡ Some lock → lock < all_locks q.client.setting → IsAsked s i room kept q (want.Look lock)
-look_asked s t room kept i q lock e h lt read looks within =
-    let wants = look_wants q.client q.client.phase lock looks in
-    is_asked s t room kept i q q s.calls (length s.log) (want.Look lock) (want.Look lock) e h lt read refl refl (sym (ap (asked_in s.calls q (length s.log)) wants)) (sym wants) within refl
+look_asked s t room kept i q lock e h lt read looks within = search (rules, look_wants, is_asked)
 
 -- the lock is one of the world's
 pub look_within : (s t : State) (room : ℕ) (kept : ConfigParts) (i : ℕ) (q : Place) (lock : ℕ) → s ≡ t → IsWorld s room kept → i < length t.seats → q ≡ get_or s.seats i q → lock < all_locks q.client.setting → lock < all_locks s.setting
@@ -104,6 +95,4 @@ wait_world s i q R x lock k l seen R_is looks waits k_is lt read seen_is x_is =
 -- the world after it
 pub load_world : (s : State) (i : ℕ) (q R x : Place) (m : Machine) (words : List ℕ) (seen : ℕ) (st : Step) → q ≡ R → IsStep words words q.client m st → words ≡ s.words → seen ≡ length s.log → x ≡ place_stepped q m seen (Some st)
     → record { setting = s.setting; words = s.words; log = s.log; seats = set s.seats i x; calls = s.calls; lines = s.lines } ≡ took s i R (want.Event st.event)
-load_world s i q R x m words seen st R_is step words_is seen_is x_is =
-    (λ z. record { setting = s.setting; words = sym (take_at words [] (length s.words) (ap length words_is) ∙ words_is) z; log = s.log; seats = set s.seats i x; calls = s.calls; lines = s.lines })
-    ∙ step_world s i q R x m words words [] (length s.words) seen st R_is step words_is refl seen_is x_is
+load_world s i q h3 x m words seen st h9 step words_is seen_is x_is = search (rules, take_at, step_world)

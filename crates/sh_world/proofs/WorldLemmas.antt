@@ -1,18 +1,17 @@
 -- The world's turn as what its parts do: a seat that is asked begins its next call; and from what the parts do to the
 -- turn.
-use Rattle.std.proofs.Common.{◌≡◌, ◌≢◌, ℕ, ◌+◌, ◌-◌, ◌<◌, inr, Bool, true, false, List, [], length, set, Option, Some, None, refl, sym, ap, ◌∙◌, subst, arith, zero, suc, ◌≤◌, inl, ◌++◌, get_or, take}
-use Rattle.std.{proofs.lemmas.{List.{append-nil, length-set, set-set, take_at}, Option.{slice_get_within, slice_get_read}}, specs.Prelude.{◌==◌, if◌then◌else◌, nat_lt, slice_get, IfSome}}
+use Rattle.std.proofs.Common.{rules, ◌≡◌, ◌≢◌, ℕ, ◌-◌, ◌<◌, inr, Bool, true, false, List, [], length, set, Option, Some, None, refl, sym, ap, ◌∙◌, subst, arith, ◌≤◌, ◌++◌, get_or, take}
+use Rattle.std.{proofs.lemmas.{List.{append-nil, length-set, set-set, take_at}, Option.{slice_get_within, slice_get_read}}, specs.Prelude.{◌==◌, if◌then◌else◌, slice_get, IfSome}}
 use Rattle.sh_logic.proofs.{Tests.{less_test}, Lists.{set_same, set_here}, Options.{some_is}}
-use Rattle.sh_base.specs.{Layout.{node_word, compute_of}, Memory.{apply, found_by}, Setting.{all_locks, node_size}, declared.{config.ConfigParts.{ConfigParts}, event.Event.{Event}}}
-use Rattle.sh_base.specs.declared.event.Event.TheVariants.{Load, Store, Exchange, Add}
+use Rattle.sh_base.specs.{Layout.{compute_of}, Memory.{apply, found_by}, Setting.{all_locks, node_size}, declared.{config.ConfigParts.{ConfigParts}, event.Event.{Event}}}
 use Rattle.sh_map.specs.{Calls.{IsInRange}, declared.log.Entry.{Entry}}
-use Rattle.sh_alloc.specs.{declared.state.ChunkWant.{ChunkWant}, Chunks.{WantsEvent}, Walks.{walk_wants}}
+use Rattle.sh_alloc.specs.{declared.state.ChunkWant.{ChunkWant}, Chunks.{WantsEvent}}
 use Rattle.sh_read.specs.Reads.{Reads, wanted}
 use Rattle.sh_state.specs.TreeState.{TreeState}
 use Rattle.sh_decide.specs.declared.state.Posting.{Posting}
 use Rattle.sh_client.{proofs.{BeginLemmas.{has_begun}, CachedLemmas.{fed_keeps}, InLineLemmas.{count_stands, draw_stands, look_stands}, Wanting.{stand_ended}}, specs.Feeds.{fed_by, fed_in, turned_by}}
-use Rattle.sh_client.specs.{Giving.{counted, made_in, makes, released}, InLine.{stand_in, MayHand, Stand, stand_of, IsIn}, Machine.{Machine, to}, Rests.{has_ended, is_resting, rests}}
-use Rattle.sh_client.specs.{Wants.{count_of, load_of, want_in, want_of, IsWithin}, declared.state.{Phase.{TheVariants.{Idle, Read, ReadLocked, Seek, Body, Ended}, Phase}, Then.{Then}, Want.{Want}}}
+use Rattle.sh_client.specs.{Giving.{counted, made_in, makes, released}, InLine.{stand_in, MayHand, Stand, stand_of, IsIn}, Machine.{Machine}, Rests.{has_ended, is_resting, rests}}
+use Rattle.sh_client.specs.{Wants.{count_of, load_of, want_in, want_of, IsWithin}, declared.state.{Phase.{Phase}, Then.{Then}, Want.{Want}}}
 use Rattle.sh_client.specs.declared.state.Write.{Write}
 use Rattle.sh_core.specs.{Actors.{Actor, actor_begun}, Fits.{Fits}, Keeps.{KeepsActor}}
 use Rattle.sh_core_turns.proofs.Calls.{begin_keeps}
@@ -21,30 +20,19 @@ use Rattle.sh_world.proofs.TurnLemmas.{event_busy, event_step, leave_busy, leave
 use Rattle.sh_world.specs.{Running.{IsRunning, IsWorld}, Seats.{CanAsk, CanSettle}, States.{Given, Place, State, actor_of, HasActor, IsLeft, line_at}, declared.{state.Line.{Line}, turn.Turn.{Turn}}}
 use Rattle.sh_world.specs.Turning.{asked, asked_in, started, starts, starts_next, answer_at, turn_answer_in, answer_of, behind, calls_after, drawn, left_line, line_of, looked_client, looked_line}
 use Rattle.sh_world.specs.Turning.{or_free, line_called, place_after, place_called, took, took_in, turn_at, turn_of, wanted_lock, IsTurn}
-use Rattle.sh_alloc.specs.declared.state.ChunkWant.TheVariants as chunk
 use Rattle.sh_client.specs.declared.state.Want.TheVariants as want
 use Rattle.sh_world.specs.declared.turn.Turn.TheVariants as turn
 
 -- ---- a client that wants nothing is at rest
 
 load_some : (p : ConfigParts) (r : Reads) → length r.loaded < node_size p → load_of (wanted p r) ≢ want.Done
-load_some p r lt e = by_test (nat_lt (length r.loaded) (node_size p)) (less_test (length r.loaded) (node_size p) lt) e where
-  by_test : (b : Bool) → b ≡ true → load_of (if b then Some (node_word p r.node + (node_size p - 1 - length r.loaded)) else None) ≡ want.Done → ⊥
-  by_test true is e = cc
-  by_test false is e = cc
+load_some p r lt e = search (rules, less_test)
 
 count_some : (w : ChunkWant) → WantsEvent w → count_of w ≢ want.Done
-count_some (chunk.Event e) h x = cc
-count_some (chunk.Got server c) h x = absurd h
-count_some chunk.AllSpent h x = absurd h
+count_some w h x = search rules
 
 done_in : (p : ConfigParts) (s : TreeState) (i f q e : ℕ) (m : Machine) (duty : Option Posting) (ph : Phase) → m.setting ≡ p → Fits p s i f q e m.registers duty ph → want_in m ph ≡ want.Done → rests ph ≡ true
-done_in p s i f q e m duty Idle is h w = refl
-done_in p s i f q e m duty Ended is h w = refl
-done_in p s i f q e m duty (Read aim top) is h w = absurd (load_some p m.registers.reads h.on_way.left (ap (λ (z : ConfigParts). load_of (wanted z m.registers.reads)) (sym is) ∙ w))
-done_in p s i f q e m duty (ReadLocked aim depth) is h w = absurd (load_some p m.registers.reads h.reading.left (ap (λ (z : ConfigParts). load_of (wanted z m.registers.reads)) (sym is) ∙ w))
-done_in p s i f q e m duty (Seek need) is h w = absurd (count_some (walk_wants p m.registers.walk) h.seeking.wants (ap (λ (z : ConfigParts). count_of (walk_wants z m.registers.walk)) (sym is) ∙ w))
-done_in p s i f q e m duty ph is h w = cc
+done_in p s i f q e m duty ph is h w = search (rules, load_some, count_some)
 
 module _ (s : State) (run : IsRunning s) (i : ℕ) (q : Place) (at : slice_get s.seats i ≡ Some q) where
   abbrev P : ConfigParts
@@ -109,20 +97,17 @@ module _ (s : State) (run : IsRunning s) (i : ℕ) (q : Place) (at : slice_get s
 -- ---- ends
 
 not_released : (m : Machine) (node : ℕ) (carry : Option ℕ) (after : Then) → has_ended (released m node carry after).phase ≡ false
-not_released m node (Some d) after = refl
-not_released m node None after = refl
+not_released m node carry after = search rules
 
 not_counted : (m : Machine) (node : ℕ) (carry : Option ℕ) (write : Write) (after : Then) (b : Bool) (x : Machine) → has_ended x.phase ≡ false → has_ended (if b then released (counted m write) node carry after else x).phase ≡ false
-not_counted m node carry write after true x e = not_released (counted m write) node carry after
-not_counted m node carry write after false x e = e
+not_counted m node carry write after b x e = search (rules, not_released)
 
 true_false : (b : Bool) → b ≡ true → b ≡ false → ⊥
 true_false b x y = cc
 
 -- a turn that ends a call makes no entry
 ended_makes : (m : Machine) (word : ℕ) (ph : Phase) → has_ended (fed_in m word ph).phase ≡ true → made_in m ph ≡ []
-ended_makes m word (Body carry done giving) e = absurd (true_false (has_ended (fed_in m word (Body carry done giving)).phase) e (not_counted m giving.node carry giving.write giving.after (done + 1 == length m.registers.body) (to m (Body carry (done + 1) giving)) refl))
-ended_makes m word ph e = refl
+ended_makes m word ph e = search (rules, true_false, not_counted)
 
 module _ (s : State) (run : IsRunning s) (i : ℕ) (q : Place) (at : slice_get s.seats i ≡ Some q) where
   pub event_settles : (e : Event) → want_of q.client ≡ want.Event e → CanSettle s.setting s.log s.calls q (fed_by q.client (found_by s.words e))
@@ -135,8 +120,7 @@ module _ (s : State) (run : IsRunning s) (i : ℕ) (q : Place) (at : slice_get s
 
 -- a world that has seats runs
 pub runs : (s : State) (room : ℕ) (kept : ConfigParts) → IsWorld s room kept → s.seats ≢ [] → IsRunning s × (length s.calls < room) × (kept ≡ s.setting)
-runs s room kept (inl blank) some = absurd (some blank.seats)
-runs s room kept (inr h) some = h
+runs s room kept h3 some = search (rules, h)
 
 module _ (s : State) (run : IsRunning s) (i : ℕ) (q : Place) (at : slice_get s.seats i ≡ Some q) where
   -- the seat that was asked
@@ -176,9 +160,7 @@ module _ (s : State) (run : IsRunning s) (i : ℕ) (q : Place) (at : slice_get s
 
   -- as many calls, in the same setting
   took_long : (w : Want) (lock : Option ℕ) → (length (took_in s i R w lock).calls ≡ length s.calls) × ((took_in s i R w lock).setting ≡ s.setting)
-  took_long w (Some lock) = (calls_long s.calls (place_called R (line_of s i lock) w) s.log (place_called R (line_of s i lock) w).client, refl)
-  took_long (want.Event x) None = (calls_long s.calls R s.log (fed_by R.client (found_by s.words x)), refl)
-  took_long w None = (refl, refl)
+  took_long w lock = search (rules, calls_long)
 
   -- a world of the same parts is one, with as much room
   pub world_is : (w : Want) → want_of R.client ≡ w → IsWithin s.setting w → (t : State) (room new : ℕ) (kept : ConfigParts) → t ≡ took s i R w → length s.calls < room → new ≡ room → kept ≡ s.setting → IsWorld t new kept
@@ -187,20 +169,11 @@ module _ (s : State) (run : IsRunning s) (i : ℕ) (q : Place) (at : slice_get s
 -- ---- from what a turn's parts do to the turn
 
 length_apply : (ws : List ℕ) (e : Event) → length (apply ws e) ≡ length ws
-length_apply ws (Load at) = refl
-length_apply ws (Store at word) = length-set ws at word
-length_apply ws (Add at) = length-set ws at _
-length_apply ws (Exchange at old new) = by_test (get_or ws at 0 == old) where
-  by_test : (b : Bool) → length (if b then set ws at new else ws) ≡ length ws
-  by_test true = length-set ws at new
-  by_test false = refl
+length_apply ws e = search (rules, length-set)
 
 -- what a world of these fields is
 pub running : (s t : State) (room : ℕ) (kept : ConfigParts) (i : ℕ) → s ≡ t → IsWorld s room kept → i < length t.seats → IsRunning s × (length s.calls < room) × (i < length s.seats) × (kept ≡ s.setting)
-running s t room kept i e h lt =
-    let here : i < length s.seats = subst (λ (x : State). i < length x.seats) (sym e) lt in
-    let r = runs s room kept h (λ none. let l = ap length none in absurd (omega (arith, here, l))) in
-    (r.0, r.1, here, r.2)
+running s t room kept i e h lt = search (rules, runs)
 
 -- a line that was read is the one of its place
 pub line_read : (s : State) (i lock k : ℕ) (l : Line) → k ≡ line_at s.setting lock (compute_of s.setting i) → k < length s.lines → l ≡ get_or s.lines k l → l ≡ line_of s i lock
@@ -210,12 +183,7 @@ module _ (s : State) (i : ℕ) (r R : Place) (r_is : r ≡ R) where
   pub event_world : (e : Event) (ws words rest_w : List ℕ) (log : List Entry) (x : Place) (cs calls : List Given) (nw : ℕ) → ws ≡ s.words → cs ≡ s.calls → words ≡ apply ws e → log ≡ s.log ++ makes r.client
       → x ≡ place_after r s.log (makes r.client) (fed_by r.client (found_by ws e)) → calls ≡ calls_after cs r s.log (fed_by r.client (found_by ws e)) → length s.words ≡ nw
       → record { setting = s.setting; words = take nw (words ++ rest_w); log = log; seats = set s.seats i x; calls = calls; lines = s.lines } ≡ took s i R (want.Event e)
-  event_world e ws words rest_w log x cs calls nw ws_is cs_is words_is log_is x_is calls_is nw_is =
-      let w : take nw (words ++ rest_w) ≡ apply s.words e = take_at words rest_w nw (ap length words_is ∙ length_apply ws e ∙ ap length ws_is ∙ nw_is) ∙ words_is ∙ ap (λ (v : List ℕ). apply v e) ws_is in
-      let c : calls ≡ calls_after s.calls R s.log (fed_by R.client (found_by s.words e)) = calls_is ∙ (λ z. calls_after (cs_is z) (r_is z) s.log (fed_by (r_is z).client (found_by (ws_is z) e))) in
-      let l : log ≡ s.log ++ makes R.client = log_is ∙ ap (λ (y : Place). s.log ++ makes y.client) r_is in
-      let p : x ≡ place_after R s.log (makes R.client) (fed_by R.client (found_by s.words e)) = x_is ∙ (λ z. place_after (r_is z) s.log (makes (r_is z).client) (fed_by (r_is z).client (found_by (ws_is z) e))) in
-      λ z. record { setting = s.setting; words = w z; log = l z; seats = set s.seats i (p z); calls = c z; lines = s.lines }
+  event_world e ws words rest_w log x cs calls nw ws_is cs_is words_is log_is x_is calls_is nw_is = search (rules, take_at, length_apply)
 
   -- a call on a line
   module _ (lock k : ℕ) where
@@ -248,20 +216,7 @@ asked_setting : (s : State) (run : IsRunning s) (i : ℕ) (q : Place) (at : slic
 asked_setting s run i q at = let r1 = run1 s run i q at in (r1.inv.kept i (actor_of s.calls i (asked s.calls q (length s.log))) (record { place = asked s.calls q (length s.log); here = at1 s run i q at; actor_is = refl })).work.seated.setting_is
 
 pub is_asked : (s t : State) (room : ℕ) (kept : ConfigParts) (i : ℕ) (q r : Place) (calls : List Given) (seen : ℕ) (res w : Want) → s ≡ t → IsWorld s room kept → i < length t.seats → q ≡ get_or s.seats i q → calls ≡ s.calls → seen ≡ length s.log → r ≡ asked calls q seen → res ≡ want_of r.client → IsWithin r.client.setting res → res ≡ w → IsAsked s i room kept r w
-is_asked s t room kept i q r calls seen res w e h lt read calls_is seen_is r_is res_is inside w_is =
-    let g = running s t room kept i e h lt in
-    let at = slice_get_read s.seats (length s.seats) i q refl g.2 read in
-    let all : r ≡ asked s.calls q (length s.log) = r_is ∙ (λ z. asked (calls_is z) q (seen_is z)) in
-    record {
-      run = g.0;
-      room_is = g.1;
-      kept_for = g.3;
-      place = q;
-      here = at;
-      asked_is = all;
-      want_is = ap (λ (x : Place). want_of x.client) (sym all) ∙ sym res_is ∙ w_is;
-      within = subst (λ (p : ConfigParts). IsWithin p w) (ap (λ (x : Place). x.client.setting) all ∙ asked_setting s g.0 i q at) (subst (IsWithin r.client.setting) w_is inside);
-    }
+is_asked s t room kept i q r calls seen res w e h lt read calls_is seen_is r_is res_is inside w_is = search (rules, running, slice_get_read, asked_setting)
 
 module _ (s : State) (i room : ℕ) (kept : ConfigParts) (r : Place) (w : Want) (a : IsAsked s i room kept r w) where
   -- what comes of it is the turn
@@ -294,34 +249,24 @@ event_can s i room kept r e cs ws a cs_is ws_is =
 -- ---- a call on a line
 
 pub lock_within : (p : ConfigParts) (w : Want) (lock : ℕ) → wanted_lock w ≡ Some lock → IsWithin p w → lock < all_locks p
-lock_within p (want.Draw n) lock e h = subst (λ (m : ℕ). m < all_locks p) (some_is e) h
-lock_within p (want.Look n) lock e h = subst (λ (m : ℕ). m < all_locks p) (some_is e) h
-lock_within p (want.Waiting n) lock e h = subst (λ (m : ℕ). m < all_locks p) (some_is e) h
-lock_within p (want.Leave n carry) lock e h = subst (λ (m : ℕ). m < all_locks p) (some_is e) h
-lock_within p w lock e h = cc
+lock_within p w lock e h = search (rules, some_is)
 
 -- what it answers
 pub local_told : (words : List ℕ) (w : Want) (lock : ℕ) → wanted_lock w ≡ Some lock → turn.Local ≡ turn_answer_in words w
-local_told words (want.Event e) lock x = cc
-local_told words want.Done lock x = cc
-local_told words w lock x = refl
+local_told words w lock x = search rules
 
 pub nothing_left : (w : Want) → wanted_lock w ≡ None → ((e : Event) → w ≢ want.Event e) → w ≡ want.Done
-nothing_left (want.Event e) none h = absurd (h e refl)
-nothing_left want.Done none h = refl
-nothing_left w none h = cc
+nothing_left w none h = search rules
 
 -- a client that stands in a line goes on
 in_line_goes : (m : Machine) (lock : ℕ) → IsIn lock (stand_of m) → has_ended m.phase ≡ true → ⊥
 in_line_goes m lock h e = subst (IsIn lock) (stand_ended m m.phase e) h
 
 may_be : (lock n : ℕ) (x : Stand) → MayHand lock n x → IsIn lock x
-may_be lock zero x e = subst (IsIn lock) (sym e) refl
-may_be lock (suc n) x e = elim e [ inl f ↦ subst (IsIn lock) (sym f) refl | inr f ↦ subst (IsIn lock) (sym f) refl ]
+may_be lock n x e = search rules
 
 looks_on : (r : Place) (l : Line) (lock : ℕ) → want_of r.client ≡ want.Look lock → (b : Bool) → IsIn lock (stand_of (if b then turned_by r.client l.left else fed_by r.client l.served))
-looks_on r l lock w true = subst (IsIn lock) (sym (look_stands r.client 0 lock l.left r.client.phase w).2) refl
-looks_on r l lock w false = let x = look_stands r.client l.served lock None r.client.phase w in subst (λ (m : Machine). IsIn lock (stand_of m)) (sym x.1) (subst (IsIn lock) (sym x.0) refl)
+looks_on r l lock w b = search (rules, look_stands)
 
 -- a call that ends with it can end
 pub call_can : (s : State) (i room : ℕ) (kept : ConfigParts) (r : Place) (w : Want) (lock : ℕ) (l : Line) (cs : List Given) (lg : List Entry) → IsAsked s i room kept r w → wanted_lock w ≡ Some lock → cs ≡ s.calls → lg ≡ s.log → CanSettle kept lg cs (place_called r l w) (place_called r l w).client
@@ -351,5 +296,4 @@ pub done_world : (s : State) (i : ℕ) (r R : Place) → r ≡ R → record { se
 done_world s i r R e = λ z. record { setting = s.setting; words = s.words; log = s.log; seats = set s.seats i (e z); calls = s.calls; lines = s.lines }
 
 pub if_some : (o : Option ℕ) (b : ℕ) → ((d : ℕ) → o ≡ Some d → d ≤ b) → IfSome o (λ d. d ≤ b)
-if_some None b h = tt
-if_some (Some d) b h = h d refl
+if_some o b h = search rules

@@ -1,6 +1,6 @@
-use Rattle.std.proofs.Common.{◌≡◌, ◌+◌, ◌-◌, ◌*◌, ◌∙◌, ◌++◌, ◌∷◌, [], ap, sym, length, map, arith}
+use Rattle.std.proofs.Common.{rules, ◌≡◌, ◌+◌, ◌-◌, ◌*◌, ◌∙◌, ◌++◌, ◌∷◌, [], ap, sym, length, map, arith}
 use Rattle.std.{specs.List.{range_with_len}, proofs.lemmas.List.FromFn.{length-map-range_with_len, map-range_with_len_more}}
-use Rattle.sh_bulk.{specs.{Nodes.{inner_of, pair_to, taken_by}}, proofs.{LevelLemmas.{over}, ShapeLemmas.{child_begins}}}
+use Rattle.sh_bulk.{specs.{Nodes.{inner_of, pair_to}}, proofs.{LevelLemmas.{over}, ShapeLemmas.{child_begins}}}
 use Rattle.sh_bulk.proofs.inner.image_of.Goals as goal
 
 pub overflow_mul-from : goal.overflow_mul-from
@@ -16,14 +16,10 @@ pub overflow_cast-below : goal.overflow_cast-below
 overflow_cast-below c = omega (arith, c.inner_fill-fill.ensures.high, over _ _ _ c.args.j _ c.args.cfg.now.lawful c.requires.room c.requires.level c.requires.node c.inner_fill-fill.ensures.fill)
 
 pub head_of-image-requires-clause-to : goal.head_of-image-requires-clause-to
-head_of-image-requires-clause-to c =
-    let at = ap (λ f. c.args.j * f) c.inner_fill-fill.ensures.fill in omega (arith, at, c.inner_fill-fill.ensures.fill, c.requires.level.count_is, over _ _ _ c.args.j _ c.args.cfg.now.lawful c.requires.room c.requires.level c.requires.node c.inner_fill-fill.ensures.fill)
+head_of-image-requires-clause-to c = search (rules, over)
 
 pub push-requires : goal.push-requires
-push-requires c =
-    let p = c.args.cfg.now.parts in
-    let many = length-map-range_with_len (pair_to p c.args.rows.now c.args.below.number) (c.args.j * c.inner_fill-fill.result) (c.loop-i.i - c.args.j * c.inner_fill-fill.result) in
-    omega (arith, ap (λ a. length a.pairs) c.loop-i.invariant, many, c.inner_fill-fill.ensures)
+push-requires c = search (rules, length-map-range_with_len)
 
 pub loop-i-preserved : goal.loop-i-preserved
 loop-i-preserved c =
@@ -39,12 +35,4 @@ loop-i-preserved c =
     c.push.ensures ∙ ((λ t. record (c.loop-i.invariant t) { pairs = (c.loop-i.invariant t).pairs ++ record { separator = c.low_of.ensures t; child = same t } ∷ [] }) ∙ (λ t. record (inner_of p rows l.number c.args.j) { pairs = sym pairs t }))
 
 pub returns : goal.returns
-returns c =
-    let p = c.args.cfg.now.parts in
-    let rows = c.args.rows.now in
-    let l = c.args.below in
-    let from = c.args.j * c.inner_fill-fill.result in
-    let at = ap (λ f. c.args.j * f) c.inner_fill-fill.ensures.fill in
-    let start = child_begins p c.args.cfg.now.lawful (length rows) l.number c.args.j c.requires.node in
-    let many : c.loop-i.i - from ≡ taken_by p rows l.number c.args.j = omega (arith, at, start, c.inner_fill-fill.ensures, c.requires.level.count_is) in
-    c.loop-i.invariant ∙ (λ t. record (inner_of p rows l.number c.args.j) { pairs = map (pair_to p rows l.number) (range_with_len (at t) (many t)) })
+returns c = search (rules, child_begins)

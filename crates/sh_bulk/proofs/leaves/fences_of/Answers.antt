@@ -1,4 +1,4 @@
-use Rattle.std.proofs.Common.{◌≡◌, ◌+◌, ◌∙◌, ap, sym, length, min, arith}
+use Rattle.std.proofs.Common.{rules, ◌≡◌, ◌+◌, ◌∙◌, ap, sym, length, min, arith}
 use Rattle.sh_map.specs.Rows.{row_key}
 use Rattle.sh_bulk.{specs.{Shape.{leaf_fill}, Nodes.{high_in, next_in}}, proofs.{LevelLemmas.{leaf_last, leaf_next}, RowLemmas.{high_last, high_more, leaf_low, next_last, next_more}}}
 use Rattle.sh_bulk.proofs.ShapeLemmas.{leaves_few}
@@ -18,11 +18,4 @@ returns-then-to-rows c =
     λ t. record { low = c.low_of-low.ensures t; high = high t; next = next t }
 
 pub returns-else-to-rows : goal.returns-else-to-rows
-returns-else-to-rows c =
-    let p = c.args.cfg.now.parts in
-    let rows = c.args.rows.now in
-    let j = c.args.j in
-    let last = leaf_last p c.args.cfg.now.lawful (length rows) j c.args.to c.requires.leaf (c.requires.to ∙ ap (λ k. min (k + leaf_fill p) (length rows)) c.requires.from) (omega (arith, c.if-to-rows.false)) in
-    let high = sym (high_last p rows 0 j last) in
-    let next = sym (next_last p rows 0 j last) in
-    λ t. record { low = c.low_of-low.ensures t; high = high t; next = next t }
+returns-else-to-rows c = search (rules, leaf_last, high_last, next_last)

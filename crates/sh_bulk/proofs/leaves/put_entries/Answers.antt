@@ -1,8 +1,8 @@
-use Rattle.std.{proofs.Common.{◌≡◌, ◌≤◌, ◌<◌, ◌+◌, ◌-◌, ◌++◌, length, take, drop, map, sym, ap, subst, ◌∙◌, arith}, specs.List.{flat_map}}
+use Rattle.std.{proofs.Common.{rules, ◌≡◌, ◌≤◌, ◌<◌, ◌+◌, ◌++◌, length, take, map, sym, ap, ◌∙◌, arith}, specs.List.{flat_map}}
 use Rattle.std.proofs.lemmas.List.{append-nil, get_or-map, length-drop, length-map, length-take-le}
 use Rattle.sh_logic.proofs.Lists.{all_at}
 use Rattle.sh_base.{specs.Layout.{entry_at}, proofs.LayoutLemmas.{entry_at_first, entry_at_more, entry_high, entry_size_is, node_size_is, rear_at_small}}
-use Rattle.sh_map.specs.{declared.book.Row.{Row}, Map.{row_pair}}
+use Rattle.sh_map.specs.{Map.{row_pair}}
 use Rattle.sh_image.{specs.Entries.{entry_words}, proofs.WriteLemmas.{piece_more, pieces_more}}
 use Rattle.sh_edit.specs.Splitting.{entry_with}
 use Rattle.sh_bulk.proofs.leaves.put_entries.Goals as goal
@@ -20,14 +20,7 @@ pub slice_bounds-put_entry-end : goal.slice_bounds-put_entry-end
 slice_bounds-put_entry-end c = let high = entry_high c.args.cfg.now.parts c.loop-i.i (omega (arith, c.requires.count)) in omega (arith, c.loop-i.invariant.0, c.entry_size-size.ensures, c.requires.size, high, node_size_is c.args.cfg.now.parts)
 
 pub put_entry-requires : goal.put_entry-requires
-put_entry-requires c =
-    let p = c.args.cfg.now.parts in
-    let at = c.loop-i.at in
-    let size = c.entry_size-size.result in
-    let high = entry_high p c.loop-i.i (omega (arith, c.requires.count)) in
-    let part : length (take (at + size - at) (drop at c.loop-i.out)) ≡ at + size - at = length-take-le (at + size - at) (drop at c.loop-i.out) (simp length-drop (omega (arith, c.loop-i.invariant.0, c.entry_size-size.ensures, c.requires.size, high, node_size_is p))) in
-    let value : length c.index-rows-i.result.value ≡ p.value_words = subst (λ (r : Row). length r.value ≡ p.value_words) (sym c.index-rows-i.is) (all_at _ c.args.rows.now c.loop-i.i c.index-rows-i.result c.requires.values (omega arith)) in
-    part ∙ omega (arith, c.entry_size-size.ensures, entry_size_is p, value)
+put_entry-requires c = search (rules, entry_high, length-take-le, length-drop, node_size_is, all_at, entry_size_is)
 
 pub loop-i-preserved : goal.loop-i-preserved
 loop-i-preserved c =

@@ -1,4 +1,4 @@
-use Rattle.std.proofs.Common.{◌≡◌, ℕ, ◌≤◌, arith}
+use Rattle.std.proofs.Common.{rules, ◌≡◌, ℕ, ◌≤◌, arith}
 use Rattle.sh_edit.proofs.{SplitLemmas.{halves_are_put, sides}, HalvesLemmas.{left_once, right_once, separator_within, left_lawful, right_lawful}}
 use Rattle.sh_edit.proofs.laws.splits_are_the_maps.Goals as goal
 
@@ -21,7 +21,4 @@ pub returns-clause-separator : goal.returns-clause-separator
 returns-clause-separator c = λ p a key value h lawful words low high. separator_within p a key value 0 lawful h.some h.lacks h.full h.once low h.is_key high words
 
 pub returns-clause-lawful : goal.returns-clause-lawful
-returns-clause-lawful c = λ p a key right value h lawful words low high word version one node. (
-  left_lawful p a key value right lawful h.some h.lacks h.full h.once low h.is_key high words version one node word,
-  right_lawful p a key value right lawful h.some h.lacks h.full h.once low h.is_key high words,
-)
+returns-clause-lawful c = search (rules, left_lawful, is_key, right_lawful)

@@ -1,4 +1,4 @@
-use Rattle.std.proofs.Common.{refl, arith}
+use Rattle.std.proofs.Common.{rules, refl, arith}
 use Rattle.sh_image.proofs.InnerLemmas.{inner_spelled, inner_passed, inner_failed, length_decoded, zeros_spelled}
 use Rattle.sh_image.proofs.read_inner.read_inner.Goals as goal
 
@@ -13,8 +13,7 @@ is_inner-requires-clause-count c =
     omega (arith, length_decoded c.args.cfg.now.parts c.args.words.now c.fill.new.image (c.if-not-fill.ensures.filled refl), c.if-count-from.false, c.leaf.ensures, c.from-else-words-from.ensures)
 
 pub returns-clause-spelled : goal.returns-clause-spelled
-returns-clause-spelled c = λ t.
-    inner_passed c.args.cfg.now.parts c.args.words.now c.fill.new.image c.args.cfg.now.lawful.ranged.value_words.0 c.requires.size c.requires.untorn (omega (arith, c.if-count-from.false, c.leaf.ensures, c.from-else-words-from.ensures)) (c.if-not-has_zeros_behind.ensures.0 refl) (c.if-not-fill.ensures.filled refl) (c.is_inner.ensures.0 t)
+returns-clause-spelled c = search (rules, inner_passed)
 
 pub returns-clause-always : goal.returns-clause-always
 returns-clause-always c = λ a s. c.is_inner.ensures.1 (inner_failed c.args.cfg.now.parts c.args.words.now c.fill.new.image a (c.if-not-fill.ensures.filled refl) s)

@@ -1,7 +1,7 @@
-use Rattle.std.proofs.Common.{◌≡◌, ◌<◌, ◌≤◌, ◌+◌, ◌-◌, ◌*◌, ◌++◌, ◌∷◌, [], take, sym, ap, ◌∙◌, length, append_assoc, arith}
+use Rattle.std.proofs.Common.{rules, ◌<◌, ◌≤◌, ◌+◌, ◌*◌, ◌++◌, ◌∙◌, length, append_assoc, arith}
 use Rattle.std.{specs.List.{flat_map}, proofs.lemmas.List.{length-set}}
 use Rattle.sh_base.proofs.LayoutLemmas.{node_size_is, rear_at_low}
-use Rattle.sh_image.{specs.Inner.{inner_header, pair_words, words_behind}, proofs.{InnerLemmas.{pairs_room}, WriteLemmas.{zeros, zero_more, last_word}}}
+use Rattle.sh_image.{specs.Inner.{inner_header, pair_words}, proofs.{InnerLemmas.{pairs_room}, WriteLemmas.{zeros, zero_more, last_word}}}
 use Rattle.sh_image.proofs.write.write_inner.Goals as goal
 
 pub write_inner_header-requires : goal.write_inner_header-requires
@@ -24,13 +24,4 @@ pub bounds-out-rear : goal.bounds-out-rear
 bounds-out-rear c = omega (arith, c.loop-at.invariant.1, c.requires.size, node_size_is c.args.cfg.now.parts, c.rear_at-rear.ensures)
 
 pub returns : goal.returns
-returns c =
-    let a = c.args.image.now in
-    let p = c.args.cfg.now.parts in
-    let fm = flat_map pair_words a.pairs in
-    let room = pairs_room p c.args.cfg.now.lawful.ranged.value_words.0 in
-    let last : c.loop-at.at ≡ c.rear_at-rear.result = omega (arith, c.write_pairs-end.ensures.end, c.rear_at-rear.ensures, c.requires.count, room) in
-    let before = ap (λ n. take n c.loop-at.out) (sym last) ∙ c.loop-at.invariant.0 ∙ ap (λ n. inner_header a ++ fm ++ zeros (n - (6 + 2 * length a.pairs))) (last ∙ c.rear_at-rear.ensures) in
-    last_word c.loop-at.out (inner_header a ++ fm ++ zeros (words_behind p (length a.pairs))) c.rear_at-rear.result c.version.result a.version (omega (arith, c.loop-at.invariant.1, c.requires.size, node_size_is p, c.rear_at-rear.ensures)) c.version.ensures before
-    ∙ append_assoc (inner_header a ++ fm) (zeros (words_behind p (length a.pairs))) (a.version ∷ [])
-    ∙ append_assoc (inner_header a) fm (zeros (words_behind p (length a.pairs)) ++ a.version ∷ [])
+returns c = search (rules, pairs_room, zeros, last_word, node_size_is, append_assoc)

@@ -1,10 +1,9 @@
-use Rattle.std.proofs.{Common.{arith, ◌∙◌}, lemmas.List.{length-set, take_more_set}}
+use Rattle.std.proofs.{Common.{rules, arith, ◌∙◌}, lemmas.List.{length-set, take_more_set}}
 use Rattle.sh_judge.proofs.Numbers.{cut_more, too_many_parts}
 use Rattle.sh_judge.proofs.number.value.Goals as goal
 
 pub returns-then-at-count : goal.returns-then-at-count
-returns-then-at-count c =
-    too_many_parts _ _ c.in-Some.more.now _ _ (rw c.in-Some.is at c.parts.invariant.2) c.if-at-count.true
+returns-then-at-count c = search (rules, too_many_parts)
 
 pub parts-preserved : goal.parts-preserved
 parts-preserved c =

@@ -1,30 +1,14 @@
-use Rattle.std.proofs.Common.{◌+◌, ◌-◌, ◌*◌, ◌∙◌, ap, sym, arith, drop, get_or}
-use Rattle.std.proofs.lemmas.{Bool.Decides.{nat_tests}, List.{drop_all}}
-use Rattle.sh_sheet.{specs.Number.{are_digits, value_from}, proofs.Digits.{value_from-ge, value_from_more}}
+use Rattle.std.proofs.Common.{rules}
+use Rattle.std.proofs.lemmas.{List.{drop_all}}
+use Rattle.sh_sheet.{proofs.Digits.{value_from-ge, value_from_more}}
 use Rattle.sh_judge.proofs.Numbers.{wide_of_digits, wide_of_large}
 use Rattle.sh_judge.proofs.number.wide.Goals as goal
 
 pub returns-in_err-checked_mul : goal.returns-in_err-checked_mul
-returns-in_err-checked_mul c =
-    let bs = c.args.text.now in
-    let n = c.loop-byte.value in
-    let i = c.loop-byte.byte-index in
-    let whole = c.loop-byte.invariant.1 ∙ value_from_more n bs i c.loop-byte-test.true in
-    let more = value_from-ge (n * 10 + (get_or bs i 0 - 48)) (drop (i + 1) bs) in
-    c.from_residual.ensures ∙ wide_of_large bs (omega arith)
+returns-in_err-checked_mul c = search (rules, value_from_more, value_from-ge, wide_of_large)
 
 pub returns-in_err-value : goal.returns-in_err-value
-returns-in_err-value c =
-    let bs = c.args.text.now in
-    let n = c.loop-byte.value in
-    let i = c.loop-byte.byte-index in
-    let whole = c.loop-byte.invariant.1 ∙ value_from_more n bs i c.loop-byte-test.true in
-    let more = value_from-ge (n * 10 + (get_or bs i 0 - 48)) (drop (i + 1) bs) in
-    c.from_residual-in_err-value.ensures ∙ wide_of_large bs (omega arith)
+returns-in_err-value c = search (rules, value_from_more, value_from-ge, wide_of_large)
 
 pub returns : goal.returns
-returns c =
-    let bs = c.args.text.now in
-    let none = drop_all c.loop-byte.byte-index bs c.loop-byte-test.false in
-    wide_of_digits bs c.loop-byte.value (grind (arith, nat_tests)) (sym c.if-has_zero.false ∙ c.has_zero.ensures) (c.loop-byte.invariant.0 ∙ ap are_digits none)
-    (c.loop-byte.invariant.1 ∙ ap (value_from c.loop-byte.value) none) (omega arith)
+returns c = search (rules, drop_all, wide_of_digits)

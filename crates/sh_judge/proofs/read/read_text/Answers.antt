@@ -1,4 +1,4 @@
-use Rattle.std.proofs.Common.{arith}
+use Rattle.std.proofs.Common.{rules}
 use Rattle.sh_judge.proofs.ReadLemmas.{line_refused, line_taken}
 use Rattle.sh_judge.proofs.read.read_text.Goals as goal
 
@@ -6,9 +6,4 @@ pub returns-then-not-branch-clause-read : goal.returns-then-not-branch-clause-re
 returns-then-not-branch-clause-read c = line_refused _ c.args.words _ _ c.lines.lines _ c.in-Some.next.rest.now _ _ c.lines.invariant.0 c.in-Some.ensures.parts c.in_ok-take_line.ensures.taken c.if-not-branch.true
 
 pub lines-preserved : goal.lines-preserved
-lines-preserved c = (
-  line_taken _ c.args.words _ _ c.lines.lines _ c.in-Some.next.rest.now _ _ c.lines.invariant.0 c.in-Some.ensures.parts c.in_ok-take_line.ensures.taken c.if-not-branch.false,
-  c.in_ok-take_line.ensures.least,
-  omega (arith, c.lines.invariant.2, c.in_ok-take_line.ensures.maps),
-  omega (arith, c.lines.invariant.3, c.in-Some.ensures.shorter),
-)
+lines-preserved c = search (rules, line_taken)

@@ -1,31 +1,12 @@
-use Rattle.std.proofs.Common.{◌≡◌, ap, sym, ◌∙◌, subst}
+use Rattle.std.proofs.Common.{rules, ◌≡◌, ap, sym, ◌∙◌, subst}
 use Rattle.sh_local.{specs.{declared.view.View.{View}, Calls.{both}, Chairs.{Sitting, AllFree, TakenIn}}, proofs.{Regroup.{joins}, Taking.{all_free_snoc, taken_step, taken_first}}}
 use Rattle.sh_local.proofs.queues.take_in.Goals as goal
 
 pub loop-chair-init : goal.loop-chair-init
-loop-chair-init g c =
-    let e = c.into_seat-last.ensures in
-    let shelf = c.args.shelf.now in
-    let x : Sitting g.row.T.Denot g.row.T-Key.Denot = c.in-Some.first in
-    let rest = c.pop.new.self.items in
-    let is = c.in-Some.ensures.items in
-    let free = all_free_snoc shelf.table_id rest x (subst (AllFree shelf.table_id) is c.requires.free) in (
-      e.seat.0 ∙ free.1,
-      e.free free.2,
-      free.0,
-      subst (λ (v : View g.row.T.Denot g.row.T-Key.Denot). TakenIn c.args.chairs.items rest v) (sym e.seat.1) (taken_first c.args.chairs.items rest x is free.2 e.part),
-    )
+loop-chair-init g c = search (rules, all_free_snoc, taken_first)
 
 pub join_seat-requires : goal.join_seat-requires
-join_seat-requires g c =
-    let i = c.loop-chair.invariant in
-    let shelf = c.args.shelf.now in
-    let seat = c.into_seat-seat.result in
-    let e = c.into_seat-seat.ensures in
-    let x : Sitting g.row.T.Denot g.row.T-Key.Denot = c.in-Some-pop.chair in
-    let free = all_free_snoc shelf.table_id c.pop-in-loop-chair.new.self.items x (subst (AllFree shelf.table_id) c.in-Some-pop.ensures.items i.2) in
-    let none = ap (λ u. u.ticket) e.seat.1 ∙ free.2 in
-    (i.0, e.seat.0 ∙ free.1, e.free free.2, c.requires.words, joins g.T.Carried.fits shelf.key.key shelf.key.chairs c.loop-chair.last.id c.loop-chair.last.me.0 seat.id seat.me.0 i.3.none none)
+join_seat-requires g c = search (rules, all_free_snoc, joins)
 
 pub loop-chair-preserved : goal.loop-chair-preserved
 loop-chair-preserved g c =

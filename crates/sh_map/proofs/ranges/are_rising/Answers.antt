@@ -1,4 +1,4 @@
-use Rattle.std.{proofs.{Common.{◌<◌, arith, subst, ap, refl}, lemmas.List.{take_all}}, specs.Prelude.{AllPairs}}
+use Rattle.std.{proofs.{Common.{rules, arith, ap}, lemmas.List.{take_all}}}
 use Rattle.sh_map.{specs.declared.book.Row.{Row}, proofs.{RangeLemmas.{rising_more}, ranges.are_rising.Goals.{else-at-gt0-via-then-at-gt0+else-row-rows, else-at-gt0-via-else-at-gt0}}}
 use Rattle.sh_map.proofs.ranges.are_rising.Goals as goal
 
@@ -12,6 +12,4 @@ loop-at-preserved c =
     ])
 
 pub returns : goal.returns
-returns c =
-    let rows = c.args.rows.now in
-    (λ yes. subst (AllPairs (λ x y. x.key < y.key)) (take_all c.loop-at.at rows c.loop-at-test.false) c.loop-at.invariant, λ pairs. refl)
+returns c = search (rules, take_all)

@@ -1,4 +1,4 @@
-use Rattle.std.{proofs.{Common.{◌≡◌, ◌⊎◌, Some, sym, subst, ◌<◌, length, get_or, ℕ, List, arith}, lemmas.List.{get_or_default, take_all}}, specs.Prelude.{All, Any, slice_get}}
+use Rattle.std.{proofs.{Common.{rules, ◌≡◌, ◌⊎◌, Some, sym, subst, ℕ, List, arith}, lemmas.List.{get_or_default, take_all}}, specs.Prelude.{Any, slice_get}}
 use Rattle.sh_map.{specs.{declared.{book.Done.{Done}, sweep.Due.{Due}}, Judge.{AsksNothing}}, proofs.SweepLemmas.{AreSwept, swept_none, swept_more, swept_all}}
 use Rattle.sh_map.proofs.sweep.are_right.Goals as goal
 
@@ -12,17 +12,7 @@ pub move_to-requires-clause-here : goal.move_to-requires-clause-here
 move_to-requires-clause-here c = c.loop-one.invariant.1
 
 pub loop-one-preserved : goal.loop-one-preserved
-loop-one-preserved c =
-    let items : List Due = c.deref-one-items.result.now in
-    let at : ℕ = c.loop-one.one-index in
-    let none : Due = record { point = 0; place = 0 } in
-    let one : Due = get_or items at none in
-    let in_items : at < length items = c.loop-one-test.true in
-    let within = subst (λ (l : List Due). All (λ x. x.place < length c.args.dones.now) l) (sym c.deref-one-items.ensures.value) c.in_ok-due.ensures.within in (
-      swept_more c.args.part c.args.log.now c.args.dones.now items at one c.loop-one.kept.items c.in_ok-kept-2.field-0 c.index-dones-one.result in_items (get_or_default items at none one in_items) c.loop-one.invariant.0 (within at none in_items) c.index-dones-one.is c.in_ok-kept-2.ensures,
-      c.in_ok-move_to.ensures,
-      omega (arith, c.min-point.ensures),
-    )
+loop-one-preserved c = search (rules, swept_more, get_or_default)
 
 pub returns : goal.returns
 returns c =

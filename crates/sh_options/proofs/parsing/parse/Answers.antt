@@ -1,10 +1,9 @@
-use Rattle.std.proofs.Common.{map, sym, ◌≡◌, ◌∙◌}
+use Rattle.std.proofs.Common.{rules, map, sym, ◌≡◌, ◌∙◌}
 use Rattle.sh_options.{specs.{declared.order.WordFault.TheVariants.{Usage}, Holds.{names_of}}, proofs.Parsed.{end_told, holds_at, refused_at}}
 use Rattle.sh_options.proofs.parsing.parse.Goals as goal
 
 pub returns-then-ends_options-clause-usage : goal.returns-then-ends_options-clause-usage
-returns-then-ends_options-clause-usage c used =
-    end_told (names_of c.args.options.now c.args.flags.now) (map (λ w. w.now) c.args.words.now) c.requires (sym c.ends_options.ensures ∙ c.if-ends_options.true)
+returns-then-ends_options-clause-usage c used = search (rules, end_told)
 
 pub returns-in-Ok-clause-holds : goal.returns-in-Ok-clause-holds
 returns-in-Ok-clause-holds c =

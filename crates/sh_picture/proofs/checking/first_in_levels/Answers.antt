@@ -1,4 +1,4 @@
-use Rattle.std.proofs.{Common.{◌≡◌, ◌∙◌, ◌-◌, ◌≤◌, ℕ, List, Vec, Global, length, map, get_or, sym, subst, arith}, lemmas.List.{length-map}}
+use Rattle.std.proofs.{Common.{rules, ◌≡◌, ◌-◌, ◌≤◌, ℕ, List, Vec, Global, length, map, get_or, sym, subst, arith}, lemmas.List.{length-map}}
 use Rattle.sh_base.specs.Parts.{parts_of}
 use Rattle.sh_tree.specs.Tree.{leaves_of}
 use Rattle.sh_picture.{specs.{Walk.{root_of}, Tree.{AllOnce, IsFirstTwice}, Marks.{AreLeaves}}, proofs.{LookLemmas.{item_is, last_is, walked_leaves}, TreeLemmas.{walked_tree}}}
@@ -9,9 +9,7 @@ items v = v.items
 
 -- the last of the levels is the leaves'
 at_last : (levels : List (Vec ℕ Global)) (v : Vec ℕ Global) (ns : List ℕ) (n : ℕ) → length (map items levels) ≡ n → 1 ≤ n → v ≡ get_or levels (length levels - 1) v → ns ≡ v.items → ns ≡ leaves_of (map items levels)
-at_last levels v ns n long some is value =
-    let same = length-map levels items in
-    value ∙ item_is levels (length levels - 1) v (omega (arith, some, long, same)) is ∙ sym (last_is (map items levels) (length levels - 1) (omega (arith, some, long, same)))
+at_last levels v ns n long some is value = search (rules, length-map, item_is, last_is)
 
 pub first_twice-requires-clause-leaves : goal.first_twice-requires-clause-leaves
 first_twice-requires-clause-leaves c =

@@ -1,5 +1,5 @@
-use Rattle.std.{proofs.{Common.{◌≡◌, ◌∙◌, ◌-◌, ◌<◌, ℕ, suc, List, Vec, Global, length, map, sym, subst, arith}, lemmas.List.{length-map}}, specs.Prelude.{slice_index}}
-use Rattle.sh_base.specs.{Parts.{parts_of}, Setting.{IsNode}}
+use Rattle.std.{proofs.{Common.{rules, ◌≡◌, ◌∙◌, ◌-◌, ℕ, suc, List, Vec, Global, length, map, sym, subst, arith}, lemmas.List.{length-map}}}
+use Rattle.sh_base.specs.{Parts.{parts_of}}
 use Rattle.sh_picture.{specs.{Walk.{root_of}, Marks.{AreInner}}, proofs.LookLemmas.{astray_of, item_is, lead_on, walked_inner, walked_nodes}}
 use Rattle.sh_picture.proofs.pairs.first_astray.Goals as goal
 
@@ -18,22 +18,10 @@ first_below-requires-clause-inner c =
     subst (AreInner p c.args.words.now) (sym is) (walked_inner p c.args.words.now (map items levels) (root_of c.args.words.now) c.requires.walked.comes_to (map items levels) c.requires.walked.down (c.loop-depth.depth - 1) (omega (arith, c.loop-depth-test.true, c.loop-depth.auto.depth, long levels)))
 
 pub first_below-requires-clause-below : goal.first_below-requires-clause-below
-first_below-requires-clause-below c =
-    let p = parts_of c.args.cfg.now in
-    let levels = c.args.levels.now in
-    let at = item_is levels c.loop-depth.depth c.index-levels-depth-in-loop-depth.result c.loop-depth-test.true c.index-levels-depth-in-loop-depth.is in
-    let is = c.deref-in-loop-depth.ensures.value ∙ at in
-    subst (λ (ns : List ℕ). (i : ℕ) → i < length ns → IsNode p (slice_index ns i)) (sym is) (walked_nodes p c.args.words.now (map items levels) (root_of c.args.words.now) c.requires.walked.comes_to (map items levels) c.requires.walked.down c.loop-depth.depth (omega (arith, c.loop-depth-test.true, long levels)))
+first_below-requires-clause-below c = search (rules, item_is, walked_nodes, long)
 
 pub returns-in-Some : goal.returns-in-Some
-returns-in-Some c =
-    let p = parts_of c.args.cfg.now in
-    let levels = c.args.levels.now in
-    let d = c.loop-depth.depth - 1 in
-    let above = item_is levels d c.index-levels-depth.result (omega (arith, c.loop-depth-test.true, c.loop-depth.auto.depth)) c.index-levels-depth.is in
-    let below = item_is levels c.loop-depth.depth c.index-levels-depth-in-loop-depth.result c.loop-depth-test.true c.index-levels-depth-in-loop-depth.is in
-    let next : suc d ≡ c.loop-depth.depth = omega (arith, c.loop-depth.auto.depth) in
-    astray_of p c.args.words.now (map items levels) c.loop-depth.depth d c.in-Some.found.0 c.in-Some.found.1 next (omega (arith, c.loop-depth-test.true, long levels)) c.loop-depth.invariant.lead _ _ (c.deref-in-loop-depth.ensures.value ∙ below) (c.deref.ensures.value ∙ above) c.in-Some.ensures.found
+returns-in-Some c = search (rules, item_is, astray_of, long)
 
 pub loop-depth-preserved : goal.loop-depth-preserved
 loop-depth-preserved c =

@@ -1,14 +1,9 @@
-use Rattle.std.proofs.{Common.{ap, arith, length, drop, length-drop, length-take, sym, take, ◌∙◌}, lemmas.{List.{take-append-drop}, Result.{err_from_is_err_and}}}
+use Rattle.std.proofs.{Common.{rules, ap, arith, length, drop, length-drop, length-take, sym, take}, lemmas.{List.{take-append-drop}, Result.{err_from_is_err_and}}}
 use Rattle.sh_port.proofs.Bytes.{appends_keeps, appends_take}
 use Rattle.sh_port.proofs.loops.write_all.Goals as goal
 
 pub writes-preserved : goal.writes-preserved
-writes-preserved g c =
-    let bound = simp (length-take, length-drop) at c.in_ok-at.ensures.bound in (
-      omega arith,
-      appends_take _ _ _ _ _ _ c.writes.invariant.1 c.in_ok-at.ensures.bytes,
-      c.in_ok-at.ensures.cause.ok ∙ c.writes.invariant.2,
-    )
+writes-preserved g c = search (rules, length-take, length-drop, appends_take)
 
 pub returns-in_err-at-clause-err : goal.returns-in_err-at-clause-err
 returns-in_err-at-clause-err g c =

@@ -1,4 +1,4 @@
-use Rattle.std.{proofs.Common.{◌≡◌, ◌+◌, ℕ, Bool, get_or, sym, arith}, specs.Prelude.{nat_le}}
+use Rattle.std.{proofs.Common.{rules, ℕ, Bool, get_or, sym, arith}, specs.Prelude.{nat_le}}
 use Rattle.sh_replay.{specs.Course.{ended_of}, proofs.StopLemmas.{above, all_fails, all_snoc, at_most}}
 use Rattle.sh_replay.proofs.marks.has_passed.Goals as goal
 
@@ -8,7 +8,4 @@ returns-then-done_calls-clock c =
     sym (all_fails p _ c.loop-seat.seat (omega (arith, c.loop-seat-test.true, c.seats-seat-end.ensures)) (above (get_or c.args.clock.now.counts c.loop-seat.seat 0) (ended_of c.args.world.now c.loop-seat.seat) (omega (arith, c.if-done_calls-clock.true, c.done_calls.ensures))))
 
 pub loop-seat-preserved : goal.loop-seat-preserved
-loop-seat-preserved c =
-    let p : ℕ → Bool = λ of. nat_le (get_or c.args.clock.now.counts of 0) (ended_of c.args.world.now of) in
-    let same : 0 + c.loop-seat.seat ≡ c.loop-seat.seat = omega arith in
-    all_snoc p 0 c.loop-seat.seat c.loop-seat.invariant (at_most (get_or c.args.clock.now.counts (0 + c.loop-seat.seat) 0) (ended_of c.args.world.now (0 + c.loop-seat.seat)) (rw same (omega (arith, c.if-done_calls-clock.false, c.done_calls.ensures))))
+loop-seat-preserved c = search (rules, all_snoc, at_most)

@@ -1,17 +1,12 @@
-use Rattle.std.proofs.Common.{length, take, sym, ap, subst, ◌∙◌, arith}
-use Rattle.sh_map.specs.Calls.{IsInRange}
+use Rattle.std.proofs.Common.{rules, sym, ap, ◌∙◌}
 use Rattle.sh_replay.{specs.Course.{given_by}, proofs.{ItemLemmas.{few_given, given_seats, given_setting, item_more, no_call, lawful_at}, serve.give_all.Goals.{in-Ask+in_ok-give, in_default}}}
 use Rattle.sh_replay.proofs.serve.give_all.Goals as goal
 
 pub give-requires-clause-seat : goal.give-requires-clause-seat
-give-requires-clause-seat c =
-    let call = lawful_at c.args.world.now.setting c.args.items.now c.loop-item.item-index c.item-item.result _ c.requires.items c.loop-item-test.true c.item-item.is c.in-Ask.is in
-    omega (arith, call.0, c.requires.seats, ap (λ w. length w.seats) c.loop-item.invariant, given_seats (take c.loop-item.item-index c.args.items.now) c.args.world.now)
+give-requires-clause-seat c = search (rules, lawful_at, given_seats)
 
 pub give-requires-clause-in_range : goal.give-requires-clause-in_range
-give-requires-clause-in_range c =
-    let call = lawful_at c.args.world.now.setting c.args.items.now c.loop-item.item-index c.item-item.result _ c.requires.items c.loop-item-test.true c.item-item.is c.in-Ask.is in
-    subst (λ p. IsInRange p c.in-Ask.call) (sym (ap (λ w. w.setting) c.loop-item.invariant ∙ given_setting (take c.loop-item.item-index c.args.items.now) c.args.world.now)) call.1
+give-requires-clause-in_range c = search (rules, lawful_at, given_setting)
 
 pub give-requires-clause-few : goal.give-requires-clause-few
 give-requires-clause-few c = few_given c.args.world.now _ c.args.items.now c.loop-item.item-index c.loop-item.invariant c.requires.none c.requires.few

@@ -1,8 +1,8 @@
-use Rattle.std.{proofs.Common.{◌≡◌, ◌-◌, ℕ, List, length}, specs.List.{fold}}
+use Rattle.std.{proofs.Common.{◌≡◌, ℕ, List, Option, length}, specs.List.{fold}}
 use Rattle.sh_sheet.specs.declared.item.Item.{Item}
-use Rattle.sh_replay.specs.{Course.{ask, turn_asks}, Standing.{Keeps}}
+use Rattle.sh_replay.specs.{Course.{goes_on, turn_asks, Course}, Standing.{IsAt}}
 use Rattle.sh_replay.proofs.turns.take_turns.Given as goal
 
 abbrev pub invariant-loop : goal.invariant-loop
-invariant-loop l = ((items : List Item) (left : ℕ) → Keeps items l.fn.world l.fn.marks → fold (ask items) (record { world = l.world; left = left }) (turn_asks l.seat (l.count - l.counter)) ≡ fold (ask items) (record { world = l.fn.world; left = left }) (turn_asks l.seat l.count))
-    × ((items : List Item) → Keeps items l.fn.world l.fn.marks → Keeps items l.world l.marks) × (length l.world.seats ≡ length l.fn.world.seats)
+invariant-loop g l = ((items : List Item) (c : Course) (left : ℕ) (held : Option (List ℕ)) → IsAt items g.T.Tells.TOLD c l.fn.world l.fn.marks left held (g.K.Sink.held l.fn.sink) → IsAt items g.T.Tells.TOLD (fold (goes_on items) c (turn_asks l.seat l.counter)) l.world l.marks left held (g.K.Sink.held l.sink))
+    × (length l.world.seats ≡ length l.fn.world.seats) × (g.K.Sink.faults l.sink ≡ g.K.Sink.faults l.fn.sink)

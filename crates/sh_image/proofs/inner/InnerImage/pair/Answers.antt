@@ -1,11 +1,9 @@
-use Rattle.std.{proofs.{Common.{Some, length, ap, ◌∙◌, sym, arith}, lemmas.Option.{slice_get-get_or}}, specs.Prelude.{slice_get}}
+use Rattle.std.{proofs.{Common.{rules, Some, ap, ◌∙◌, sym, arith}, lemmas.Option.{slice_get-get_or}}, specs.Prelude.{slice_get}}
 use Rattle.sh_image.{specs.{Inner.{Inner}, PairColumns.{pair_at, pairs_of_columns}}, proofs.PairLemmas.{length_pairs_of, get_or_pairs_of}}
 use Rattle.sh_image.proofs.inner.InnerImage.pair.Goals as goal
 
 pub prove-unreachable-requires : goal.prove-unreachable-requires
-prove-unreachable-requires c =
-    let i = c.self.inside in
-    omega (arith, c.if-prove.true, c.requires, ap (λ (a : Inner). length a.pairs) c.self.view_is, length_pairs_of i.separators i.children i.count)
+prove-unreachable-requires c = search (rules, length_pairs_of)
 
 pub returns : goal.returns
 returns c =

@@ -1,11 +1,9 @@
-use Rattle.std.{proofs.{Common.{Some, [], length, ap, ◌∙◌, sym, arith}, lemmas.{List.{get_or_default}, Option.{slice_get-get_or}}}, specs.Prelude.{slice_get}}
+use Rattle.std.{proofs.{Common.{rules, Some, [], ap, ◌∙◌, sym, arith}, lemmas.{List.{get_or_default}, Option.{slice_get-get_or}}}, specs.Prelude.{slice_get}}
 use Rattle.sh_image.{specs.{Leaf.{Leaf}, Columns.{entry_of_columns, entries_of_columns}}, proofs.ColumnLemmas.{length_entries_of, get_or_entries_of}}
 use Rattle.sh_image.proofs.leaf.LeafImage.entry.Goals as goal
 
 pub prove-unreachable-requires : goal.prove-unreachable-requires
-prove-unreachable-requires c =
-    let i = c.self.inside in
-    omega (arith, c.if-prove.true, c.requires, ap (λ (a : Leaf). length a.entries) c.self.view_is, length_entries_of i.versions i.keys i.values i.count)
+prove-unreachable-requires c = search (rules, length_entries_of)
 
 pub returns : goal.returns
 returns c =

@@ -1,10 +1,10 @@
-use Rattle.std.{proofs.Common.{◌≡◌, ◌<◌, ℕ, List, Some, ap, sym, subst, ◌∙◌, refl, arith}}
+use Rattle.std.{proofs.Common.{rules, ◌≡◌, ◌<◌, ℕ, List, ap, sym, subst, ◌∙◌, refl, arith}}
 use Rattle.sh_base.specs.{declared.config.ConfigParts.{ConfigParts}, Parts.{parts_of}}
 use Rattle.sh_client.proofs.WithinLemmas.{root_within}
 use Rattle.sh_logic.proofs.Lists.{all_weaker}
 use Rattle.sh_local.specs.{Calls.{given, taken, total}, Chairs.{AreAll, Sitting}}
 use Rattle.sh_pool_rule.{specs.{declared.view.PassView.{PassView}}, proofs.BesideLemmas.{entering}}
-use Rattle.sh_pool.specs.{Handed.{Handed}, Passes.{PoolTable, Standing}, Pools.{IsReady}, Gathering.{AreAllPasses, IsAtTable, IsGatheredFrom}, declared.right.Knower.{Knower}}
+use Rattle.sh_pool.specs.{Handed.{Handed}, Passes.{PoolTable, Standing}, Gathering.{AreAllPasses, IsGatheredFrom}, declared.right.Knower.{Knower}}
 use Rattle.sh_pool.proofs.GatherLemmas.{chairs_all, closes}
 use Rattle.sh_pool.proofs.pool.LaidPool.close.Goals as goal
 
@@ -16,16 +16,10 @@ load_new_seat-last-requires c =
     )
 
 pub take_all-chairs-requires-clause-table : goal.take_all-chairs-requires-clause-table
-take_all-chairs-requires-clause-table c =
-    let p : ConfigParts = parts_of c.self.inside.table.shared.key in
-    let e = c.load_new_seat-last.ensures in
-    (e.0, (λ z. (e.2.0 z, e.2.1 z)), subst (λ (n : ℕ). 0 < n) (sym c.self.invariant.1) (let w = root_within p in omega (arith, w)))
+take_all-chairs-requires-clause-table c = search (rules, root_within)
 
 pub take_all-chairs-requires-clause-passes : goal.take_all-chairs-requires-clause-passes
-take_all-chairs-requires-clause-passes c =
-    let t : PoolTable = record { table = c.self.inside.table.shared.table_id; setting = parts_of c.self.inside.table.shared.key; cells = c.self.inside.cells } in
-    let all : AreAllPasses t c.args.passes.items = subst (λ (x : PoolTable). AreAllPasses x c.args.passes.items) (sym c.self.view_is) c.requires.all in
-    all_weaker (IsReady t.setting (Some t)) (IsAtTable t.table t.setting) c.args.passes.items (λ q h. (h.0.table, h.2)) all.ready
+take_all-chairs-requires-clause-passes c = search (rules, all_weaker)
 
 pub gather-requires : goal.gather-requires
 gather-requires c =

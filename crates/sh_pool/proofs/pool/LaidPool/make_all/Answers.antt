@@ -1,18 +1,10 @@
-use Rattle.std.{proofs.Common.{◌≡◌, ◌<◌, ℕ, List, ap, sym, subst, ◌∙◌, add-one, arith}, specs.Vec.{vec_capacity}}
+use Rattle.std.{proofs.Common.{rules, ◌≡◌, ◌<◌, ℕ, ap, sym, subst, ◌∙◌, add-one, arith}}
 use Rattle.sh_base.specs.{Parts.{parts_of}, Setting.{all_seats}}
-use Rattle.sh_pool_rule.specs.declared.view.PassView.{PassView}
 use Rattle.sh_pool.{specs.{Passes.{PoolTable}, Pools.{AreMade}}, proofs.LayLemmas.{chair_is, made_all, made_more, made_none, some_chair}}
 use Rattle.sh_pool.proofs.pool.LaidPool.make_all.Goals as goal
 
 pub loop-seat-init : goal.loop-seat-init
-loop-seat-init c =
-    let same : parts_of c.self.inside.cfg ≡ c.args.self.now.setting = c.self.invariant.0 ∙ ap (λ (t : PoolTable). t.setting) c.self.view_is in
-    let cap : vec_capacity c.in_ok-passes.passes ≡ all_seats c.args.self.now.setting = c.in_ok-passes.ensures.exact ∙ c.all_seats.ensures ∙ ap all_seats same in (
-      made_none c.args.self.now c.args.maker.me.0 c.args.chairs.items c.in_ok-passes.passes.items (ap (λ (x : PassView × List (ℕ × Unit {0})). x.0) c.requires.maker) c.in_ok-passes.ensures.items c.requires.chairs,
-      c.requires.table,
-      ap (λ (x : PassView × List (ℕ × Unit {0})). x.1) c.requires.maker,
-      omega (arith, cap),
-    )
+loop-seat-init c = search (rules, made_none)
 
 pub unreachable-requires : goal.unreachable-requires
 unreachable-requires c =
@@ -33,13 +25,7 @@ make_pass-requires-clause-chair c =
     chair_is c.args.self.now c.loop-seat.seat c.loop-seat.maker.me.0 c.loop-seat.chairs.items c.pop.new.self.items c.loop-seat.passes.items c.in-Some.chair c.loop-seat.invariant.0 lt c.in-Some.ensures.items
 
 pub push_reserved-requires : goal.push_reserved-requires
-push_reserved-requires c =
-    let same : parts_of c.self.inside.cfg ≡ c.args.self.now.setting = c.self.invariant.0 ∙ ap (λ (t : PoolTable). t.setting) c.self.view_is in
-    let lt : c.loop-seat.seat < all_seats c.args.self.now.setting = subst (λ (n : ℕ). c.loop-seat.seat < n) (c.all_seats-seat-end.ensures ∙ ap all_seats same) c.loop-seat-test.true in
-    let long = c.loop-seat.invariant.0.long in
-    let cap = c.loop-seat.invariant.3 in
-    let o = c.loop-seat.passes.ok.0 in
-    omega (arith, lt, long, cap, o)
+push_reserved-requires c = search rules
 
 pub loop-seat-preserved : goal.loop-seat-preserved
 loop-seat-preserved c =
@@ -53,8 +39,4 @@ loop-seat-preserved c =
     )
 
 pub returns : goal.returns
-returns c =
-    let same : parts_of c.self.inside.cfg ≡ c.args.self.now.setting = c.self.invariant.0 ∙ ap (λ (t : PoolTable). t.setting) c.self.view_is in
-    let e = c.all_seats-seat-end.ensures ∙ ap all_seats same in
-    let le = c.loop-seat.auto.seat-end in
-    made_all c.args.self.now c.loop-seat.seat c.loop-seat.maker.me.0 c.loop-seat.chairs.items c.loop-seat.passes.items c.loop-seat.invariant.0 (let ge = c.loop-seat-test.false in omega (arith, e, ge)) (omega (arith, e, le))
+returns c = search (rules, made_all)

@@ -1,29 +1,17 @@
-use Rattle.std.proofs.Common.{◌≡◌, ◌<◌, ℕ, false, length, ap, sym, subst, ◌∙◌}
-use Rattle.sh_base.specs.{Layout.{compute_of}, Memory.{at_of}, Setting.{pool_words}, declared.config.ConfigParts.{ConfigParts}, Parts.{parts_of}}
+use Rattle.std.proofs.Common.{rules, ◌≡◌, ℕ, false, length, ap, sym, subst, ◌∙◌}
+use Rattle.sh_base.specs.{Layout.{compute_of}}
 use Rattle.sh_client.{proofs.CachedLemmas.{fed_keeps}, specs.{Machine.{Machine}, Feeds.{fed_by}, Wants.{want_of}}}
 use Rattle.sh_client.specs.declared.state.Want.TheVariants as want
 use Rattle.sh_core.specs.Actors.{Actor}
-use Rattle.sh_pool_rule.specs.{declared.view.PassView.{PassView}, Untold.{IsActorOf}, Rule.{TookEvent}, Views.{Tale}}
-use Rattle.sh_pool.{specs.Passes.{Standing, PoolTable, pass_actor, tale_of, IsOf, IsPass}, proofs.Steps.{standing, is_actor, event_pass}}
+use Rattle.sh_pool_rule.specs.{declared.view.PassView.{PassView}, Rule.{TookEvent}, Views.{Tale}}
+use Rattle.sh_pool.{specs.Passes.{Standing, pass_actor, tale_of, IsPass}, proofs.Steps.{standing, is_actor, event_pass}}
 use Rattle.sh_pool.proofs.state.Pass.event_as.Goals as goal
 
 pub event_as-found-requires-clause-table : goal.event_as-found-requires-clause-table
-event_as-found-requires-clause-table g c =
-    let p : Standing = standing c.self.inside.seat.table_id c.self.inside.client c.self.inside.begun c.self.inside.seat.me.0 c.self.inside.chair in
-    let z : PoolTable = record { table = c.pool.inside.table.shared.table_id; setting = parts_of c.pool.inside.table.shared.key; cells = c.pool.inside.cells } in
-    let of_pool : IsOf z p = subst (λ (s : Standing). IsOf z s) (sym c.self.view_is) (subst (λ (t : PoolTable). IsOf t c.args.self.now) (sym c.pool.view_is) c.requires.of) in
-    let within : at_of c.args.event < pool_words p.client.setting = subst (λ (s : Standing). at_of c.args.event < pool_words s.client.setting) (sym c.self.view_is) c.requires.within in (
-      of_pool.table,
-      subst (λ (n : ℕ). at_of c.args.event < n) (sym c.pool.invariant.1) (subst (λ (q : ConfigParts). at_of c.args.event < pool_words q) of_pool.setting within),
-    )
+event_as-found-requires-clause-table g c = search (rules, standing)
 
 pub event_as-found-requires-clause-actor : goal.event_as-found-requires-clause-actor
-event_as-found-requires-clause-actor g c =
-    let p : Standing = standing c.self.inside.seat.table_id c.self.inside.client c.self.inside.begun c.self.inside.seat.me.0 c.self.inside.chair in
-    let z : PoolTable = record { table = c.pool.inside.table.shared.table_id; setting = parts_of c.pool.inside.table.shared.key; cells = c.pool.inside.cells } in
-    let of_pool : IsOf z p = subst (λ (s : Standing). IsOf z s) (sym c.self.view_is) (subst (λ (t : PoolTable). IsOf t c.args.self.now) (sym c.pool.view_is) c.requires.of) in
-    let actor : g.A.TurnOf.actor ≡ pass_actor p = subst (λ (s : Standing). g.A.TurnOf.actor ≡ pass_actor s) (sym c.self.view_is) c.requires.actor in
-    subst (λ (q : ConfigParts). IsActorOf q p.view g.A.TurnOf.actor) of_pool.setting (subst (IsActorOf p.client.setting p.view) (sym actor) (is_actor p c.self.invariant.1))
+event_as-found-requires-clause-actor g c = search (rules, standing, is_actor)
 
 pub invariant_of-self : goal.invariant_of-self
 invariant_of-self g c =

@@ -1,4 +1,4 @@
-use Rattle.std.proofs.Common.{◌≡◌, ◌<◌, ◌≤◌, ℕ, None, Some, length, ap, sym, subst, ◌∙◌, refl, Option, arith}
+use Rattle.std.proofs.Common.{rules, ◌≡◌, ◌≤◌, ℕ, None, Some, length, ap, sym, subst, ◌∙◌, refl, Option}
 use Rattle.sh_base.specs.Parts.{parts_of}
 use Rattle.sh_client.{specs.{Feeds.{fed_by}, Sound.{IsCarry}, Wants.{want_of}}, proofs.{CachedLemmas.{fed_keeps}, WithinLemmas.{root_within}}}
 use Rattle.sh_client.specs.declared.state.Want.TheVariants as want
@@ -19,21 +19,10 @@ part_as-right-requires-clause-hands g c =
     hands_of p c.self.invariant.1 g.A.TurnOf.actor actor z.setting of_pool.setting c.args.lock c.cell_at-cell.result cell_is c.in-Some.depth wants
 
 pub part_as-right-requires-clause-depth : goal.part_as-right-requires-clause-depth
-part_as-right-requires-clause-depth g c =
-    let p : Standing = standing c.self.inside.seat.table_id c.self.inside.client c.self.inside.begun c.self.inside.seat.me.0 c.self.inside.chair in
-    let z : PoolTable = record { table = c.pool.inside.table.shared.table_id; setting = parts_of c.pool.inside.table.shared.key; cells = c.pool.inside.cells } in
-    let of_pool : IsOf z p = subst (λ (s : Standing). IsOf z s) (sym c.self.view_is) (subst (λ (t : PoolTable). IsOf t c.args.self.now) (sym c.pool.view_is) c.requires.of) in
-    let cell_is : c.cell_at-cell.result ≡ cell_of p c.args.lock = c.cell_at-cell.ensures.at ∙ (λ k. cell_for ((c.pool.invariant.0 ∙ sym of_pool.setting) k) c.args.lock (c.self.invariant.2 k)) in
-    let actor : g.A.TurnOf.actor ≡ pass_actor p = subst (λ (s : Standing). g.A.TurnOf.actor ≡ pass_actor s) (sym c.self.view_is) c.requires.actor in
-    let wants : want_of p.client ≡ want.Leave c.args.lock (Some c.in-Some.depth) = subst (λ (s : Standing). want_of s.client ≡ want.Leave c.args.lock (Some c.in-Some.depth)) (sym c.self.view_is) (c.requires.wants ∙ ap (λ (o : Option ℕ). want.Leave c.args.lock o) c.in-Some.is) in
-    depth_is p c.self.invariant.1 g.A.TurnOf.actor actor z.setting of_pool.setting c.args.lock c.cell_at-cell.result cell_is c.in-Some.depth wants
+part_as-right-requires-clause-depth g c = search (rules, standing, depth_is)
 
 pub part_as-right-requires-clause-table : goal.part_as-right-requires-clause-table
-part_as-right-requires-clause-table g c =
-    let p : Standing = standing c.self.inside.seat.table_id c.self.inside.client c.self.inside.begun c.self.inside.seat.me.0 c.self.inside.chair in
-    let z : PoolTable = record { table = c.pool.inside.table.shared.table_id; setting = parts_of c.pool.inside.table.shared.key; cells = c.pool.inside.cells } in
-    let of_pool : IsOf z p = subst (λ (s : Standing). IsOf z s) (sym c.self.view_is) (subst (λ (t : PoolTable). IsOf t c.args.self.now) (sym c.pool.view_is) c.requires.of) in
-    (of_pool.table, subst (λ (n : ℕ). 0 < n) (sym c.pool.invariant.1) (let w = root_within z.setting in omega (arith, w)))
+part_as-right-requires-clause-table g c = search (rules, standing, root_within)
 
 pub leave-requires-in-Some-clause-value : goal.leave-requires-in-Some-clause-value
 leave-requires-in-Some-clause-value g c =

@@ -1,11 +1,11 @@
-use Rattle.std.proofs.Common.{◌≡◌, ◌<◌, ◌+◌, ℕ, false, None, Some, length, ap, sym, subst, ◌∙◌, refl, Option, arith}
+use Rattle.std.proofs.Common.{rules, ◌≡◌, ◌+◌, ℕ, false, None, Some, length, ap, sym, subst, ◌∙◌, Option}
 use Rattle.sh_base.specs.Parts.{parts_of}
 use Rattle.atomic_table.specs.Seated.{TableId}
 use Rattle.sh_client.{specs.{Machine.{Machine}, Feeds.{fed_by, turned_by}, Wants.{want_of}}, proofs.{CachedLemmas.{fed_keeps, turned_keeps}, WithinLemmas.{root_within}}}
 use Rattle.sh_client.specs.declared.state.Want.TheVariants as want
-use Rattle.sh_local.specs.{declared.view.View.{View}, Calls.{turned}, Chairs.{FitsAt}, Steps.{FitsIf}}
-use Rattle.sh_pool.specs.{Fitting.{cell_for, FitsCell}, Handed.{Handed}, Passes.{Standing, PoolTable, pass_actor, tale_of, IsOf, IsPass}, Turns.{cell_of, LookedOnce, OtherServed, WithRight}}
-use Rattle.sh_pool.{specs.declared.right.Knower.{Knower}, proofs.{Steps.{standing, seated}, Locals.{wait_pass, served_pass, take_pass}, Cells.{fits_cell, meets_of}}}
+use Rattle.sh_local.specs.{Calls.{turned}, Chairs.{FitsAt}, Steps.{FitsIf}}
+use Rattle.sh_pool.specs.{Fitting.{cell_for, FitsCell}, Handed.{Handed}, Passes.{Standing, PoolTable, pass_actor, tale_of, IsOf, IsPass}, Turns.{cell_of}}
+use Rattle.sh_pool.{proofs.{Steps.{standing, seated}, Locals.{wait_pass, served_pass, take_pass}, Cells.{fits_cell, meets_of}}}
 use Rattle.sh_pool_rule.specs.{declared.view.PassView.{PassView}, Rights.{taken_view}}
 use Rattle.sh_pool.proofs.state.Pass.look_as.Goals as goal
 
@@ -29,13 +29,7 @@ invariant_of-self-in-Turn-None g c =
     (c.self.invariant.0, t.0, t.1)
 
 pub take_as-depth-requires-clause-table : goal.take_as-depth-requires-clause-table
-take_as-depth-requires-clause-table g c =
-    let p : Standing = standing c.self.inside.seat.table_id c.self.inside.client c.self.inside.begun c.self.inside.seat.me.0 c.self.inside.chair in
-    let z : PoolTable = record { table = c.pool.inside.table.shared.table_id; setting = parts_of c.pool.inside.table.shared.key; cells = c.pool.inside.cells } in
-    let of_pool : IsOf z p = subst (λ (s : Standing). IsOf z s) (sym c.self.view_is) (subst (λ (t : PoolTable). IsOf t c.args.self.now) (sym c.pool.view_is) c.requires.of) in
-    let fits : FitsCell z.setting z.table c.cell_at-cell.result c.in-Turn-Some.right = fits_cell z.table z.setting z.cells c.cell_at-cell.result c.in-Turn-Some.right c.pool.invariant.2
-    (subst (FitsIf (FitsAt (λ key n x. FitsCell (parts_of key.cfg) key.seat.table_id n x) z.cells c.cell_at-cell.result)) c.in-Turn-Some.field-0-is c.in-Turn-Some.ensures.looked.1) in
-    (of_pool.table, fits.table, subst (λ (n : ℕ). 0 < n) (sym c.pool.invariant.1) (let w = root_within z.setting in omega (arith, w)))
+take_as-depth-requires-clause-table g c = search (rules, standing, fits_cell, root_within)
 
 pub take_as-depth-requires-clause-meets : goal.take_as-depth-requires-clause-meets
 take_as-depth-requires-clause-meets g c =
@@ -76,25 +70,7 @@ invariant_of-self-in-Turn-Some g c =
     )
 
 pub returns-in-Wait-clause-looked : goal.returns-in-Wait-clause-looked
-returns-in-Wait-clause-looked g c =
-    let p : Standing = standing c.self.inside.seat.table_id c.self.inside.client c.self.inside.begun c.self.inside.seat.me.0 c.self.inside.chair in
-    let q : Standing = standing c.self.inside.seat.table_id c.fed.new.self c.self.inside.begun c.self.inside.seat.me.0 c.look.new.chair in
-    subst (λ (s : Standing). LookedOnce s q) c.self.view_is (OtherServed record { found = c.in-Wait.found; told = record { calls = ap (λ (v : View Handed Knower). v.calls) c.in-Wait.ensures.looked.1; client = c.fed.ensures; begun = refl; table = refl; view = refl; seated = (c.look.ensures.same, ap (λ (v : View Handed Knower). v.key) c.in-Wait.ensures.looked.1) } })
+returns-in-Wait-clause-looked g c = search (rules, standing, seated)
 
 pub returns-in-Turn-Some-clause-looked : goal.returns-in-Turn-Some-clause-looked
-returns-in-Turn-Some-clause-looked g c =
-    let p : Standing = standing c.self.inside.seat.table_id c.self.inside.client c.self.inside.begun c.self.inside.seat.me.0 c.self.inside.chair in
-    let q : Standing = standing c.take_as-depth.new.seat.table_id c.fed_turn-in-Turn-Some.new.self false c.take_as-depth.new.seat.me.0 c.look.new.chair in
-    let r : Handed = c.in-Turn-Some.right in
-    let actor : g.A.TurnOf.actor ≡ pass_actor p = subst (λ (s : Standing). g.A.TurnOf.actor ≡ pass_actor s) (sym c.self.view_is) c.requires.actor in
-    let tale : g.A.TurnOf.tale ≡ tale_of p (length p.chair.view.calls + 1) = subst (λ (s : Standing). g.A.TurnOf.tale ≡ tale_of s (length s.chair.view.calls + 1)) (sym c.self.view_is) c.requires.tale in
-    subst (λ (s : Standing). LookedOnce s q) c.self.view_is (WithRight record {
-      right = r;
-      calls = ap (λ (v : View Handed Knower). v.calls) (c.in-Turn-Some.ensures.looked.0 ∙ ap (λ (o : Option Handed). turned p.chair.view o) c.in-Turn-Some.field-0-is);
-      client = c.fed_turn-in-Turn-Some.ensures ∙ ap (λ (n : ℕ). turned_by p.client (Some n)) c.take_as-depth.ensures.depth.0;
-      none = refl;
-      table = c.take_as-depth.ensures.seat.0;
-      view = c.take_as-depth.ensures.seat.2 ∙ (λ k. taken_view (actor k) (tale k) p.view r.view);
-      depth = c.take_as-depth.ensures.depth.1;
-      seated = (c.look.ensures.same, ap (λ (v : View Handed Knower). v.key) c.in-Turn-Some.ensures.looked.0);
-    })
+returns-in-Turn-Some-clause-looked g c = search (rules, standing, seated)

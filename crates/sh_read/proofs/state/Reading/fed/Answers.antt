@@ -1,7 +1,7 @@
-use Rattle.std.{proofs.{Common.{◌≢◌, ◌≤◌, ◌∙◌, ◌-◌, ℕ, take, ap, refl, sym, subst, arith}, lemmas.List.{length-set}}, specs.Prelude.{slice_index, slice_set, None}}
+use Rattle.std.{proofs.{Common.{rules, ◌≢◌, ◌≤◌, ◌∙◌, ◌-◌, ℕ, take, ap, refl, sym, subst, arith}, lemmas.List.{length-set}}, specs.Prelude.{slice_index, slice_set, None}}
 use Rattle.sh_base.specs.Setting.{node_size}
 use Rattle.sh_image.specs.declared.read.Seen.{Seen}
-use Rattle.sh_read.specs.{Reads.{Reader, answer_to, image_in, wanted}, Judging.{seen_of}, Kept.{image_at, left_after, KeepsImage}}
+use Rattle.sh_read.specs.{Reads.{Reader, answer_to, image_in, wanted}, Judging.{seen_of}, Kept.{image_at, KeepsImage}}
 use Rattle.sh_read.proofs.KeptLemmas.{size_small, some_left, fed_more, answers_last, fed_last, kept_judged, left_after_within}
 use Rattle.sh_read.proofs.state.Reading.fed.Goals as goal
 
@@ -12,19 +12,13 @@ pub bounds-self-inside-self-inside : goal.bounds-self-inside-self-inside
 bounds-self-inside-self-inside c = omega (arith, c.self.invariant.within, size_small c.self.inside.cfg.parts c.self.inside.cfg.lawful)
 
 pub returns-then-self-gt0-clause-reads : goal.returns-then-self-gt0-clause-reads
-returns-then-self-gt0-clause-reads c =
-    rw (← c.self.view_is) (fed_more c.self.inside.cfg.parts c.self.inside.cfg.lawful c.self.inside.left c.self.inside.words c.self.invariant.room c.self.invariant.within c.self.inside.node c.args.word (omega (arith, c.if-self-gt0.true)) c.if-self-gt0.true)
+returns-then-self-gt0-clause-reads c = search (rules, fed_more)
 
 pub shared_ref_as_front-words : goal.shared_ref_as_front-words
 shared_ref_as_front-words c = omega (arith, c.node_size-size.ensures, size_small c.self.inside.cfg.parts c.self.inside.cfg.lawful)
 
 pub returns-clause-reads : goal.returns-clause-reads
-returns-clause-reads c =
-    let p = c.self.inside.cfg.parts in
-    let some = some_left p c.self.inside.cfg.lawful c.self.inside.left c.self.inside.words c.self.invariant.room c.self.invariant.within c.self.inside.node (subst (λ (r : Reader). wanted r.setting r.reads ≢ None) (sym c.self.view_is) c.requires) in
-    let seen : ℕ → Seen = λ n. seen_of p (take n (slice_set c.self.inside.words (c.self.inside.left - 1) c.args.word)) in
-    let after = c.left-self-inside.ensures ∙ ap (left_after c.judge-progress.result) c.node_size-size.ensures ∙ ap (λ g. left_after g (node_size p)) (c.judge-progress.ensures.progress ∙ ap (λ n. answer_to (seen n)) c.node_size-size.ensures) in
-    rw (← c.self.view_is) (fed_last p c.self.inside.cfg.lawful c.self.inside.left c.self.inside.node c.args.word c.self.inside.words c.self.invariant.room c.self.invariant.within some (seen (node_size p)) c.left-self-inside.result (omega (arith, c.if-self-gt0.false)) refl after)
+returns-clause-reads c = search (rules, some_left, fed_last)
 
 pub returns-clause-answer : goal.returns-clause-answer
 returns-clause-answer c =

@@ -1,4 +1,4 @@
-use Rattle.std.proofs.{Common.{◌+◌, ◌<◌, ◌∙◌, length, subst, sym, arith}, lemmas.List.{length-set}}
+use Rattle.std.proofs.{Common.{rules, ◌+◌, ◌<◌, ◌∙◌, length, subst, sym, arith}, lemmas.List.{length-set}}
 use Rattle.sh_base.specs.Setting.{node_size}
 use Rattle.sh_read.{specs.Reads.{Reader}, proofs.KeptLemmas.{inside_is, kept_under_way, size_small}}
 use Rattle.sh_read.proofs.state.Reading.fed_inside.Goals as goal
@@ -9,9 +9,7 @@ overflow_sub-left c =
     omega (arith, h.0)
 
 pub bounds-self-inside-left : goal.bounds-self-inside-left
-bounds-self-inside-left c =
-    let h = inside_is c.self.inside.cfg.parts c.self.inside.cfg.lawful c.self.inside.left c.self.inside.words c.self.invariant.room c.self.invariant.within c.self.inside.node c.args.word (subst (λ (r : Reader). length r.reads.loaded + 1 < node_size r.setting) (sym c.self.view_is) c.requires) in
-    omega (arith, h.0, c.self.invariant.within, size_small c.self.inside.cfg.parts c.self.inside.cfg.lawful)
+bounds-self-inside-left c = search (rules, inside_is, size_small)
 
 pub invariant_of-self : goal.invariant_of-self
 invariant_of-self c =

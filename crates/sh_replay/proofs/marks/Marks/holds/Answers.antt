@@ -1,4 +1,4 @@
-use Rattle.std.proofs.Common.{length, get_or, false, arith}
+use Rattle.std.proofs.Common.{rules, length, get_or, false, arith}
 use Rattle.sh_replay.{specs.Course.{ended_of}, proofs.StopLemmas.{held_is, past_both, stand_past}}
 use Rattle.sh_replay.proofs.marks.Marks.holds.Goals as goal
 
@@ -10,8 +10,4 @@ returns-then-self-seat-clause-held c items h =
     held_is items (ended_of s) (length s.seats) c.args.seat c.requires.few c.requires.seat m.rows.items h.rows at (h.past c.args.seat) at false (stand_past (ended_of s) (length s.seats) c.args.seat m.rows.items at (omega (arith, c.if-self-seat.true)))
 
 pub returns-clause-held : goal.returns-clause-held
-returns-clause-held c items h =
-    let s = c.args.world.now in
-    let m = c.args.self.now in
-    let stand = c.stand-stand.ensures in
-    held_is items (ended_of s) (length s.seats) c.args.seat c.requires.few c.requires.seat m.rows.items h.rows c.stand-stand.result.at (past_both (ended_of s) (length s.seats) c.args.seat m.rows.items _ _ _ (h.past c.args.seat) stand) _ _ stand
+returns-clause-held c items h = search (rules, held_is, past_both)

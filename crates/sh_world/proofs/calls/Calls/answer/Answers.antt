@@ -1,11 +1,9 @@
-use Rattle.std.proofs.{Common.{◌<◌, ◌≤◌, ◌∙◌, arith, length, refl}, lemmas.Option.{slice_get_read}}
+use Rattle.std.proofs.{Common.{rules, ◌<◌, ◌≤◌, ◌∙◌, arith, length, refl}, lemmas.Option.{slice_get_read}}
 use Rattle.sh_world.proofs.RowLemmas.{answered_is, answered_keeps, kept_long, room_reserved, rows_fit}
 use Rattle.sh_world.proofs.calls.Calls.answer.Goals as goal
 
 pub prove-unreachable-requires : goal.prove-unreachable-requires
-prove-unreachable-requires c =
-    let i = c.self.inside in
-    omega (arith, c.if-prove.true, c.len.ensures, i.kept.ok.0, c.requires.place, kept_long i.cfg.parts i.kept.items i.words.items i.rows.items c.args.self.now c.self.view_is)
+prove-unreachable-requires c = search (rules, kept_long)
 
 pub overflow_sub-owed : goal.overflow_sub-owed
 overflow_sub-owed c =

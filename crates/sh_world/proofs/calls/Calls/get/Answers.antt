@@ -1,12 +1,10 @@
-use Rattle.std.proofs.Common.{◌+◌, ◌-◌, ◌*◌, ◌≡◌, ◌<◌, ◌∙◌, ℕ, Some, ap, arith, drop, length, refl, sym, take}
+use Rattle.std.proofs.Common.{rules, ◌+◌, ◌-◌, ◌*◌, ◌≡◌, ◌<◌, ◌∙◌, ℕ, Some, ap, arith, drop, length, refl, sym, take}
 use Rattle.std.{specs.Prelude.{slice_get}, proofs.lemmas.Option.{slice_get_read}}
 use Rattle.sh_world.{specs.{States.{rows_in}, Columns.{Listed, call_of, reply_read}}, proofs.RowLemmas.{call_at, kept_long}}
 use Rattle.sh_world.proofs.calls.Calls.get.Goals as goal
 
 pub prove-unreachable-requires : goal.prove-unreachable-requires
-prove-unreachable-requires c =
-    let i = c.self.inside in
-    omega (arith, c.if-prove.true, c.len.ensures, i.kept.ok.0, c.requires, kept_long i.cfg.parts i.kept.items i.words.items i.rows.items c.args.self.now c.self.view_is)
+prove-unreachable-requires c = search (rules, kept_long)
 
 pub returns : goal.returns
 returns c =

@@ -1,13 +1,11 @@
-use Rattle.std.proofs.Common.{◌+◌, ◌*◌, ◌<◌, ◌∙◌, ℕ, List, ap, arith, drop, length, take}
+use Rattle.std.proofs.Common.{rules, ◌+◌, ◌*◌, ◌<◌, ◌∙◌, ℕ, List, ap, arith, drop, length, take}
 use Rattle.std.specs.Prelude.{slice_get, slice_index_or}
 use Rattle.sh_map.specs.declared.book.Row.{Row}
 use Rattle.sh_world.proofs.RowLemmas.{row_read, kept_long, row_ends, row_of}
 use Rattle.sh_world.proofs.calls.Calls.row.Goals as goal
 
 pub prove-unreachable-requires : goal.prove-unreachable-requires
-prove-unreachable-requires c =
-    let i = c.self.inside in
-    omega (arith, c.if-prove.true, c.len.ensures, i.kept.ok.0, c.requires.call, kept_long i.cfg.parts i.kept.items i.words.items i.rows.items c.args.self.now c.self.view_is)
+prove-unreachable-requires c = search (rules, kept_long)
 
 pub row_in-requires-clause-within : goal.row_in-requires-clause-within
 row_in-requires-clause-within c =

@@ -1,11 +1,9 @@
-use Rattle.std.proofs.{Common.{◌<◌, ◌∙◌, ap, arith, drop, length, refl, sym}, lemmas.Option.{slice_get_read}}
+use Rattle.std.proofs.{Common.{rules, ◌<◌, ◌∙◌, ap, arith, drop, length, refl, sym}, lemmas.Option.{slice_get_read}}
 use Rattle.sh_world.{specs.{States.{rows_at}, Columns.{Listed}}, proofs.RowLemmas.{rows_of_call, length_rows, kept_long}}
 use Rattle.sh_world.proofs.calls.Calls.rows.Goals as goal
 
 pub prove-unreachable-requires : goal.prove-unreachable-requires
-prove-unreachable-requires c =
-    let i = c.self.inside in
-    omega (arith, c.if-prove.true, c.len.ensures, i.kept.ok.0, c.requires, kept_long i.cfg.parts i.kept.items i.words.items i.rows.items c.args.self.now c.self.view_is)
+prove-unreachable-requires c = search (rules, kept_long)
 
 pub returns : goal.returns
 returns c =

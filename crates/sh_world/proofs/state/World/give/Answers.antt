@@ -1,4 +1,4 @@
-use Rattle.std.{specs.Vec.{vec_len, vec_capacity}, proofs.{Common.{◌+◌, ◌-◌, ◌≤◌, ◌∙◌, ◌∷◌, ◌++◌, [], ℕ, List, ap, arith, refl}, lemmas.Option.{slice_get_read}}}
+use Rattle.std.{specs.Vec.{vec_len, vec_capacity}, proofs.{Common.{rules, ◌+◌, ◌-◌, ◌≤◌, ◌∙◌, ◌∷◌, ◌++◌, [], ℕ, List, ap, arith, refl}, lemmas.Option.{slice_get_read}}}
 use Rattle.sh_world.{specs.{Columns.{Listed}, States.{Place}, Turning.{queued}, contracts.state.World.{the_view}}, proofs.{GiveLemmas.{give_is, given_long, given_world}, RunLemmas.{log_few}}}
 use Rattle.sh_world.proofs.WorldLemmas.{running}
 use Rattle.sh_world.proofs.state.World.give.Goals as goal
@@ -22,10 +22,4 @@ invariant_of-self-2 c =
     (ap (λ (l : Listed). l.setting) c.in_ok-push.ensures.ok ∙ g.3)
 
 pub returns-clause-ok : goal.returns-clause-ok
-returns-clause-ok c =
-    let g = running (the_view c.self.inside) c.args.self.now _ _ c.args.seat c.self.view_is c.self.invariant c.requires.seat in
-    let at = slice_get_read _ _ c.args.seat c.index_mut-given.result.now refl g.2 c.index_mut-given.ensures.value in
-    give_is (the_view c.self.inside) c.args.self.now c.args.seat (c.len-number.result + 1) c.index_mut-given.result.now _ c.args.call _ _ c.self.view_is at
-    (ap (λ (k : ℕ). k + 1) c.len-number.ensures)
-    (ap (λ (ns : List ℕ). record { client = c.given.inside.client; numbers = ns; ended = c.given.inside.ended; number = c.given.inside.number; ticket = c.given.inside.ticket; seen = c.given.inside.seen; first = c.given.inside.first; point = c.given.inside.point }) (c.push_reserved.ensures.items ∙ ap (λ (ns : List ℕ). ns ++ (c.len-number.result + 1) ∷ []) c.reserve-2.ensures.items) ∙ ap (λ (y : Place). queued y (c.len-number.result + 1)) c.given.view_is)
-    (ap (λ (l : Listed). l.calls) c.in_ok-push.ensures.ok) c.reserve.ensures.items
+returns-clause-ok c = search (rules, running, slice_get_read, give_is)

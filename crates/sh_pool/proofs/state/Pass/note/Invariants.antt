@@ -1,0 +1,6 @@
+use Rattle.std.proofs.Common.{length}
+use Rattle.sh_pool.specs.Passes.{pass_actor, tale_of}
+use Rattle.sh_pool.proofs.state.Pass.note.Given as goal
+
+abbrev pub ghosts-note_by : goal.ghosts-note_by
+ghosts-note_by a = record { actor = pass_actor a.self.now; tale = tale_of a.self.now (length a.self.now.chair.view.calls) }

@@ -1,0 +1,27 @@
+//! Words and a sheet of calls in, lines out: each seat serves its calls in a thread of its own, over one running pool.
+#![tactic(auto)]
+
+mod answers;
+mod cursor;
+mod gate;
+mod laws;
+mod output;
+mod seat;
+mod serve;
+mod sharing;
+mod threads;
+mod top;
+mod work;
+
+pub use answers::{Answer, Answers};
+pub use cursor::Cursor;
+pub use gate::{Free, Gate};
+pub use laws::{run_laws, run_sure};
+pub use sh_pool::Pool;
+pub use sharing::Share;
+pub use threads::{Serves, Task};
+pub use top::run_top;
+pub use work::{Floor, Place, Work};
+
+#[cfg(test)]
+mod tests;

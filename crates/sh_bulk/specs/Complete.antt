@@ -1,7 +1,8 @@
 -- A building that meets nothing in its way.
-use Rattle.std.specs.Prelude.{ℕ, ◌≡◌, ◌≢◌, ◌<◌, ◌≤◌, ◌-◌, ◌^◌, List, length, Option, Some}
+use Rattle.std.specs.Prelude.{ℕ, ◌≡◌, ◌<◌, ◌≤◌, List, length, Option, Some}
 use Rattle.sh_base.specs.Setting.{nodes}
 use Rattle.sh_map.specs.declared.book.Row.{Row}
+use Rattle.sh_port.specs.Port.{HasNoFault}
 use Rattle.sh_sheet.specs.declared.status.Status.TheVariants as status
 use Rattle.sh_bulk.specs.{Shape.{need_of}, Order.{Asked}, Sheet.{rows_of, Good}, Top.{most_rows}, declared.status.BulkStatus.{BulkStatus, TheVariants.{Served}}}
 
@@ -15,8 +16,8 @@ pub record IsFree (asked : Asked) (left : Option (List ℕ)) (before now fell fa
   pub says : rows_of asked.parts bytes ≡ Good rows
   pub few : length rows ≤ most_rows
   pub room : need_of asked.parts (length rows) ≤ nodes asked.parts
-  pub source : (now ≡ before) × (now ≢ 2 ^ 64 - 1)
-  pub sink : (fallen ≡ fell) × (fallen ≢ 2 ^ 64 - 1)
+  pub source : HasNoFault before now
+  pub sink : HasNoFault fell fallen
 
 -- the pool was built and written, or memory was wanting
 abbrev pub EndsWell : BulkStatus → Type 0

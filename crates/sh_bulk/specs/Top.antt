@@ -2,7 +2,7 @@
 use Rattle.std.specs.{Prelude.{ℕ, ◌≡◌, ◌<◌, ◌≤◌, List, ◌++◌, codes, length, Option, Some, None, if◌then◌else◌}, Fmt.{decimal}, Io.KnownBytes.{Appends}}
 use Rattle.sh_base.specs.{declared.config.ConfigParts.{ConfigParts}, Setting.{nodes}}
 use Rattle.sh_map.specs.declared.book.Row.{Row}
-use Rattle.sh_port.specs.{Port.{HasRisen, AppendsFront}, Intake.{TookAll, TookSome, TookMost}}
+use Rattle.sh_port.specs.{Port.{HasRisen, AppendsFront, Unwritten}, Intake.{TookAll, TookSome, TookMost}}
 use Rattle.sh_sheet.specs.declared.status.Status.TheVariants as status
 use Rattle.sh_sheet.specs.Status.{status_code, status_text}
 use Rattle.sh_picture.specs.Picture.{picture_of}
@@ -35,11 +35,6 @@ built_line need rows = codes "built," ++ ((decimal need ++ codes ",") ++ (decima
 -- what is written of these rows: the picture of the pool, or the line
 abbrev pub built_text : Asked → List Row → List ℕ
 built_text asked rows = if asked.picture then picture_of asked.parts (bulk_words asked.parts rows) else built_line (need_of asked.parts (length rows)) (length rows)
-
--- nothing was written
-pub record Unwritten (held after : Option (List ℕ)) (fell fallen : ℕ) : Type 0 where
-  pub sink : after ≡ held
-  pub count : fallen ≡ fell
 
 -- the whole input was taken, and this is what its rows say
 pub record HasRead (p : ConfigParts) (left rest : Option (List ℕ)) (before now : ℕ) (reading : Reading) : Type 0 where

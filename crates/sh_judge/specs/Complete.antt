@@ -1,11 +1,8 @@
 -- A judge that meets nothing in its way.
-use Rattle.std.specs.Prelude.{ℕ, ◌≡◌, ◌≢◌, ◌<◌, ◌-◌, ◌^◌, List, length, Option, Some}
+use Rattle.std.specs.Prelude.{ℕ, ◌≡◌, ◌<◌, List, length, Option, Some}
+use Rattle.sh_port.specs.Port.{HasNoFault}
 use Rattle.sh_sheet.specs.declared.status.Status.TheVariants as status
 use Rattle.sh_judge.specs.declared.status.JudgeStatus.{JudgeStatus, TheVariants.{Served, NotLawful}}
-
--- a count of faults that stays, below its last value
-abbrev pub HasNoFault : ℕ → ℕ → Type 0
-HasNoFault before now = (now ≡ before) × (now ≢ 2 ^ 64 - 1)
 
 -- The words are accepted, the source's bytes are told and not too many, and neither the source nor the sink failed.
 pub record IsFree (width : Option ℕ) (left : Option (List ℕ)) (before now fell fallen : ℕ) : Type 0 where

@@ -1,6 +1,7 @@
 -- What is found of a printed replay.
-use Rattle.std.specs.{Prelude.{◌≡◌, ◌≢◌, ◌⊎◌, ℕ, ◌+◌, ◌-◌, List, [], length, take, sum, Some}, List.{slice_get, sum_by}}
+use Rattle.std.specs.{Prelude.{◌≡◌, ◌≢◌, ◌⊎◌, ℕ, ◌+◌, ◌-◌, List, [], length, take, Some}, List.{slice_get}}
 use Rattle.sh_map.specs.{declared.{book.Row.{Row}, log.Entry.{Entry}}, Log.{map_of}, Book.{IsLawful}, Judge.{IsFirstMisfit}}
+use Rattle.sh_text.specs.Text.{sum_of}
 use Rattle.sh_judge.specs.{declared.{found.End.{End}, finding.Finding.{Finding}}, Places.{ArePlaced, IsLeastUnplaced, log_of}, Trees.{map_rows}}
 use Rattle.sh_judge.specs.Reading.{Reading, AllTold, Astray, LinesTold, made_end, reading_of}
 use Rattle.sh_judge.specs.declared.finding.Finding.TheVariants as finding
@@ -9,10 +10,6 @@ use Rattle.sh_judge.specs.declared.finding.Finding.TheVariants as finding
 abbrev pub log_rows : List Entry → List Row
 log_rows log = map_rows (map_of log)
 
--- the sum of all words of the rows' values
-abbrev pub value_sum : List Row → ℕ
-value_sum rows = sum_by (λ r. sum r.value) rows
-
 -- the least place at which two lists are unlike: their items differ, or only one of them has an item there
 pub record AreUnlikeAt {X : Type 0} (xs ys : List X) (i : ℕ) : Type 0 where
   pub here : slice_get xs i ≢ slice_get ys i
@@ -20,7 +17,7 @@ pub record AreUnlikeAt {X : Type 0} (xs ys : List X) (i : ℕ) : Type 0 where
 
 -- the numbers that a last line has to have
 abbrev pub end_for : LinesTold → List Row → End
-end_for t rows = made_end (length t.dones) (length rows) (value_sum rows)
+end_for t rows = made_end (length t.dones) (length rows) (sum_of rows)
 
 -- each place is taken once, and the book of the log and the calls is lawful
 pub record HasLawfulBook (t : LinesTold) : Type 0 where

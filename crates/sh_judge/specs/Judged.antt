@@ -1,6 +1,6 @@
 -- What a judge of a printed replay leaves, by how it ended.
 use Rattle.std.specs.{Prelude.{ℕ, ◌≡◌, List, [], Option, Some, None}, Io.KnownBytes.{Appends}}
-use Rattle.sh_port.specs.{Port.{HasRisen, AppendsFront}, Intake.{TookAll, TookFew, TookSome, TookMost}}
+use Rattle.sh_port.specs.{Port.{HasRisen, AppendsFront, Unwritten}, Intake.{TookAll, TookFew, TookSome, TookMost}}
 use Rattle.sh_sheet.specs.declared.status.Status.TheVariants as status
 use Rattle.sh_sheet.specs.Status.{status_code, status_text}
 use Rattle.sh_judge.specs.{declared.{status.JudgeStatus.{JudgeStatus, TheVariants.{Served, NotLawful}}, finding.Finding.{Finding}}, Finding.{IsFinding}, FindingLine.{finding_line}}
@@ -19,11 +19,6 @@ judge_text NotLawful = []
 abbrev pub finding_status : Finding → JudgeStatus
 finding_status (finding.Lawful calls entries) = Served status.Ok
 finding_status found = NotLawful
-
--- nothing was written
-pub record Unwritten (held after : Option (List ℕ)) (fell fallen : ℕ) : Type 0 where
-  pub sink : after ≡ held
-  pub count : fallen ≡ fell
 
 -- the whole input was taken, and this is found of it
 pub record HasFound (width : ℕ) (left rest : Option (List ℕ)) (before now : ℕ) (found : Finding) : Type 0 where

@@ -1,6 +1,7 @@
 // A printed replay, judged.
 ghost use Rattle.std.specs.Prelude.{◌≡◌, ◌≤◌, ◌↔◌, Some, IfOk, IsTrue, MatchOption, length};
-ghost use Rattle.sh_judge.specs.{Finding.{HasMap, IsFinding, IsFoundIn, IsWrongMap, end_for, value_sum}, Reader.{told_of}};
+ghost use Rattle.sh_text.specs.Text.{sum_of};
+ghost use Rattle.sh_judge.specs.{Finding.{HasMap, IsFinding, IsFoundIn, IsWrongMap, end_for}, Reader.{told_of}};
 
 use crate::Finding;
 use crate::found::Found;
@@ -12,7 +13,7 @@ use std::alloc::{AllocError, Global};
 
 // Whether this is the sum of all words of the rows' values.
 fn is_sum(rows: &[Row], sum: u128) -> bool
-    ensures { IsTrue result ↔ (sum ≡ value_sum rows.now) }
+    ensures { IsTrue result ↔ (sum ≡ sum_of rows.now) }
 {
     match sum_of(rows) {
         Some(total) => sum == total,

@@ -1,10 +1,12 @@
 // The map that a log makes, as rows.
 ghost use Rattle.std.specs.Prelude.{◌≡◌, ◌^◌, ◌≤◌, ◌*◌, ◌↔◌, IfOk, IsTrue, MatchOption, OnOk, sum};
 ghost use Rattle.sh_map.specs.Log.{changed, map_of};
-ghost use Rattle.sh_judge.specs.{Finding.{AreUnlikeAt, log_rows, value_sum}, Trees.{tree_map, map_rows}};
+ghost use Rattle.sh_text.specs.Text.{sum_of};
+ghost use Rattle.sh_judge.specs.{Finding.{AreUnlikeAt, log_rows}, Trees.{tree_map, map_rows}};
 
 use sh_base::Value;
 use sh_map::{Change, Entry, Row};
+use sh_text::sum_of_value;
 use std::alloc::{AllocError, Global};
 use std::collections::BTreeMap;
 
@@ -80,22 +82,9 @@ pub(crate) fn first_unlike(maps: &[Row], rows: &[Row]) -> Option<usize>
     }
 }
 
-// The sum of a value's words.
-fn sum_of_value(value: &Value) -> u128
-    ensures sum { result ≡ sum value.now }
-    ensures small { result ≤ 8 * 2 ^ 64 }
-{
-    let words = value.words();
-    let mut total = 0;
-    for index in 0..value.len() {
-        total += u128::from(words[index]);
-    }
-    total
-}
-
 /// The sum of all words of the rows' values, where it is below 2^128.
 pub(crate) fn sum_of(rows: &[Row]) -> Option<u128>
-    ensures { MatchOption result (2 ^ 128 ≤ value_sum rows.now) (λ total. total ≡ value_sum rows.now) }
+    ensures { MatchOption result (2 ^ 128 ≤ sum_of rows.now) (λ total. total ≡ sum_of rows.now) }
 {
     let mut total = 0u128;
     for row in rows {

@@ -4,9 +4,9 @@ use Rattle.std.{specs.{Prelude.{Some}, List.{AllByRecursion, flat_map}}, proofs.
 use Rattle.sh_logic.proofs.Lists.{all_weaker}
 use Rattle.sh_map.specs.{declared.{log.Entry.{Entry}, book.{Done.{Done}, Row.{Row}}}, Book.{Answers, IsClosed, IsLawful}}
 use Rattle.sh_core.specs.Actors.{HasOwnRows}
-use Rattle.sh_text.specs.Text.{calls_text, end_line, map_line}
+use Rattle.sh_text.specs.Text.{calls_text, end_line, map_line, sum_of}
 use Rattle.sh_text.specs.declared.points.Points.TheVariants as points
-use Rattle.sh_judge.specs.{declared.{finding.Finding.TheVariants.{Lawful}, found.End.{End}}, Finding.{IsFinding, IsFoundIn, log_rows, value_sum}, Places.{log_of}, Reading.{made_end}}
+use Rattle.sh_judge.specs.{declared.{finding.Finding.TheVariants.{Lawful}, found.End.{End}}, Finding.{IsFinding, IsFoundIn, log_rows}, Places.{log_of}, Reading.{made_end}}
 use Rattle.sh_judged.proofs.{Bounds.{HasSmallVersion, fit, map_fits, sums_within}, Lines.{FitsCall, IsFit, IsFitRow}, Places.{are_placed, few_entries, log_is}}
 use Rattle.sh_judged.proofs.Tells.{told_closed, told_lawful, told_length, told_on}
 use Rattle.sh_judged.proofs.Texts.{AreNumbered, Goes, calls_go, end_goes, maps_go, told_so}
@@ -43,14 +43,14 @@ module _ (words : ℕ) (some : 1 ≤ words) (narrow : words ≤ 8) (log : List E
   count_told = told_length [] dones ∙ omega arith
 
   last : End
-  last = made_end (length dones) (length (log_rows log)) (value_sum (log_rows log))
+  last = made_end (length dones) (length (log_rows log)) (sum_of (log_rows log))
 
   found : (maps : List Row) (k : ℕ) → (maps ≡ []) ⊎ (maps ≡ log_rows log) → IsFoundIn (record { dones = told_on [] dones; maps = maps; end = Some last }) k (Lawful (length dones) (length log))
   unfolding last
   found maps k has = (
     record { placed = are_placed log (told_on [] dones) told_book.0 told_book.1; lawful = subst (λ l. IsLawful l (told_on [] dones)) (sym log_told) told_book.0 },
     subst (λ l. (maps ≡ []) ⊎ (maps ≡ log_rows l)) (sym log_told) has,
-    subst (λ l. Some last ≡ Some (made_end (length (told_on [] dones)) (length (log_rows l)) (value_sum (log_rows l)))) (sym log_told) (ap (λ n. Some (made_end n (length (log_rows log)) (value_sum (log_rows log)))) (sym count_told)),
+    subst (λ l. Some last ≡ Some (made_end (length (told_on [] dones)) (length (log_rows l)) (sum_of (log_rows l)))) (sym log_told) (ap (λ n. Some (made_end n (length (log_rows log)) (sum_of (log_rows log)))) (sym count_told)),
     sym count_told,
     ap length (sym log_told),
   )
@@ -58,18 +58,18 @@ module _ (words : ℕ) (some : 1 ≤ words) (narrow : words ≤ 8) (log : List E
   rows_fit : AllByRecursion (IsFitRow words) (log_rows log)
   rows_fit = map_fits words log dones law closed calls
 
-  end_is : (maps : List Row) → (maps ≡ []) ⊎ (maps ≡ log_rows log) → Goes words some (Lawful (length dones) (length log)) (told_so (told_on [] dones) maps) (end_line (length dones) (length (log_rows log)) (value_sum (log_rows log)))
+  end_is : (maps : List Row) → (maps ≡ []) ⊎ (maps ≡ log_rows log) → Goes words some (Lawful (length dones) (length log)) (told_so (told_on [] dones) maps) (end_line (length dones) (length (log_rows log)) (sum_of (log_rows log)))
   unfolding last
   end_is maps has =
-      let sum : value_sum (log_rows log) < 2 ^ 128 = omega (arith, sums_within words (log_rows log) narrow rows_fit, few_rows) in
-      end_goes words some (Lawful (length dones) (length log)) (told_on [] dones) maps (length dones) (length (log_rows log)) (value_sum (log_rows log)) (omega (arith, few)) (omega (arith, few_rows)) sum (λ k. found maps k has)
+      let sum : sum_of (log_rows log) < 2 ^ 128 = omega (arith, sums_within words (log_rows log) narrow rows_fit, few_rows) in
+      end_goes words some (Lawful (length dones) (length log)) (told_on [] dones) maps (length dones) (length (log_rows log)) (sum_of (log_rows log)) (omega (arith, few)) (omega (arith, few_rows)) sum (λ k. found maps k has)
 
-  ends : (asked : Bool) → Goes words some (Lawful (length dones) (length log)) (told_so (told_on [] dones) []) ((if asked then flat_map map_line (log_rows log) else []) ++ end_line (length dones) (length (log_rows log)) (value_sum (log_rows log)))
-  ends true = maps_go words some (Lawful (length dones) (length log)) (told_on [] dones) [] (log_rows log) (end_line (length dones) (length (log_rows log)) (value_sum (log_rows log))) rows_fit (end_is (log_rows log) (inr refl))
+  ends : (asked : Bool) → Goes words some (Lawful (length dones) (length log)) (told_so (told_on [] dones) []) ((if asked then flat_map map_line (log_rows log) else []) ++ end_line (length dones) (length (log_rows log)) (sum_of (log_rows log)))
+  ends true = maps_go words some (Lawful (length dones) (length log)) (told_on [] dones) [] (log_rows log) (end_line (length dones) (length (log_rows log)) (sum_of (log_rows log))) rows_fit (end_is (log_rows log) (inr refl))
   ends false = end_is [] (inl refl)
 
-  pub lines_lawful : (asked : Bool) → IsFinding words (calls_text points.Shown dones ++ ((if asked then flat_map map_line (log_rows log) else []) ++ end_line (length dones) (length (log_rows log)) (value_sum (log_rows log)))) (Lawful (length dones) (length log))
+  pub lines_lawful : (asked : Bool) → IsFinding words (calls_text points.Shown dones ++ ((if asked then flat_map map_line (log_rows log) else []) ++ end_line (length dones) (length (log_rows log)) (sum_of (log_rows log)))) (Lawful (length dones) (length log))
   unfolding IsFinding Goes
   lines_lawful asked =
       let within : length {A = Done} [] + length dones ≤ 1000000 = omega (arith, few) in
-      calls_go words some (Lawful (length dones) (length log)) [] dones ((if asked then flat_map map_line (log_rows log) else []) ++ end_line (length dones) (length (log_rows log)) (value_sum (log_rows log))) all_fit numbers within (ends asked) 0
+      calls_go words some (Lawful (length dones) (length log)) [] dones ((if asked then flat_map map_line (log_rows log) else []) ++ end_line (length dones) (length (log_rows log)) (sum_of (log_rows log))) all_fit numbers within (ends asked) 0

@@ -10,7 +10,8 @@ use Rattle.sh_map.specs.declared.log.Change.TheVariants as change
 use Rattle.sh_map.specs.{Book.{Answers, AnswersAt, AnswersRange, IsClosed, IsLawful, made, made_entry}, Log.{map_at, map_of}, Map.{Map, get, pair_row, row_pair}, Rows.{IsRising, nothing, row_key}}
 use Rattle.sh_map.proofs.{LastLemmas.{value_from}, LogLemmas.{IsLegal-at, map_at-length}, RangeLemmas.{is_rising}, RowsLemmas.{found_in}}
 use Rattle.sh_core.specs.Actors.{HasOwnRows}
-use Rattle.sh_judge.specs.{Finding.{log_rows, value_sum}}
+use Rattle.sh_judge.specs.{Finding.{log_rows}}
+use Rattle.sh_text.specs.Text.{sum_of}
 use Rattle.sh_judged.proofs.Lines.{FitsCall, FitsReply, FitsRows, IsFit, IsFitRow, IsWordy}
 
 pairs_back : (es : List (ℕ × List ℕ)) → map row_pair (map (λ p. pair_row p.0 p.1) es) ≡ es
@@ -94,7 +95,7 @@ sum_within : (ws : List ℕ) → AllByRecursion (λ w. w < 2 ^ 64) ws → sum ws
 sum_within [] h = omega arith
 sum_within (w ∷ ws) h = omega (arith, sum_by-cons (λ x. x) w ws, sum_within ws h.1, h.0)
 
-pub sums_within : (words : ℕ) (rows : List Row) → words ≤ 8 → AllByRecursion (IsFitRow words) rows → value_sum rows ≤ length rows * 147573952589676412920
+pub sums_within : (words : ℕ) (rows : List Row) → words ≤ 8 → AllByRecursion (IsFitRow words) rows → sum_of rows ≤ length rows * 147573952589676412920
 sums_within words [] few h = omega arith
 sums_within words (r ∷ rows) few h =
     let one = sum_within r.value h.0.value.each in

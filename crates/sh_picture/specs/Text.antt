@@ -1,7 +1,7 @@
 -- The lines of a verdict. Each ends with a line feed; numbers are decimal, without leading zeros.
-use Rattle.std.specs.{Prelude.{ℕ, Bool, List, [], ◌++◌, codes, length, sum, if◌then◌else◌}, Fmt.{decimal}, List.{flat_map, sum_by}}
+use Rattle.std.specs.{Prelude.{ℕ, Bool, List, [], ◌++◌, codes, length, if◌then◌else◌}, Fmt.{decimal}}
 use Rattle.sh_map.specs.declared.book.Row.{Row}
-use Rattle.sh_text.specs.Text.{map_line}
+use Rattle.sh_text.specs.Text.{map_lines, sum_of}
 use Rattle.sh_picture.specs.declared.{place.FirstPlace.{FirstPlace, TheVariants.{Short, Magic, Setting, Length, Zero, Lock, Root, Chain, Pair, Twice}}, verdict.Verdict.{Verdict}}
 use Rattle.sh_picture.specs.declared.verdict.Verdict.TheVariants.{Lawful, Refused}
 
@@ -22,14 +22,6 @@ place_line (Twice node key) = codes "refused,twice," ++ ((decimal node ++ codes 
 unfoldable pub lawful_line : (keys total : ℕ) → List ℕ
 lawful_line keys total = codes "lawful," ++ ((decimal keys ++ codes ",") ++ (decimal total ++ codes "\n"))
 
--- the sum of all words of all values
-abbrev pub total_of : List Row → ℕ
-total_of rows = sum_by (λ r. sum r.value) rows
-
--- a line for each key, where the map is asked for
-abbrev pub rows_text : (asked : Bool) → List Row → List ℕ
-rows_text asked rows = if asked then flat_map map_line rows else []
-
 abbrev pub verdict_text : (asked : Bool) → Verdict → List ℕ
-verdict_text asked (Lawful cfg pairs) = rows_text asked pairs ++ lawful_line (length pairs) (total_of pairs)
+verdict_text asked (Lawful cfg pairs) = map_lines asked pairs ++ lawful_line (length pairs) (sum_of pairs)
 verdict_text asked (Refused place) = place_line place

@@ -1,8 +1,8 @@
 -- What the check of an input leaves, by how it ended.
-use Rattle.std.specs.{Prelude.{ℕ, ◌≡◌, ◌≢◌, ◌<◌, ◌-◌, ◌^◌, ◌⊎◌, Bool, true, false, List, [], ◌∷◌, length, Option, Some, None, bytes_eq, codes, if◌then◌else◌}, Io.KnownBytes.{Appends}}
+use Rattle.std.specs.{Prelude.{ℕ, ◌≡◌, ◌<◌, ◌⊎◌, Bool, true, false, List, [], ◌∷◌, length, Option, Some, None, bytes_eq, codes, if◌then◌else◌}, Io.KnownBytes.{Appends}}
 use Rattle.sh_base.specs.declared.config.Config.{Config}
 use Rattle.sh_map.specs.declared.book.Row.{Row}
-use Rattle.sh_port.specs.{Port.{HasRisen, AppendsFront}, Intake.{TookUpTo, TookSomeUpTo, TookMoreThan, TookNoMoreThan}}
+use Rattle.sh_port.specs.{Port.{HasNoFault, HasRisen, AppendsFront, Unwritten}, Intake.{TookUpTo, TookSomeUpTo, TookMoreThan, TookNoMoreThan}}
 use Rattle.sh_sheet.specs.declared.status.Status.TheVariants as status
 use Rattle.sh_sheet.specs.Status.{status_code, status_text}
 use Rattle.sh_picture.specs.declared.{place.FirstPlace.{FirstPlace}, verdict.Verdict.{Verdict, TheVariants.{Lawful, Refused}}, ending.PictureStatus.{PictureStatus, TheVariants.{Served, NotLawful}}}
@@ -47,10 +47,6 @@ pub record HalfWritten (asked : Bool) (left rest : Option (List ℕ)) (before no
   pub judged : HasVerdict left rest before now verdict
   pub written : AppendsFront held after (verdict_text asked verdict)
 
--- nothing was written
-abbrev pub IsUnwritten : (held after : Option (List ℕ)) → (fell fallen : ℕ) → Type 0
-IsUnwritten held after fell fallen = (after ≡ held) × (fallen ≡ fell)
-
 -- What a check leaves. The source: the bytes that were left and that are left, and its counts of faults before and now.
 -- The sink: the bytes that it held and holds, and its counts.
 abbrev pub Checked : (asked : Bool) → (left rest : Option (List ℕ)) → (before now : ℕ) → (held after : Option (List ℕ)) → (fell fallen : ℕ) → PictureStatus → Type 0
@@ -59,19 +55,19 @@ Checked asked left rest before now held after fell fallen (Served status.Ok) =
 Checked asked left rest before now held after fell fallen NotLawful =
     (place : FirstPlace) × HasVerdict left rest before now (Refused place) × HasWritten asked held after fell fallen (Refused place)
 Checked asked left rest before now held after fell fallen (Served status.ReadFault) =
-    TookSomeUpTo most_bytes left rest before now × IsUnwritten held after fell fallen
+    TookSomeUpTo most_bytes left rest before now × Unwritten held after fell fallen
 Checked asked left rest before now held after fell fallen (Served status.TooLong) =
-    TookMoreThan most_bytes left rest before now × IsUnwritten held after fell fallen
+    TookMoreThan most_bytes left rest before now × Unwritten held after fell fallen
 Checked asked left rest before now held after fell fallen (Served status.WriteFault) =
     HalfWritten asked left rest before now held after × HasRisen fell fallen
 Checked asked left rest before now held after fell fallen (Served status.NoMemory) =
-    TookNoMoreThan most_bytes left rest before now × (IsUnwritten held after fell fallen ⊎ (HalfWritten asked left rest before now held after × (fallen ≡ fell)))
+    TookNoMoreThan most_bytes left rest before now × (Unwritten held after fell fallen ⊎ (HalfWritten asked left rest before now held after × (fallen ≡ fell)))
 Checked asked left rest before now held after fell fallen (Served s) = ⊥
 
 -- Where the words are refused nothing is read or written; where they aren't, the check of the input.
 abbrev pub Headline : (asked : Option Bool) → (left rest : Option (List ℕ)) → (before now : ℕ) → (held after : Option (List ℕ)) → (fell fallen : ℕ) → PictureStatus → Type 0
 Headline None left rest before now held after fell fallen s =
-    (s ≡ Served status.Usage) × (rest ≡ left) × (now ≡ before) × IsUnwritten held after fell fallen
+    (s ≡ Served status.Usage) × (rest ≡ left) × (now ≡ before) × Unwritten held after fell fallen
 Headline (Some asked) left rest before now held after fell fallen s = Checked asked left rest before now held after fell fallen s
 
 -- the words are accepted, the source's bytes are told and not too many, and neither the source nor the sink failed
@@ -81,8 +77,8 @@ pub record IsFree (asked : Option Bool) (left : Option (List ℕ)) (before now f
   pub accepted : asked ≡ Some map
   pub told : left ≡ Some bytes
   pub short : length bytes < 33554489
-  pub source : (now ≡ before) × (now ≢ 2 ^ 64 - 1)
-  pub sink : (fallen ≡ fell) × (fallen ≢ 2 ^ 64 - 1)
+  pub source : HasNoFault before now
+  pub sink : HasNoFault fell fallen
 
 -- it ended with a verdict, or memory was wanting
 abbrev pub EndsWell : PictureStatus → Type 0

@@ -1,11 +1,9 @@
 // The lines of a verdict.
-ghost use Rattle.std.specs.Prelude.{◌≡◌, ◌≤◌, ◌++◌, ◌*◌, ◌^◌, IfOk, OnOk, codes, length, string_bytes, sum};
+ghost use Rattle.std.specs.Prelude.{◌≡◌, ◌++◌, IfOk, OnOk, codes, string_bytes};
 ghost use Rattle.std.specs.Fmt.{decimal};
-ghost use Rattle.sh_picture.specs.Text.{lawful_line, place_line, total_of};
+ghost use Rattle.sh_picture.specs.Text.{lawful_line, place_line};
 
 use crate::FirstPlace;
-use sh_base::Value;
-use sh_map::Row;
 use std::alloc::{AllocError, Global};
 use std::fmt::Write;
 
@@ -80,29 +78,4 @@ pub(crate) fn lawful_line(alloc: Global, keys: u64, total: u128) -> Result<Strin
     push_number(&mut text, keys)?;
     write!(text, "{total}\n")?;
     Ok(text)
-}
-
-// The sum of a value's words.
-fn total_of_value(value: &Value) -> u128
-    ensures sum { result ≡ sum value.now }
-    ensures small { result ≤ 8 * 2 ^ 64 }
-{
-    let words = value.words();
-    let mut total = 0;
-    for index in 0..value.len() {
-        total += u128::from(words[index]);
-    }
-    total
-}
-
-// The sum of all words of the rows' values. Condition: there are at most 2^57 rows.
-pub(crate) fn total_of(rows: &[Row]) -> u128
-    requires { length rows.now ≤ 2 ^ 57 }
-    ensures { result ≡ total_of rows.now }
-{
-    let mut total = 0;
-    for row in rows {
-        total += total_of_value(&row.value);
-    }
-    total
 }

@@ -1,14 +1,14 @@
 // The lines of a verdict, written.
 ghost use Rattle.std.specs.{Prelude.{◌≡◌, ◌≤◌, ◌^◌, ◌++◌, length, OnOk, OnErr}, Io.KnownBytes.{Appends}};
 ghost use Rattle.sh_port.specs.Port.{AppendsFront};
-ghost use Rattle.sh_text.specs.Write.{HasWriteCause};
-ghost use Rattle.sh_picture.specs.Text.{lawful_line, place_line, rows_text, total_of, verdict_text};
+ghost use Rattle.sh_text.specs.{Text.{map_lines, sum_of}, Write.{HasWriteCause}};
+ghost use Rattle.sh_picture.specs.Text.{lawful_line, place_line, verdict_text};
 
-use crate::lines::{lawful_line, place_line, total_of};
+use crate::lines::{lawful_line, place_line};
 use crate::{FirstPlace, Verdict};
 use sh_map::Row;
 use sh_port::{Sink, write_all};
-use sh_text::{WriteError, write_map};
+use sh_text::{WriteError, sum_of, write_map_lines};
 use std::alloc::Global;
 
 // Writes the line of a place.
@@ -48,24 +48,6 @@ fn write_total<K: Sink>(
     }
 }
 
-// Writes the map, where it is asked for.
-fn write_rows<K: Sink>(
-    alloc: Global,
-    sink: &mut K,
-    asked: bool,
-    rows: &[Row],
-) -> Result<(), WriteError>
-    ensures ok { OnOk result (Appends (K.held sink.old) (K.held sink.new) (rows_text asked rows.now)) }
-    ensures err { OnErr result (AppendsFront (K.held sink.old) (K.held sink.new) (rows_text asked rows.now)) }
-    ensures cause { HasWriteCause (K.faults sink.old) (K.faults sink.new) result }
-{
-    if asked {
-        write_map(alloc, sink, rows)
-    } else {
-        Ok(())
-    }
-}
-
 // Writes the lines of a lawful picture.
 pub(crate) fn write_lawful<K: Sink>(
     alloc: Global,
@@ -74,12 +56,12 @@ pub(crate) fn write_lawful<K: Sink>(
     rows: &[Row],
 ) -> Result<(), WriteError>
     requires { length rows.now ≤ 2 ^ 57 }
-    ensures ok { OnOk result (Appends (K.held sink.old) (K.held sink.new) (rows_text asked rows.now ++ lawful_line (length rows.now) (total_of rows.now))) }
-    ensures err { OnErr result (AppendsFront (K.held sink.old) (K.held sink.new) (rows_text asked rows.now ++ lawful_line (length rows.now) (total_of rows.now))) }
+    ensures ok { OnOk result (Appends (K.held sink.old) (K.held sink.new) (map_lines asked rows.now ++ lawful_line (length rows.now) (sum_of rows.now))) }
+    ensures err { OnErr result (AppendsFront (K.held sink.old) (K.held sink.new) (map_lines asked rows.now ++ lawful_line (length rows.now) (sum_of rows.now))) }
     ensures cause { HasWriteCause (K.faults sink.old) (K.faults sink.new) result }
 {
-    match write_rows(alloc, sink, asked, rows) {
-        Ok(()) => write_total(alloc, sink, rows.len() as u64, total_of(rows)),
+    match write_map_lines(alloc, sink, asked, rows) {
+        Ok(()) => write_total(alloc, sink, rows.len() as u64, sum_of(rows)),
         Err(error) => Err(error),
     }
 }

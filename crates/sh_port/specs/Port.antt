@@ -5,6 +5,20 @@ use Rattle.std.specs.{Prelude.{ℕ, ◌≡◌, ◌≢◌, ◌≤◌, ◌<◌, �
 abbrev pub HasRisen : ℕ → ℕ → Type 0
 HasRisen before now = (before < now) ⊎ (now ≡ 2 ^ 64 - 1)
 
+-- a count of faults that stays, below its last value
+abbrev pub HasNoFault : ℕ → ℕ → Type 0
+HasNoFault before now = (now ≡ before) × (now ≢ 2 ^ 64 - 1)
+
+-- nothing was read: the bytes that were left are left, and no call of the source failed
+pub record Unread (left rest : Option (List ℕ)) (before now : ℕ) : Type 0 where
+  pub left_is : rest ≡ left
+  pub count : now ≡ before
+
+-- nothing was written: the sink holds the bytes that it held, and no call of it failed
+pub record Unwritten (held after : Option (List ℕ)) (fell fallen : ℕ) : Type 0 where
+  pub sink : after ≡ held
+  pub count : fallen ≡ fell
+
 -- the count of faults never falls; it stays where the call answered Ok, and has risen where it failed
 pub record HasFaultCause {T E : Type 0} (before now : ℕ) (result : Result T E) : Type 0 where
   pub kept : before ≤ now

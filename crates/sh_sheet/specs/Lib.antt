@@ -1,4 +1,5 @@
 pub mod Generate
+pub mod Marks
 pub mod Number
 pub mod Parts
 pub mod Reader

@@ -2,7 +2,7 @@
 use Rattle.std.specs.Prelude.{ℕ, ◌≡◌, ◌+◌, ◌-◌, ◌<◌, ◌≤◌, ◌⊎◌, Bool, true, false, nat_le, List, [], ◌∷◌, ◌++◌, length, take, Option, Some, None, Result, Ok, Err, if◌then◌else◌}
 use Rattle.std.specs.List.{Contains, filter_map, slice_get, sum_by}
 use Rattle.sh_base.specs.{declared.config.ConfigParts.{ConfigParts}, Setting.{all_seats}}
-use Rattle.sh_map.specs.{declared.call.Call.TheVariants.{Range}, Calls.{IsInRange}}
+use Rattle.sh_map.specs.{declared.{book.Done.{Done}, call.Call.TheVariants.{Range}}, Calls.{IsInRange}}
 use Rattle.sh_sheet.specs.{Records.{records_in}, Row.{item_in, is_heading}, declared.{status.RowCause.{RowCause}, item.{Mode.{Mode}, Item.{Item, TheVariants.{Ask, Mark, After, Turn}}}}}
 use Rattle.sh_sheet.specs.declared.item.SheetFault.{SheetFault}
 use Rattle.sh_sheet.specs.declared.item.SheetFault.TheVariants as fault
@@ -48,6 +48,22 @@ rows_in p mode (row ∷ rows) = if is_heading row then rows_from p mode true [] 
 -- the reading of a sheet's bytes
 abbrev pub sheet_of : ConfigParts → Mode → List ℕ → Reading
 sheet_of p mode bytes = rows_in p mode (records_in bytes)
+
+-- an item's seat
+abbrev pub item_seat : Item → ℕ
+item_seat (Ask seat call) = seat
+item_seat (Mark seat n) = seat
+item_seat (After seat n) = seat
+item_seat (Turn seat count) = seat
+
+-- whether an item is a call
+abbrev pub is_call : Item → Bool
+is_call (Ask seat call) = true
+is_call other = false
+
+-- the item that a finished call was asked by
+abbrev pub done_item : Done → Item
+done_item d = Ask d.seat d.call
 
 -- whether an item is a call, as a number
 abbrev pub item_calls : Item → ℕ

@@ -42,3 +42,15 @@ status_text (status.BadRow row cause) = row_text row cause
 status_text status.TooMany = codes "too many"
 status_text status.NoMemory = codes "no memory"
 status_text (status.Unfinished turns) = []
+
+-- the words are refused, or memory is wanting
+abbrev pub IsUsage : Status → Type 0
+IsUsage status.Usage = Unit {0}
+IsUsage status.NoMemory = Unit {0}
+IsUsage s = ⊥
+
+-- it wasn't a fault of the source or the sink
+abbrev pub IsNoFault : Status → Type 0
+IsNoFault status.ReadFault = ⊥
+IsNoFault status.WriteFault = ⊥
+IsNoFault s = Unit {0}

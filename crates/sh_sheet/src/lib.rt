@@ -3,6 +3,7 @@
 
 mod deed;
 mod found;
+mod gate;
 mod item;
 mod laws;
 mod made;
@@ -13,6 +14,7 @@ mod sheet;
 mod status;
 mod totals;
 
+pub use gate::{Free, Gate};
 pub use item::{Item, Mode, SheetFault};
 pub use laws::{known_rows, sheet_laws};
 pub use made::generate;

@@ -1,5 +1,5 @@
 -- The lines of an answer. Each ends with a line feed; numbers are decimal, without leading zeros.
-use Rattle.std.specs.{Prelude.{ℕ, List, [], ◌∷◌, ◌++◌, nat_lt, codes, if◌then◌else◌}, Fmt.{decimal}, List.{flat_map}}
+use Rattle.std.specs.{Prelude.{ℕ, Bool, List, [], ◌∷◌, ◌++◌, nat_lt, codes, if◌then◌else◌, length, sum}, Fmt.{decimal}, List.{flat_map, sum_by}}
 use Rattle.sh_base.specs.{declared.event.Event.{Event}, Memory.{at_of}}
 use Rattle.sh_base.specs.declared.event.Event.TheVariants as event
 use Rattle.sh_map.specs.declared.{call.{Call.{Call, TheVariants.{Get, Put, Del, Range}}, Reply.{Reply}}, book.{Row.{Row}, Done.{Done}}}
@@ -139,3 +139,16 @@ event_line seat e found = codes "event," ++ ((decimal seat ++ codes ",") ++ ((ev
 -- the line of made calls: how many, and their seed
 unfoldable pub made_line : ℕ → ℕ → List ℕ
 made_line n seed = codes "made," ++ ((decimal n ++ codes ",") ++ (decimal seed ++ codes "\n"))
+
+-- the sum of all words of the rows' values
+abbrev pub sum_of : List Row → ℕ
+sum_of rows = sum_by (λ (r : Row). sum r.value) rows
+
+-- a line for each key, where the map is asked for
+abbrev pub map_lines : (asked : Bool) → List Row → List ℕ
+map_lines asked rows = if asked then flat_map map_line rows else []
+
+-- the lines behind the calls' lines, where every call has ended: the map where it is asked for, the numbers of calls and
+-- keys, and the sum of all words of the keys' values
+abbrev pub end_lines : (asked : Bool) → (calls : ℕ) → List Row → List ℕ
+end_lines asked calls rows = map_lines asked rows ++ end_line calls (length rows) (sum_of rows)

@@ -8,6 +8,7 @@ mod finished;
 mod line;
 mod points;
 mod push;
+mod sums;
 mod write;
 
 pub use call::{call_line, pending_line};
@@ -16,9 +17,11 @@ pub use counts::Counts;
 pub use finished::Finished;
 pub use line::{end_line, event_line, made_line, map_line, row_line, unfinished_line};
 pub use points::Points;
+pub use sums::{sum_of, sum_of_value};
 pub use write::{
-    WriteError, write_call, write_calls, write_counts, write_end, write_event, write_finished,
-    write_made, write_map, write_pending, write_row, write_unfinished,
+    WriteError, write_call, write_calls, write_counts, write_end, write_end_lines, write_event,
+    write_finished, write_made, write_map, write_map_lines, write_pending, write_row, write_rows,
+    write_unfinished,
 };
 
 #[cfg(test)]

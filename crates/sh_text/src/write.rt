@@ -1,10 +1,10 @@
 // Lines written one after another.
-ghost use Rattle.std.specs.{Prelude.{◌≡◌, OnOk, OnErr}, List.{flat_map}, Io.KnownBytes.{Appends}};
+ghost use Rattle.std.specs.{Prelude.{◌≡◌, ◌≤◌, ◌^◌, OnOk, OnErr, length}, List.{flat_map}, Io.KnownBytes.{Appends}};
 ghost use Rattle.sh_port.specs.Port.{AppendsFront};
-ghost use Rattle.sh_text.specs.{Counts.{counts_line}, Text.{call_line, call_text, calls_text, end_line, event_line, made_line, map_line, pending_line, row_line, unfinished_line}};
+ghost use Rattle.sh_text.specs.{Counts.{counts_line}, Text.{call_line, call_text, calls_text, end_line, end_lines, event_line, made_line, map_line, map_lines, pending_line, row_line, unfinished_line}};
 ghost use Rattle.sh_text.specs.Write.{HasWriteCause};
 
-use crate::{Counts, Finished, Points, call, counting, line};
+use crate::{Counts, Finished, Points, call, counting, line, sum_of};
 use sh_base::Event;
 use sh_map::{Call, Done, Row};
 use sh_port::{Sink, write_all};
@@ -35,8 +35,13 @@ pub fn write_row<K: Sink>(alloc: Global, sink: &mut K, n: u32, row: &Row) -> Res
     }
 }
 
-// Writes the lines of the rows of range `n`.
-fn write_rows<K: Sink>(alloc: Global, sink: &mut K, n: u32, rows: &[Row]) -> Result<(), WriteError>
+/// Writes the lines of the rows of range `n`.
+pub fn write_rows<K: Sink>(
+    alloc: Global,
+    sink: &mut K,
+    n: u32,
+    rows: &[Row],
+) -> Result<(), WriteError>
     ensures ok { OnOk result (Appends (K.held sink.old) (K.held sink.new) (flat_map (row_line n) rows.now)) }
     ensures err { OnErr result (AppendsFront (K.held sink.old) (K.held sink.new) (flat_map (row_line n) rows.now)) }
     ensures cause { HasWriteCause (K.faults sink.old) (K.faults sink.new) result }
@@ -177,6 +182,44 @@ pub fn write_end<K: Sink>(
     match write_all(sink, text.as_bytes()) {
         Ok(()) => Ok(()),
         Err(_) => Err(WriteError::Fault),
+    }
+}
+
+/// Writes the map, where it is asked for.
+pub fn write_map_lines<K: Sink>(
+    alloc: Global,
+    sink: &mut K,
+    asked: bool,
+    rows: &[Row],
+) -> Result<(), WriteError>
+    ensures ok { OnOk result (Appends (K.held sink.old) (K.held sink.new) (map_lines asked rows.now)) }
+    ensures err { OnErr result (AppendsFront (K.held sink.old) (K.held sink.new) (map_lines asked rows.now)) }
+    ensures cause { HasWriteCause (K.faults sink.old) (K.faults sink.new) result }
+{
+    if asked {
+        write_map(alloc, sink, rows)
+    } else {
+        Ok(())
+    }
+}
+
+/// Writes the lines behind the calls' lines where every call has ended: the map where it is asked for, and the last line.
+/// Condition: there are at most 2^57 rows.
+pub fn write_end_lines<K: Sink>(
+    alloc: Global,
+    sink: &mut K,
+    asked: bool,
+    calls: u64,
+    rows: &[Row],
+) -> Result<(), WriteError>
+    requires { length rows.now ≤ 2 ^ 57 }
+    ensures ok { OnOk result (Appends (K.held sink.old) (K.held sink.new) (end_lines asked calls rows.now)) }
+    ensures err { OnErr result (AppendsFront (K.held sink.old) (K.held sink.new) (end_lines asked calls rows.now)) }
+    ensures cause { HasWriteCause (K.faults sink.old) (K.faults sink.new) result }
+{
+    match write_map_lines(alloc, sink, asked, rows) {
+        Ok(()) => write_end(alloc, sink, calls, rows.len() as u64, sum_of(rows)),
+        Err(error) => Err(error),
     }
 }
 

@@ -1,12 +1,12 @@
 -- A call of a pass, from its begin to its end.
-use Rattle.std.proofs.Common.{rules, ◌≡◌, ◌≤◌, ℕ, length, Bool, true, false, Option, Some, None, List, [], ◌∷◌, ◌++◌, refl, ap, sym, ◌∙◌, subst, append-nil, append_assoc}
+use Rattle.std.proofs.Common.{rules, arith, ◌≡◌, ◌≤◌, ◌+◌, ℕ, suc, length, Bool, true, false, Option, Some, None, List, [], ◌∷◌, ◌++◌, refl, ap, sym, ◌∙◌, subst, append-nil, append_assoc}
 use Rattle.sh_map.specs.declared.{call.{Call.{Call}, Reply.{Reply}}, log.Entry.{Entry}, book.Done.{Done}}
-use Rattle.sh_client.{specs.{Machine.{Machine}, Rests.{has_ended, is_resting, reply_of, rests, rows_told}, declared.state.Phase.{Phase}}, proofs.BeginLemmas.{has_begun}}
+use Rattle.sh_client.{specs.{Machine.{Machine}, Rests.{has_ended, is_resting, reply_of, rests, rows_told}, Wants.{want_of}, declared.state.Phase.{Phase}}, proofs.BeginLemmas.{has_begun}}
 use Rattle.sh_client.proofs.Wanting.{ended_in, going_in}
 use Rattle.sh_core.specs.Actors.{done_of}
 use Rattle.sh_core_says.specs.Books.{HasAnswers}
 use Rattle.sh_pool_rule.{specs.Views.{view_seat, Begins}, proofs.BufferLemmas.{lives_few, told_few, HasFewRows}}
-use Rattle.sh_pool.specs.{Calls.{HasServed, IsServing}, Passes.{life_of, IsPass, pass_actor, PoolTable, Standing}, Pools.{IsOfTables}, Turns.{step_of, GoesOrEnds, TookTurn}}
+use Rattle.sh_pool.specs.{Calls.{HasServed, IsServing}, Passes.{life_of, IsPass, pass_actor, PoolTable, Standing}, Pools.{IsOfTables}, Turns.{step_of, GoesOrEnds, StepsBy, TookTurn, TookTurns}}
 use Rattle.sh_pool.{specs.declared.state.Step.TheVariants.{Going, Done as Ended}, proofs.Steps.{begun_actor, begun_as, begun_setting}}
 
 pub begun_serves : (p : Standing) (call : Call) → IsPass p → is_resting p.client ≡ true → IsServing call p (begun_as p call)
@@ -76,3 +76,6 @@ end_rests ph e = search rules
 
 pub reply_rests : (m : Machine) (reply : Reply) → reply_of m ≡ Some reply → is_resting m ≡ true
 reply_rests m reply e = end_rests m.phase ((ended_rests m reply e).0)
+
+pub turns_more : (n : ℕ) (p m q : Standing) → TookTurns n p m → StepsBy (want_of m.client) m q → TookTurns (n + 1) p q
+turns_more n p m q took step = let next : suc n ≡ n + 1 = omega arith in subst (λ (k : ℕ). TookTurns k p q) next (m, took, step)

@@ -10,3 +10,5 @@ pub mod RestLemmas
 pub mod SettledLemmas
 pub mod LayLemmas
 pub mod GatherLemmas
+pub mod LoadedLemmas
+pub mod ShownLemmas

@@ -2,11 +2,13 @@
 use Rattle.std.specs.Prelude.{◌≡◌, ℕ, ◌*◌, ◌%◌, ◌^◌, ◌<◌, ◌≤◌, ◌||◌, if◌then◌else◌, Bool, true, false, Option, None, Some, List, [], ◌∷◌, ◌++◌, length, drop, map}
 use Rattle.atomic_table.specs.Seated.{TableId}
 use Rattle.sh_base.specs.{declared.config.ConfigParts.{ConfigParts}, Parts.{parts_of}, Setting.{all_locks, all_seats}, Layout.{compute_of}}
+use Rattle.sh_image.specs.{Inner.{Inner}, declared.inner.Image.TheVariants.{Inner as InnerImage}}
+use Rattle.sh_read.specs.Reads.{accepted, reads_with}
 use Rattle.sh_map.specs.declared.{call.Call.{Call}, book.Done.{Done}}
 use Rattle.sh_client.specs.{declared.state.Phase.{Phase, TheVariants.{Root, Read, Draw, Look, Grab}}, Machine.{Machine}, InLine.{Stand, Away, Waits, Served, stand_of}, Rests.{is_resting}}
 use Rattle.sh_core.specs.Actors.{Actor}
 use Rattle.sh_local.specs.{declared.view.{View.{View}, ChairCall.{ChairCall, TheVariants.{Drew, Waited, Turned, Counted, Left}}}, Calls.{held, given, taken}, Chairs.{CellTable, Sitting, HasTicketFor}}
-use Rattle.sh_pool_rule.specs.{declared.view.{PassView.{PassView}, Tiding.{Tiding}}, Views.{member, own, view_seat, Tale}, Lives.{calls_told, HasLived}}
+use Rattle.sh_pool_rule.specs.{declared.view.{PassView.{PassView}, Tiding.{Tiding, TheVariants.{WordTold}}}, Views.{member, own, view_seat, Tale}, Lives.{calls_told, HasLived}}
 use Rattle.sh_pool_rule.specs.Untold.{UntoldTurn, CallBegun, WordAnswered, TurnServed, caught_up, life_with, MayTakeAll, StaysAnswered}
 use Rattle.sh_pool.specs.{Handed.{Handed}, Fitting.{cell_for}, declared.right.Knower.{Knower}}
 
@@ -91,6 +93,15 @@ call_under_way m = if is_resting m then [] else m.registers.call ∷ []
 
 abbrev pub TellsItsCalls : List Tiding → Actor → Type 0
 TellsItsCalls life a = calls_told life ≡ map (λ (d : Done). d.call) a.dones ++ call_under_way a.client
+
+-- The row was shown in a life: words that were told one behind another are a node's, of which a READ accepts this image.
+pub record WasShown (m : Machine) (life : List Tiding) (row : Inner) : Type 0 where
+  pub node : ℕ
+  pub words : List ℕ
+  pub since : List Tiding
+  pub before : List Tiding
+  pub whole : life ≡ since ++ (map WordTold words ++ before)
+  pub image_is : accepted m.setting (reads_with node words) ≡ Some (InnerImage row)
 
 -- What holds of each pass: its view has its seat's actor, and its client is that of the actor to which it has come. That
 -- actor has lived its life, and its ended calls stay answered. Its chair has a ticket where its client stands.

@@ -1,9 +1,9 @@
 -- What a turn of a pass does.
-use Rattle.std.specs.Prelude.{◌≡◌, ℕ, ◌+◌, ◌%◌, ◌^◌, Bool, true, false, Option, None, Some, List, [], ◌∷◌, ◌++◌, length}
+use Rattle.std.specs.Prelude.{◌≡◌, ◌≤◌, ℕ, zero, suc, ◌+◌, ◌%◌, ◌^◌, Bool, true, false, Option, None, Some, List, [], ◌∷◌, ◌++◌, length}
 use Rattle.sh_base.specs.{declared.event.Event.{Event}, Layout.{compute_of}}
 use Rattle.sh_map.specs.declared.{log.Entry.{Entry}, call.{Call.{Call}, Reply.{Reply}}}
 use Rattle.sh_client.specs.declared.state.Want.TheVariants as want
-use Rattle.sh_client.specs.{declared.state.Want.{Want}, Machine.{Machine}, Feeds.{fed_by, turned_by, begun as machine_begun}, Rests.{has_ended, is_resting, reply_of}}
+use Rattle.sh_client.specs.{declared.state.Want.{Want}, Machine.{Machine}, Feeds.{fed_by, turned_by, begun as machine_begun}, Rests.{has_ended, is_resting, reply_of}, Wants.{want_of}}
 use Rattle.sh_core.specs.Actors.{Actor, done_of}
 use Rattle.sh_core_says.specs.Books.{HasAnswers}
 use Rattle.sh_local.specs.{declared.view.ChairCall.{ChairCall, TheVariants.{Drew, Waited, Turned, Counted, Left}}, Calls.{held}}
@@ -130,3 +130,15 @@ pub record TookTurn (p q : Standing) : Type 0 where
   pub busy : has_ended q.client.phase ≡ false → is_resting q.client ≡ false
   pub answered : HasAnswers q.view.seen (view_seat q.view) (pass_actor q)
   pub goes : GoesOrEnds (has_ended q.client.phase) (view_seat p.view) (pass_actor p) log q.client (pass_actor q)
+
+-- so many turns, each just the one that the client wanted
+abbrev pub TookTurns : (count : ℕ) → Standing → Standing → Type 0
+TookTurns zero p q = q ≡ p
+TookTurns (suc count) p q = (m : Standing) × TookTurns count p m × StepsBy (want_of m.client) m q
+
+-- no more turns than these, and all of them where the call hasn't ended
+pub record TookUpTo (limit : ℕ) (step : Step) (p q : Standing) : Type 0 where
+  pub count : ℕ
+  pub took : TookTurns count p q
+  pub within : count ≤ limit
+  pub all : step ≡ Going → count ≡ limit

@@ -111,6 +111,7 @@ impl Pool {
         ensures ok { IfOk result (λ v. AreLaidFor (parts_of cfg.now) self.new.laid v.items) }
         ensures ready { IfOk result (λ v. AreReady (parts_of cfg.now) self.new.laid v.items) }
         ensures all { IfOk result (λ v. AreAllOf self.new.laid v.items) }
+        ensures words { IfOk result (λ v. self.new.words ≡ []) }
         ensures err { OnErr result (self.new ≡ self.old) }
     {
         let (laid, maker, chairs) = LaidPool::open(alloc, cfg)?;

@@ -2,9 +2,9 @@
 ghost use Rattle.std.specs.{Prelude.{◌≡◌, IfSome, true, false}, Option.{option_map}};
 ghost use Rattle.sh_cache.specs.Cached.{found};
 ghost use Rattle.sh_map.specs.{declared.call.Call.TheVariants.{Get, Put, Del, Range}, Calls.{IsInRange}};
-ghost use Rattle.sh_client.specs.Rests.{is_resting, rows_told};
+ghost use Rattle.sh_client.specs.{Machine.{fresh_machine}, Rests.{is_resting, rows_told}};
 ghost use Rattle.sh_pool_rule.specs.Views.{view_seat};
-ghost use Rattle.sh_pool.specs.{Calls.{HasServed}, Pools.{IsOfPool}, Turns.{EndsWith}};
+ghost use Rattle.sh_pool.specs.{Calls.{HasServed}, Passes.{life_of, WasShown}, Pools.{IsOfPool}, Turns.{EndsWith, TookUpTo}};
 
 use crate::pool::Pool;
 use crate::state::{Pass, Step};
@@ -23,6 +23,7 @@ impl Pass {
         ensures of { IsOfPool pool.now self.new }
         ensures seat { view_seat self.new.view ≡ view_seat self.old.view }
         ensures ends { EndsWith result self.new.client }
+        ensures turns { TookUpTo limit result self.old self.new }
     {
         for _ in 0..limit {
             if let Step::Done(reply) = self.step(pool) {
@@ -118,10 +119,11 @@ impl Pass {
     }
 
     /// Of the cached inner nodes of level 1 that cover a key the one with the greatest low fence. None exactly where none
-    /// covers it.
+    /// covers it. It is what a READ accepts of words that the pass found one behind another.
     pub fn cached_row(&self, key: u64) -> Option<&InnerImage>
         ensures row { option_map (λ r. r.now) result ≡ found self.now.client.registers.cached key }
         ensures level { IfSome result (λ r. r.now.level ≡ 1) }
+        ensures shown { IfSome result (λ r. WasShown (fresh_machine self.now.client.setting (view_seat self.now.view)) (life_of self.now) r.now) }
     {
         self.client.cached_row(key)
     }

@@ -1,8 +1,7 @@
 -- An event on the table of words keeps its rule.
-use Rattle.std.proofs.Common.{rules, ◌≡◌, ◌≢◌, ℕ, zero, suc, ◌≤◌, Bool, false, List, [], ◌∷◌, ◌++◌, length, set, refl, ap, sym, subst, ⊎_elim, append-nil, arith}
-use Rattle.std.specs.Prelude.{if◌then◌else◌, slice_index, slice_set}
+use Rattle.std.proofs.Common.{rules, ◌≡◌, ◌≢◌, ℕ, zero, suc, ◌≤◌, false, List, [], ◌∷◌, ◌++◌, length, set, refl, ap, sym, subst, ⊎_elim, append-nil, arith}
+use Rattle.std.specs.Prelude.{slice_index, slice_set}
 use mathlib.Core.Option.{some}
-use prog.Atomic.{either}
 use lib.ListN.{get_elem?}
 use Rattle.atomic_table.{specs.Table.{State, Me, Allows, keeps}, proofs.Lists.{at_set, set_here}}
 use Rattle.sh_base.specs.{declared.{config.ConfigParts.{ConfigParts}, event.Event.{Event}}, Memory.{apply, found_by, at_of}}
@@ -53,7 +52,6 @@ turn_kept p words views r id v a e tale at asks wants =
     }) in
     let now : Inv p (apply words e) log Now (Out views') = rights_same p (apply words e) log Now (Out views) (Out views') t.inv (out_to views id v w at refl) (out_from views id v w at refl) in
     let answers : HasAnswers log k b = calls_are_answered p (apply words e) log Now (Out views') k b now mv.here in
-    let moment : EventMoment p e word k b log = record { words = words; views = views'; found = refl; here = mv.here; holds = each_moment p (apply words e) log Now (Out views') now; legal = subst IsLegal now.log_is now.ground.legal } in
     let knows : KnowsLog log r.home r.bearer id w = record {
       begins = ([], sym (append-nil log));
       pasts = all_begin_on r.log more v.pasts known.pasts;
@@ -61,24 +59,26 @@ turn_kept p words views r id v a e tale at asks wants =
       right = known.right;
       idle = λ n. absurd (n (member k b) (one k b));
     } in
-    let counts = counts_set views id v w 0 0 0 at (omega arith) (omega arith) (omega arith) in (
+    let counts = counts_set views id v w 0 0 0 at (omega arith) (omega arith) (omega arith) in
+    let kept : KeepsPool p (apply words e) views' = record {
+      ok = r.ok;
+      log = log;
+      inv = now;
+      top = record { id = id; view = w; at = set_here views id w (at_lt views id v at); whole = refl; some = member k b; live = one k b };
+      home = r.home;
+      bearer = r.bearer;
+      even = let q = r.even in let g = counts.0 in let t = counts.1 in let o = counts.2 in omega (arith, q, g, t, o);
+      each = λ i u q. ⊎_elim
+          (λ (s : (i ≡ id) × (w ≡ u)). subst (λ (z : ℕ × PassView). KnowsLog log r.home r.bearer z.0 z.1) (λ z. (sym s.0 z, s.1 z)) knows)
+          (λ (s : (i ≢ id) × (get_elem? views i ≡ some u)). knows_on r.log more r.home r.bearer i u (r.each i u s.1))
+          (at_set views id i w u q);
+      noted = r.noted;
+      notes = notes_set r.noted views id w r.notes (notes_on r.noted k v w (own v) b asks.here asks.alone refl refl refl (front_more (own v).dones a.dones b.dones (asked_dones p v a asks) (turn_dones k a r.log more (fed_by a.client word))) (begins_on v.seen r.log more known.begins) (r.notes id v at));
+    } in
+    let moment : EventMoment p e word v w = record { words = words; views = views; id = id; at = at; before = r; after = kept; found = refl; holds = each_moment p (apply words e) log Now (Out views') now; legal = subst IsLegal now.log_is now.ground.legal } in (
       w,
-      record {
-        ok = r.ok;
-        log = log;
-        inv = now;
-        top = record { id = id; view = w; at = set_here views id w (at_lt views id v at); whole = refl; some = member k b; live = one k b };
-        home = r.home;
-        bearer = r.bearer;
-        even = let q = r.even in let g = counts.0 in let t = counts.1 in let o = counts.2 in omega (arith, q, g, t, o);
-        each = λ i u q. ⊎_elim
-            (λ (s : (i ≡ id) × (w ≡ u)). subst (λ (z : ℕ × PassView). KnowsLog log r.home r.bearer z.0 z.1) (λ z. (sym s.0 z, s.1 z)) knows)
-            (λ (s : (i ≢ id) × (get_elem? views i ≡ some u)). knows_on r.log more r.home r.bearer i u (r.each i u s.1))
-            (at_set views id i w u q);
-        noted = r.noted;
-        notes = notes_set r.noted views id w r.notes (notes_on r.noted k v w (own v) b asks.here asks.alone refl refl refl (front_more (own v).dones a.dones b.dones (asked_dones p v a asks) (turn_dones k a r.log more (fed_by a.client word))) (begins_on v.seen r.log more known.begins) (r.notes id v at));
-      },
-      record { event = e; wanted = wants; log = r.log; begins = known.begins; is = refl; sense = t.sense; answered = subst (λ (x : ConfigParts). StaysAnswered x k log b) (sym t.setting) (stays p r.ok (apply words e) log k Now (Out views') b now mv.here answers.seen); moment = subst (λ (x : ConfigParts). EventMoment x e word k b log) (sym t.setting) moment },
+      kept,
+      record { event = e; wanted = wants; log = r.log; begins = known.begins; is = refl; sense = t.sense; answered = subst (λ (x : ConfigParts). StaysAnswered x k log b) (sym t.setting) (stays p r.ok (apply words e) log k Now (Out views') b now mv.here answers.seen); moment = subst (λ (x : ConfigParts). EventMoment x e word v w) (sym t.setting) moment },
     )
 
 -- ---- the event as a step of the table
@@ -88,15 +88,6 @@ same_words [] i = refl
 same_words (x ∷ xs) zero = refl
 same_words (x ∷ xs) (suc i) = ap (λ (ys : List ℕ). x ∷ ys) (same_words xs i)
 
-exchanges : (words : List ℕ) (at new n : ℕ) → slice_index words at ≡ n → (t : Bool) → slice_set words at (either t new n) ≡ (if t then slice_set words at new else words)
-exchanges words at new n is t = search (rules, same_words)
-
-pub step_is : (words : List ℕ) (e : Event) → slice_set words (at_of e) (word_left e (slice_index words (at_of e))) ≡ apply words e
-step_is words e = search (rules, same_words, exchanges)
-
-told_is : (words : List ℕ) (e : Event) → word_told e (slice_index words (at_of e)) ≡ found_by words e
-told_is words e = search rules
-
 pub allows_turn : (p : ConfigParts) (slots id : ℕ) (me : Me (Unit {0}) PassView) (a : Actor) (e : Event) (tale : Tale) → IsActorOf p me.0 a → want_of a.client ≡ want.Event e
     → Allows (Pooled p) slots id me (at_of e) (word_left e) (λ n now. TookEvent a tale me.0 (word_told e n) now.0 × (now.1 ≡ me.1))
 allows_turn p slots id me a e tale asks wants s r homes at small =
@@ -104,6 +95,6 @@ allows_turn p slots id me a e tale asks wants s r homes at small =
       t.0,
       keeps,
       tt,
-      subst (λ (xs : List ℕ). KeepsPool p xs (set s.views id t.0)) (sym (step_is s.words e)) t.1,
-      (subst (λ (n : ℕ). TookEvent a tale me.0 n t.0) (sym (told_is s.words e)) t.2, refl),
+      subst (λ (xs : List ℕ). KeepsPool p xs (set s.views id t.0)) (sym (search (rules, same_words))) t.1,
+      (subst (λ (n : ℕ). TookEvent a tale me.0 n t.0) (sym (search rules)) t.2, refl),
     )

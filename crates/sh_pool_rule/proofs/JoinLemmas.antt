@@ -98,9 +98,6 @@ module _ (p : ConfigParts) (words : List ℕ) (views : List PassView) (r : Keeps
   abbrev lives : ℕ → ℕ
   lives j = if r.home j == other then id else r.home j
 
-  lives_here : (j : ℕ) → r.home j ≡ other → lives j ≡ id
-  lives_here j e = ap (λ (t : Bool). if t then id else r.home j) (eq-eqb (r.home j) other e)
-
   lives_else : (j i : ℕ) → r.home j ≡ i → i ≢ other → lives j ≡ i
   lives_else j i e ne = ap (λ (t : Bool). if t then id else r.home j) (ne_eqb (r.home j) other (λ q. ne (sym e ∙ q))) ∙ e
 
@@ -119,7 +116,7 @@ module _ (p : ConfigParts) (words : List ℕ) (views : List PassView) (r : Keeps
         pasts = new_pasts;
         here = λ j b m. ⊎_elim
             (λ (h : In (member j b) v.members). let q = known.here j b h in let le = q.1 in (lives_else j id q.0 (λ (s : id ≡ other). apart (sym s)), omega (arith, le, long.0)))
-            (λ (h : In (member j b) w.members). let q = others.here j b h in let le = q.1 in (lives_here j q.0, omega (arith, le, long.1)))
+            (λ (h : In (member j b) w.members). let q = others.here j b h in let le = q.1 in (ap (λ (t : Bool). if t then id else r.home j) (eq-eqb (r.home j) other q.0), omega (arith, le, long.1)))
             (in_either (member j b) v.members w.members m);
         right = known.right;
         idle = λ n.

@@ -2,17 +2,14 @@
 use Rattle.std.{proofs.Common.{rules, ◌≡◌, ℕ, Bool, true, false, List, [], ◌∷◌, ◌++◌, refl, ap, sym, ◌∙◌, append-nil, subst}, specs.Prelude.{if◌then◌else◌, map, Option, None}}
 use Rattle.sh_base.specs.declared.config.ConfigParts.{ConfigParts}
 use Rattle.sh_map.specs.declared.{log.Entry.{Entry}, book.Done.{Done}}
-use Rattle.sh_client.specs.{Machine.{Machine, fresh_machine}, Feeds.{begun, fed_by, turned_by}, Giving.{makes}, Rests.{has_ended, is_resting, rests}, Wants.{want_in}, declared.state.Phase.{Phase, TheVariants.{Look}}}
+use Rattle.sh_client.specs.{Machine.{Machine, fresh_machine}, Feeds.{begun, fed_by, turned_by}, Giving.{makes}, Rests.{has_ended, is_resting}, declared.state.Phase.{TheVariants.{Look}}}
 use Rattle.sh_decide.specs.declared.state.Aim.{Aim}
-use Rattle.sh_core.specs.{Actors.{Actor, actor_going, becomes, ending}, Core.{IsLocal}}
+use Rattle.sh_core.specs.{Actors.{Actor, actor_going, becomes, ending}}
 use Rattle.sh_pool_rule.specs.{declared.view.Tiding.{Tiding, TheVariants.{CallTold, TurnTold, WordTold}}, Lives.{call_end, end_if, end_told, lived, CallEnd, HasLived}}
 use Rattle.sh_pool_rule.specs.Untold.{UntoldTurn, CallBegun, WordAnswered, TurnServed, caught_up, life_with, untold_after, MayTakeAll}
 
-becomes_if : (k : ℕ) (a : Actor) (log more : List Entry) (m : Machine) (t : Bool) → (if t then ending k a log m else actor_going a log more m).client ≡ m
-becomes_if k a log more m t = search rules
-
 pub becomes_client : (k : ℕ) (a : Actor) (log more : List Entry) (m : Machine) → (becomes k a log more m).client ≡ m
-becomes_client k a log more m = becomes_if k a log more m (has_ended m.phase)
+becomes_client k a log more m = search rules
 
 ends_snoc : (ds : List Done) (d : Done) → map end_told (ds ++ d ∷ []) ≡ map end_told ds ++ end_told d ∷ []
 ends_snoc [] d = refl
@@ -20,10 +17,6 @@ ends_snoc (x ∷ ds) d = ap (λ (es : List CallEnd). end_told x ∷ es) (ends_sn
 
 becomes_ends : (k : ℕ) (a : Actor) (log more : List Entry) (m : Machine) (t : Bool) → map end_told (if t then ending k a log m else actor_going a log more m).dones ≡ map end_told a.dones ++ (if t then call_end m ∷ [] else [])
 becomes_ends k a log more m t = search (rules, ends_snoc, append-nil)
-
--- a client that wants a local turn has a call under way
-local_busy : (m : Machine) (ph : Phase) → IsLocal (want_in m ph) → rests ph ≡ false
-local_busy m ph l = search rules
 
 module _ (p : ConfigParts) (k : ℕ) where
   abbrev M : Machine
@@ -45,5 +38,5 @@ module _ (p : ConfigParts) (k : ℕ) where
   pub untold_lives : (seen : List Entry) (life : List Tiding) (a : Actor) (us : List UntoldTurn) → MayTakeAll p k seen a us → HasLived p k life a → HasLived p k (life_with us life) (caught_up k seen a us)
   untold_lives seen life a [] may h = h
   untold_lives seen life a (CallBegun call ∷ us) may h = untold_lives seen (CallTold call ∷ life) (untold_after k seen a (CallBegun call)) us may.1 record { client = ap (λ (x : Machine). begun x call) h.client; ends = h.ends; may = ((subst (λ (x : Machine). is_resting x ≡ true) h.client may.0.0, may.0.1), h.may) }
-  untold_lives seen life a (WordAnswered word ∷ us) may h = untold_lives seen (WordTold word ∷ life) (untold_after k seen a (WordAnswered word)) us may.1 (word_lives life a seen word (local_busy a.client a.client.phase may.0) h)
+  untold_lives seen life a (WordAnswered word ∷ us) may h = untold_lives seen (WordTold word ∷ life) (untold_after k seen a (WordAnswered word)) us may.1 (word_lives life a seen word (search rules) h)
   untold_lives seen life a (TurnServed ∷ us) may h = untold_lives seen (TurnTold None ∷ life) (untold_after k seen a TurnServed) us may.1 (turn_lives life a seen None may.0.0 may.0.1 may.0.2 h)

@@ -75,12 +75,9 @@ module _ (p : ConfigParts) (words : List ℕ) (views : List PassView) (r : Keeps
     pasts = all_weaker (IsPast r.noted u.members) (IsPast noted u.members) u.pasts (λ g q. record { actor = q.actor; here = q.here; own = subst (λ (c : Card). IsFront c.learnt (lengths_of g.cards)) (noted_else g.seat (others g.seat q.actor q.here)) q.own; cards = cards_grow g.seen g.cards q.cards }) h.pasts;
   }
 
-  knows_now : KnowsNotes noted v
-  knows_now = search (rules, cards_grow, only, noted_here, front_same)
-
   all_know : AllKnow noted views
   all_know = λ i u e. dite (ℕ_discrete i id)
-      (λ (q : i ≡ id). subst (KnowsNotes noted) (same_at views id v u at (ap (get_elem? views) (sym q) ∙ e)) knows_now)
+      (λ (q : i ≡ id). subst (KnowsNotes noted) (same_at views id v u at (ap (get_elem? views) (sym q) ∙ e)) (search (rules, cards_grow, only, noted_here, front_same)))
       (λ (ne : i ≢ id). knows_still u (r.notes i u e) (λ j b m same. ne (sym ((r.each i u e).here j b m).0 ∙ ap r.home same ∙ ((r.each id v at).here k a mine).0)))
 
   note_known : KnowsNotes noted (note_view a v)
@@ -153,9 +150,6 @@ module _ (noted : ℕ → Card) (v w : PassView) (k : ℕ) (a : Actor) (members 
     pasts = subst (AllByRecursion (IsPast noted (v.members ++ w.members))) (sym alone) tt;
   }
 
-learnt_is : (a : Actor) (tale : Tale) (v w : PassView) → IsNoteView w → let told : PassView = told_view a tale v in joined_with told w v.pasts (v.cards ++ moved_cards (length (longer v.seen w.seen)) w.cards) ≡ learnt_view a tale v w
-learnt_is a tale v w bare = search rules
-
 pub learning : (p : ConfigParts) (id : ℕ) (v : PassView) (a : Actor) (tale : Tale) (other : ℕ) (w : PassView) → IsActorOf p v a → IsNoteView w → Joins (Pooled p) id v other w (learnt_view a tale v w) empty_view
 learning p id v a tale other w asks bare s r at apart there =
     let told : PassView = told_view a tale v in
@@ -168,7 +162,7 @@ learning p id v a tale other w asks bare s r at apart there =
     let mine = k.each id told told_at in
     let others = k.each other w other_at in
     let b : Begins w.seen (longer v.seen w.seen) = longer_second v.seen w.seen k.log mine.begins others.begins in
-    subst (λ (x : PassView). KeepsPool p s.words (set (set s.views id x) other empty_view)) (learnt_is a tale v w bare)
+    subst (λ (x : PassView). KeepsPool p s.words (set (set s.views id x) other empty_view)) (search rules)
     (subst (λ (vs : List PassView). KeepsPool p s.words (set vs other empty_view)) (set_twice s.views id told new)
     (joining_kept p s.words views k id told told_at other w apart v.pasts cs (set_else views id other new apart ∙ other_at) bare.right mine.pasts
     (learnt_known k.noted told w (view_seat v) a refl asks.alone bare (k.notes id told told_at) (k.notes other w other_at) b)))

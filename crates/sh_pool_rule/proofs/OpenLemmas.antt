@@ -96,9 +96,6 @@ module _ (p : ConfigParts) (words : List ℕ) (views : List PassView) (r : Keeps
   right_at : get_elem? now (length mid) ≡ some right
   right_at = at_last mid right (length mid) refl
 
-  goes : (m : Member) → In m v.members → In m right.members ⊎ In m left.members
-  goes m i = search (rules, right_is, left_is)
-
   from_left : (m : Member) → In m left.members → In m v.members
   from_left m i = let j = subst (In m) left_is i in subst (In m) (sym members) (suc j.0, j.1)
 
@@ -109,7 +106,7 @@ module _ (p : ConfigParts) (words : List ℕ) (views : List PassView) (r : Keeps
   same = record {
     on = λ j a h. dite (ℕ_discrete h.0 id)
         (λ (q : h.0 ≡ id). let is : h.1 ≡ v = same_at views id h.1 v (ap (get_elem? views) (sym q) ∙ h.2) at in
-        ⊎_elim (λ (i : In (member j a) right.members). (length mid, right, right_at, i)) (λ (i : In (member j a) left.members). (id, left, left_at, i)) (goes (member j a) (subst (λ (u : PassView). In (member j a) u.members) is h.3)))
+        ⊎_elim (λ (i : In (member j a) right.members). (length mid, right, right_at, i)) (λ (i : In (member j a) left.members). (id, left, left_at, i)) (search (rules, right_is, left_is)))
         (λ (ne : h.0 ≢ id). (h.0, h.1, at_longer mid (right ∷ []) h.0 h.1 (set_else views id h.0 left ne ∙ h.2), h.3));
     back = λ j a h. ⊎_elim (λ (t : (h.0 ≡ length mid) × (right ≡ h.1)). (id, v, at, from_right (member j a) (subst (λ (u : PassView). In (member j a) u.members) (sym t.1) h.3)))
         (λ z. ⊎_elim (λ (t : (h.0 ≡ id) × (left ≡ h.1)). (id, v, at, from_left (member j a) (subst (λ (u : PassView). In (member j a) u.members) (sym t.1) h.3)))
@@ -126,9 +123,6 @@ module _ (p : ConfigParts) (words : List ℕ) (views : List PassView) (r : Keeps
   abbrev lives : ℕ → ℕ
   lives j = if j == k then length mid else r.home j
 
-  lives_here : lives k ≡ length mid
-  lives_here = ap (λ (t : Bool). if t then length mid else r.home k) (eq-eqb k k refl)
-
   lives_else : (j : ℕ) → j ≢ k → lives j ≡ r.home j
   lives_else j ne = ap (λ (t : Bool). if t then length mid else r.home j) (ne_eqb j k ne)
 
@@ -143,7 +137,7 @@ module _ (p : ConfigParts) (words : List ℕ) (views : List PassView) (r : Keeps
         begins = known.begins;
         pasts = tt;
         here = λ j a m. let h = members_in p k 1 j a (subst (In (member j a)) right_is m) in let lo = h.0 in let hi = h.1 in let j_is : k ≡ j = omega (arith, lo, hi) in
-            (subst (λ (x : ℕ). lives x ≡ length mid) j_is lives_here, (known.here j a (from_right (member j a) m)).1);
+            (subst (λ (x : ℕ). lives x ≡ length mid) j_is (ap (λ (t : Bool). if t then length mid else r.home k) (eq-eqb k k refl)), (known.here j a (from_right (member j a) m)).1);
         right = λ c q. absurd (none_some q);
         idle = λ n. (refl, refl);
       } in kn))

@@ -98,14 +98,11 @@ module _ (p : ConfigParts) (words : List ℕ) (views : List PassView) (r : Keeps
   bears_here : (l : ℕ) → l ≡ lock → bears l ≡ length mid
   bears_here l e = ap (λ (t : Bool). if t then length mid else r.bearer l) (eq-eqb l lock e)
 
-  bears_else : (l : ℕ) → l ≢ lock → bears l ≡ r.bearer l
-  bears_else l n = ap (λ (t : Bool). if t then length mid else r.bearer l) (ne_eqb l lock n)
-
   -- a view that knew it knows it still
   old_bears : (i : ℕ) (u : PassView) → get_elem? views i ≡ some u → (c : LockRight) → u.right ≡ Some c → bears c.lock ≡ i
   old_bears i u e c q = dite (ℕ_discrete c.lock lock)
       (λ (s : c.lock ≡ lock). absurd (none_out c.compute c.depth (i, u, e, q ∙ ap (λ (l : ℕ). Some (lock_right l c.compute c.depth)) s)))
-      (λ (n : c.lock ≢ lock). bears_else c.lock n ∙ (r.each i u e).right c q)
+      (λ (n : c.lock ≢ lock). (ap (λ (t : Bool). if t then length mid else r.bearer c.lock) (ne_eqb c.lock lock n)) ∙ (r.each i u e).right c q)
 
   seen_is : b.seen ≤ length v.seen
   seen_is = let m : Machine = fed_by a.client 0 in becomes_seen k a v.seen m (makes a.client) (ap (made_in a.client) hands.phase) (has_ended m.phase)

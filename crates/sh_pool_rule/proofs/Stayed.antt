@@ -1,11 +1,10 @@
 -- Actors whose ended calls stay answered: behind turns, behind a right that is taken up, and new ones.
-use Rattle.std.proofs.Common.{rules, ◌≡◌, ℕ, Option, Some, List, [], ◌∷◌, ◌++◌, refl, subst, arith, length-append}
+use Rattle.std.proofs.Common.{rules, ◌≡◌, ℕ, Some, List, [], ◌∷◌, ◌++◌, refl, subst, arith, length-append}
 use Rattle.sh_base.specs.declared.config.ConfigParts.{ConfigParts}
 use Rattle.sh_map.specs.declared.log.Entry.{Entry}
-use Rattle.sh_read.specs.Reads.{wanted}
 use Rattle.sh_decide.specs.declared.state.Aim.{Aim}
-use Rattle.sh_client.specs.{declared.state.Phase.{TheVariants.{Look, ReadLocked}}, Machine.{Machine, reading}, Wants.{load_of}}
-use Rattle.sh_core.{specs.{Actors.{Actor, actor_stepped, actor_turned, becomes}, Core.{IsLocal}, Opening.{entered}}, proofs.Logs.{answered_longer}}
+use Rattle.sh_client.specs.{declared.state.Phase.{TheVariants.{Look, ReadLocked}}, Machine.{Machine, reading}}
+use Rattle.sh_core.{specs.{Actors.{Actor, actor_stepped, actor_turned, becomes}, Opening.{entered}}, proofs.Logs.{answered_longer}}
 use Rattle.sh_core_says.specs.Books.{HasAnswers}
 use Rattle.sh_pool_rule.specs.Rights.{IsHanding}
 use Rattle.sh_pool_rule.specs.Untold.{ChairTurn, OfPass, HandsOver, UntoldTurn, CallBegun, WordAnswered, TurnServed, behind_turns, caught_up, untold_after, MayTakeAll, MayTurnAll, StaysAnswered}
@@ -28,9 +27,6 @@ stays_behind p k s a us h may = λ ts l. subst (HasAnswers s k) (behind_of k s a
 pub stays_handed : (p : ConfigParts) (k : ℕ) (s : List Entry) (a : Actor) → StaysAnswered p k s a → IsHanding a.client → StaysAnswered p k s (actor_stepped k a s 0)
 stays_handed p k s a h hand = λ ts l. h (HandsOver ∷ ts) (hand, l)
 
-not_loading : (o : Option ℕ) → IsLocal (load_of o) → ⊥
-not_loading o h = search rules
-
 -- behind a right that it takes up an actor wants an event
 module _ (p : ConfigParts) (k : ℕ) (log : List Entry) (a : Actor) (aim : Aim) (node depth : ℕ) where
   abbrev m : Machine
@@ -42,7 +38,7 @@ module _ (p : ConfigParts) (k : ℕ) (log : List Entry) (a : Actor) (aim : Aim) 
   reads_next : HasAnswers log k b → StaysAnswered p k log b
   reads_next h [] may = h
   reads_next h (OfPass (CallBegun call) ∷ ts) may = let r = may.0.0 in absurd (cc)
-  reads_next h (OfPass (WordAnswered word) ∷ ts) may = absurd (not_loading (wanted a.client.setting m.registers.reads) may.0)
+  reads_next h (OfPass (WordAnswered word) ∷ ts) may = absurd (search rules)
   reads_next h (OfPass TurnServed ∷ ts) may = let r = may.0.2 in absurd (cc)
   reads_next h (HandsOver ∷ ts) may = let r = may.0.phase in absurd (cc)
 

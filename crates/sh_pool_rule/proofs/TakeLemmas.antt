@@ -16,12 +16,6 @@ use Rattle.sh_pool_rule.specs.{Untold.{IsActorOf}, Rights.{depth_of, taken_view,
 use Rattle.sh_pool_rule.proofs.{NoteLemmas.{asked_dones, front_more, notes_on, notes_set, notes_spent, turn_dones, AllKnow}, Relations.{counts_set, counts_spent, moves_at, none_in, one, only}, Untold.{becomes_seen, catches_up}, Allowed.{Pooled}}
 use Rattle.sh_pool_rule.proofs.Changed.{spent_moves, longer_long, longer_begins, longer_all}
 
-some_carry : (c d : LockRight) → Some c ≡ Some d → c ≡ d
-some_carry c d e = cc
-
-some_lock : (l c d m e f : ℕ) → Some (lock_right l c d) ≡ Some (lock_right m e f) → l ≡ m
-some_lock l c d m e f q = ap (λ (x : LockRight). x.lock) (some_carry (lock_right l c d) (lock_right m e f) q)
-
 module _ (p : ConfigParts) (words : List ℕ) (views : List PassView) (r : KeepsPool p words views) (id : ℕ) (v : PassView) (at : get_elem? views id ≡ some v) (a : Actor) (asks : IsActorOf p v a) (tale : Tale)
     (other : ℕ) (w : PassView) (apart : other ≢ id) (there : get_elem? (set views id (taken_view a tale v w)) other ≡ some w) (none : w.members ≡ []) (meets : MeetsRight p (view_seat v) a.client w.right) (no_right : v.right ≡ None) where
   abbrev k : ℕ
@@ -83,19 +77,16 @@ module _ (p : ConfigParts) (words : List ℕ) (views : List PassView) (r : Keeps
   out_here : Out views lock (compute_of p k) meets.depth
   out_here = (other, w, other_at, meets.is)
 
-  bears : r.bearer lock ≡ other
-  bears = others.right (lock_right lock (compute_of p k) meets.depth) meets.is
-
   out_back : (l c d : ℕ) → Out now l c d → (l ≢ lock) × Out views l c d
   out_back l c d (i, u, e, q) =
       ⊎_elim (λ (t : (i ≡ other) × (empty_view ≡ u)). absurd (none_some (ap (λ (x : PassView). x.right) t.1 ∙ q)))
       (λ z. ⊎_elim (λ (t : (i ≡ id) × (new ≡ u)). absurd (none_some (sym no_right ∙ ap (λ (x : PassView). x.right) t.1 ∙ q)))
       (λ (t : (i ≢ other) × (i ≢ id) × (get_elem? views i ≡ some u)).
-      ((λ (n : l ≡ lock). t.0 (sym ((r.each i u t.2).right (lock_right l c d) q) ∙ ap r.bearer n ∙ bears)), (i, u, t.2, q))) z)
+      ((λ (n : l ≡ lock). t.0 (sym ((r.each i u t.2).right (lock_right l c d) q) ∙ ap r.bearer n ∙ (others.right (lock_right lock (compute_of p k) meets.depth) meets.is))), (i, u, t.2, q))) z)
       (now_at i u e)
 
   out_on : (l c d : ℕ) → l ≢ lock → Out views l c d → Out now l c d
-  out_on l c d n h4 = search (rules, same_at, other_at, some_lock, none_some, set_else)
+  out_on l c d n h4 = search (rules, same_at, other_at, lock_right, none_some, set_else)
 
   inv : Inv p words r.log (Has now) (Out now)
   inv = catches_up p r.ok words r.log (Out views) k v.seen known.begins (Has now) b (Inv p words r.log (Has now) (Out now)) asks.turns (Has views) (own v) r.inv (id, v, at, mine) ((known.here k (own v) mine).1) asks.may mv

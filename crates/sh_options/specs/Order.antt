@@ -3,7 +3,7 @@ use Rattle.std.specs.Prelude.{◌≡◌, ℕ, Bool, true, false, List, [], ◌�
 use Rattle.std.specs.Option.{option_map_or}
 use Rattle.clap.specs.{Words.{first_value, one_text}, declared.parser.matches.Found.{Found}}
 use Rattle.sh_base.specs.{declared.config.ConfigParts.{ConfigParts}, Faults.{fault_of}, Parts.{parts_of}, Setting.{default_parts}}
-use Rattle.sh_sheet.specs.declared.item.Mode.{Mode, TheVariants.{Run, Replay}}
+use Rattle.sh_sheet.specs.declared.item.Mode.{Mode, TheVariants.{Replay}}
 use Rattle.sh_options.specs.{Holds.{flag_text}, Uses.{Names, Text, Use, has_use, is_among, option_number, told_by, option_value}, declared.order.{Given.{Given}, Order.{Order}}}
 
 -- the options of a setting's numbers
@@ -13,8 +13,8 @@ setting_options = codes "servers" ∷ codes "chunks" ∷ codes "chunk-nodes" ∷
 
 -- the options of a program; a replay has three more
 abbrev pub names_for : Mode → Names
-names_for Run = record { options = setting_options; flags = codes "map" ∷ [] }
 names_for Replay = record { options = setting_options ++ codes "make" ∷ codes "seed" ∷ []; flags = codes "map" ∷ codes "events" ∷ [] }
+names_for _ = record { options = setting_options; flags = codes "map" ∷ [] }
 
 -- the number that an option is given, else n
 abbrev pub number_or : Text → ℕ → List Use → ℕ

@@ -1,7 +1,7 @@
 // What the definitions say of some words, as laws.
 ghost use Rattle.std.specs.Prelude.{List, ℕ, ◌≡◌, ◌∷◌, ◌++◌, [], codes, Some, None, option_map, true, false};
 ghost use Rattle.sh_base.specs.Setting.{default_parts};
-ghost use Rattle.sh_sheet.specs.declared.item.Mode.TheVariants.{Run, Replay};
+ghost use Rattle.sh_sheet.specs.declared.item.Mode.TheVariants.{Feed, Run, Replay};
 ghost use Rattle.sh_options.specs.{Order.{names_for, order_of}, Uses.{option_use, flag_use, spelled, uses_of}};
 
 /// The uses that some words make, for each value and for each rest.
@@ -27,6 +27,7 @@ pub fn known_orders()
     ensures zeros { option_map (λ a. a.parts.leaf) (order_of Run (codes "--leaf=007" ∷ [])) ≡ Some 7 }
     ensures seed { order_of Replay (codes "--seed=7" ∷ codes "--map" ∷ codes "--make=5" ∷ []) ≡ Some (record { parts = default_parts; map = true; events = false; make = Some 5; seed = 7 }) }
     ensures seed_alone { order_of Replay (codes "--seed=7" ∷ []) ≡ None }
+    ensures feed { (words : List (List ℕ)) → order_of Feed words ≡ order_of Run words }
     ensures nothing_made { order_of Replay (codes "--make=0" ∷ []) ≡ None }
     ensures leaf_of_three { order_of Run (codes "--leaf=3" ∷ []) ≡ None }
     ensures twice { order_of Run (codes "--leaf=5" ∷ codes "--leaf" ∷ codes "5" ∷ []) ≡ None }

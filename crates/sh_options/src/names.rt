@@ -29,7 +29,7 @@ pub fn options_for(mode: Mode) -> &'static [&'static str]
     ensures { map (λ s. s.now) result.now ≡ (names_for mode).options }
 {
     match mode {
-        Mode::Run => &OPTIONS[..12],
+        Mode::Run | Mode::Feed => &OPTIONS[..12],
         Mode::Replay => &OPTIONS,
     }
 }
@@ -39,7 +39,7 @@ pub fn flags_for(mode: Mode) -> &'static [&'static str]
     ensures { map (λ s. s.now) result.now ≡ (names_for mode).flags }
 {
     match mode {
-        Mode::Run => &FLAGS[..1],
+        Mode::Run | Mode::Feed => &FLAGS[..1],
         Mode::Replay => &FLAGS,
     }
 }

@@ -6,9 +6,9 @@ use Rattle.sh_logic.proofs.Lists.{slice_get-push_back}
 use Rattle.sh_base.specs.{Setting.{all_seats}, declared.config.ConfigParts.{ConfigParts}}
 use Rattle.sh_map.specs.{declared.call.Call.TheVariants.{Get, Put, Del, Range}, Calls.{IsKey}}
 use Rattle.sh_sheet.specs.Number.{number_of}
-use Rattle.sh_sheet.specs.Row.{joined, numbers_of, value_in, if_empty, is_key, is_here, is_marked, has_key, has_bounds, has_mark, op_of, deed_of, by_seat, or_cause, tested, item_in, is_heading}
+use Rattle.sh_sheet.specs.Row.{joined, numbers_of, value_in, if_empty, is_key, is_here, is_marked, not_here, seat_in, has_key, has_bounds, has_mark, op_of, deed_of, by_seat, or_cause, tested, item_in, is_heading}
 use Rattle.sh_sheet.specs.{Sheet.{Reading, Items, Refused, marks_in, row_then, rows_from, rows_in, IsLawfulItem, IsLawfulMark, AreMarksLawful}, declared.status.RowCause.{RowCause}}
-use Rattle.sh_sheet.specs.declared.{status.RowCause.TheVariants.{BadOp, TurnNotHere, BadNumber, BadSeat, BadKey, BadBounds, BadMark}, item.{Mode.{Mode}, Item.{Item}}, deed.{Op.{Op}, Deed.{Deed}}}
+use Rattle.sh_sheet.specs.declared.{status.RowCause.TheVariants.{BadOp, BadNumber, BadSeat, BadKey, BadBounds, BadMark}, item.{Mode.{Mode}, Item.{Item}}, deed.{Op.{Op}, Deed.{Deed}}}
 use Rattle.sh_sheet.specs.declared.deed.Deed.TheVariants.{Ask, Mark, After, Turn}
 use Rattle.sh_sheet.specs.declared.deed.Op.TheVariants as op
 
@@ -120,10 +120,10 @@ row_lawful p mode marks (first ∷ second ∷ a ∷ []) item e = cc
 row_lawful p mode marks (first ∷ second ∷ a ∷ b ∷ []) item e =
     let last : Op → ℕ → ℕ → Result Item RowCause = λ o seat n. or_cause (deed_of p.value_words o n b) BadNumber (behind_deed p marks seat) in
     let next : Op → ℕ → Result Item RowCause = λ o seat. or_cause (number_of a) BadNumber (last o seat) in
-    let numbers : Op → Result Item RowCause = λ o. or_cause (number_of second) BadNumber (next o) in
-    let (o, is_op, e1) = given_ok (op_of first) BadOp (λ o. tested (is_here mode o) TurnNotHere (numbers o)) item e in
-    let (here, e2) = tested_ok (is_here mode o) TurnNotHere (numbers o) item e1 in
-    let (seat, is_seat, e3) = given_ok (number_of second) BadNumber (next o) item e2 in
+    let numbers : Op → Result Item RowCause = λ o. or_cause (seat_in mode second) BadNumber (next o) in
+    let (o, is_op, e1) = given_ok (op_of first) BadOp (λ o. tested (is_here mode o) (not_here mode) (numbers o)) item e in
+    let (here, e2) = tested_ok (is_here mode o) (not_here mode) (numbers o) item e1 in
+    let (seat, is_seat, e3) = given_ok (seat_in mode second) BadNumber (next o) item e2 in
     let (n, is_number, e4) = given_ok (number_of a) BadNumber (last o seat) item e3 in
     let (deed, is_deed, e5) = given_ok (deed_of p.value_words o n b) BadNumber (behind_deed p marks seat) item e4 in
     behind_deed_lawful p marks seat deed item (deed_fits p o n b deed is_deed) e5

@@ -4,7 +4,7 @@ use Rattle.std.specs.{List.{list_any, slice_split}, Str.{bytes_eq}}
 use Rattle.sh_base.specs.{declared.config.ConfigParts.{ConfigParts}, Setting.{all_seats}}
 use Rattle.sh_map.specs.declared.call.Call.TheVariants.{Get, Put, Del, Range}
 use Rattle.sh_sheet.specs.{Number.{number_of}, declared.{status.RowCause.{RowCause, TheVariants.{FieldCount, BadOp, TurnNotHere, BadNumber, BadSeat, BadKey, BadBounds, BadMark}}, item.Mode.{Mode}}}
-use Rattle.sh_sheet.specs.declared.{item.{Mode.TheVariants.{Run}, Item.{Item}}, deed.{Op.{Op}, Deed.{Deed, TheVariants.{Ask, Mark, After, Turn}}}}
+use Rattle.sh_sheet.specs.declared.{item.{Mode.TheVariants.{Run, Feed}, Item.{Item}}, deed.{Op.{Op}, Deed.{Deed, TheVariants.{Ask, Mark, After, Turn}}}}
 use Rattle.sh_sheet.specs.declared.item.Item.TheVariants as item
 use Rattle.sh_sheet.specs.declared.deed.Op.TheVariants as op
 
@@ -20,10 +20,23 @@ op_of text =
     else if bytes_eq text (codes "turn") then Some op.Turn
     else None
 
--- turns are for a replay alone
+-- turns are for a replay alone; a feed has neither marks nor afters
 abbrev pub is_here : Mode → Op → Bool
 is_here Run op.Turn = false
+is_here Feed op.Mark = false
+is_here Feed op.After = false
+is_here Feed op.Turn = false
 is_here mode o = true
+
+-- why an operation isn't here: a feed knows no other
+abbrev pub not_here : Mode → RowCause
+not_here Feed = BadOp
+not_here mode = TurnNotHere
+
+-- the seat that a field says, if it says one; a feed's calls have none, and the field is empty
+abbrev pub seat_in : Mode → List ℕ → Option ℕ
+seat_in Feed text = if length text == 0 then Some 0 else None
+seat_in mode text = number_of text
 
 -- the parts of a text between its colons
 abbrev pub colon_parts : List ℕ → List (List ℕ)
@@ -105,8 +118,8 @@ tested holds why next = if holds then next else Err why
 abbrev pub item_in : ConfigParts → Mode → List ℕ → List (List ℕ) → Result Item RowCause
 item_in p mode marks (first ∷ second ∷ a ∷ b ∷ []) =
     or_cause (op_of first) BadOp (λ o.
-    tested (is_here mode o) TurnNotHere (
-    or_cause (number_of second) BadNumber (λ seat.
+    tested (is_here mode o) (not_here mode) (
+    or_cause (seat_in mode second) BadNumber (λ seat.
     or_cause (number_of a) BadNumber (λ n.
     or_cause (deed_of p.value_words o n b) BadNumber (λ deed.
     tested (nat_lt seat (all_seats p)) BadSeat (

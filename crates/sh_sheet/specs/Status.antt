@@ -1,6 +1,6 @@
 -- What a status is, as a number and as a text.
 use Rattle.std.specs.{Prelude.{ℕ, List, [], ◌++◌, codes}, Fmt.{decimal}}
-use Rattle.sh_sheet.specs.declared.status.{RowCause.{RowCause, TheVariants.{FieldCount, BadOp, TurnNotHere, BadNumber, BadSeat, BadKey, BadBounds, BadMark, NotYet}}, Status.{Status}}
+use Rattle.sh_sheet.specs.declared.status.{RowCause.{RowCause, TheVariants.{FieldCount, BadOp, TurnNotHere, BadNumber, BadSeat, BadKey, BadBounds, BadMark}}, Status.{Status}}
 use Rattle.sh_sheet.specs.declared.status.Status.TheVariants as status
 
 -- the code that a program ends with
@@ -25,7 +25,6 @@ cause_text BadSeat = codes "BadSeat"
 cause_text BadKey = codes "BadKey"
 cause_text BadBounds = codes "BadBounds"
 cause_text BadMark = codes "BadMark"
-cause_text NotYet = codes "NotYet"
 
 -- the text of a row that is refused: its number, and the cause's name
 abbrev pub row_text : ℕ → RowCause → List ℕ

@@ -57,6 +57,7 @@ impl Op {
         match mode {
             Mode::Run => !matches!(self, Op::Turn),
             Mode::Replay => true,
+            Mode::Feed => matches!(self, Op::Put | Op::Get | Op::Del | Op::Range),
         }
     }
 }

@@ -6,11 +6,12 @@ use crate::RowCause;
 use sh_map::Call;
 use std::alloc::{AllocError, AllocFailed};
 
-/// What a sheet is read for: a run by threads, or a replay.
+/// What a sheet is read for: a run by threads, a replay, or a feed of calls that are bound to no seat.
 #[derive(Clone, Copy, Debug, PartialEq, Eq)]
 pub enum Mode {
     Run,
     Replay,
+    Feed,
 }
 
 /// What a row asks for.

@@ -1,9 +1,9 @@
 // What sheets say, as laws.
-ghost use Rattle.std.specs.Prelude.{ℕ, List, ◌≡◌, ◌≢◌, ◌∷◌, [], codes, true, false};
-ghost use Rattle.sh_base.specs.{declared.config.ConfigParts.{ConfigParts}, Setting.{default_parts}};
+ghost use Rattle.std.specs.Prelude.{◌≡◌, ◌∷◌, [], codes, true, false};
+ghost use Rattle.sh_base.specs.Setting.{default_parts};
 ghost use Rattle.sh_map.specs.declared.call.Call.TheVariants.{Put, Range};
-ghost use Rattle.sh_sheet.specs.declared.item.{Mode.{Mode, TheVariants.{Replay, Run}}, Item.TheVariants.{After, Ask, Mark, Turn}};
-ghost use Rattle.sh_sheet.specs.{declared.status.RowCause.TheVariants.{BadBounds, BadKey, BadMark, BadNumber, BadOp, BadSeat, FieldCount, NotYet, TurnNotHere}, Sheet.{Items, Refused, sheet_of}};
+ghost use Rattle.sh_sheet.specs.declared.item.{Mode.TheVariants.{Feed, Replay, Run}, Item.TheVariants.{After, Ask, Mark, Turn}};
+ghost use Rattle.sh_sheet.specs.{declared.status.RowCause.TheVariants.{BadBounds, BadKey, BadMark, BadNumber, BadOp, BadSeat, FieldCount, TurnNotHere}, Sheet.{Items, Refused, sheet_of}};
 
 /// What some sheets say in the default setting, of 8 seats and values of one word.
 pub fn known_rows()
@@ -26,10 +26,9 @@ pub fn known_rows()
     ensures all_keys { sheet_of default_parts Run (codes "range,0,1,18446744073709551615") ≡ Items false (Ask 0 (Range 1 18446744073709551615) ∷ []) }
     ensures mark { sheet_of default_parts Run (codes "mark,0,1,\nafter,2,1,\n") ≡ Items false (Mark 0 1 ∷ After 2 1 ∷ []) }
     ensures second_mark { sheet_of default_parts Run (codes "mark,0,1,\nmark,1,1,\n") ≡ Refused 2 BadMark }
+    ensures feed { sheet_of default_parts Feed (codes "op,seat,a,b\nput,,5,50\nrange,,1,8") ≡ Items true (Ask 0 (Put 5 (50 ∷ [])) ∷ Ask 0 (Range 1 8) ∷ []) }
+    ensures feed_seat { sheet_of default_parts Feed (codes "put,0,0,50") ≡ Refused 1 BadNumber }
+    ensures feed_turn { sheet_of default_parts Feed (codes "turn,0,x,") ≡ Refused 1 BadOp }
+    ensures feed_key { sheet_of default_parts Feed (codes "range,,0,8\nrange,,8,7") ≡ Refused 1 BadKey }
     ensures later_mark { sheet_of default_parts Run (codes "after,0,1,\nmark,1,1,\n") ≡ Refused 1 BadMark }
-{}
-
-/// No row is refused as one that isn't served yet: that is for a caller to say.
-pub fn sheet_laws()
-    ensures served { (p : ConfigParts) (mode : Mode) (bytes : List ℕ) (row : ℕ) → sheet_of p mode bytes ≢ Refused row NotYet }
 {}

@@ -16,7 +16,7 @@ mod totals;
 
 pub use gate::{Free, Gate};
 pub use item::{Item, Mode, SheetFault};
-pub use laws::{known_rows, sheet_laws};
+pub use laws::known_rows;
 pub use made::generate;
 pub use number::parse_number;
 pub use records::known_sheets;

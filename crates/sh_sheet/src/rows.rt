@@ -2,7 +2,7 @@
 ghost use Rattle.std.specs.{Prelude.{get_or, ℕ, ◌≡◌, ◌≤◌, ◌∷◌, ◌==◌, [], length, ◌≢◌, Option, None, Some, MatchOption, option_map}, List.{position}};
 ghost use Rattle.csv.specs.Records.{fields_of};
 ghost use Rattle.sh_base.specs.Parts.{parts_of};
-ghost use Rattle.sh_sheet.specs.{Number.{number_of}, Row.{colon_parts, deed_of, is_heading, item_in, value_in}, Sheet.{marks_in}, Reader.{HasMarks}, declared.deed.Deed.TheVariants.{Ask}};
+ghost use Rattle.sh_sheet.specs.{Number.{number_of}, Row.{colon_parts, deed_of, is_heading, item_in, not_here, seat_in, value_in}, Sheet.{marks_in}, Reader.{HasMarks}, declared.deed.Deed.TheVariants.{Ask}};
 ghost use Rattle.sh_sheet.specs.Parts.{parts_behind};
 ghost use Rattle.sh_map.specs.declared.call.Call.TheVariants.{Put, Range};
 
@@ -127,6 +127,27 @@ fn four_fields(row: &ByteRecord) -> Option<Fields<'_>>
     })
 }
 
+// Why an operation isn't here.
+fn not_here(mode: Mode) -> RowCause
+    ensures { result ≡ not_here mode }
+{
+    match mode {
+        Mode::Feed => RowCause::BadOp,
+        Mode::Run | Mode::Replay => RowCause::TurnNotHere,
+    }
+}
+
+// The seat that a field says, if it says one; a feed's field is empty, and stands for seat 0.
+fn seat_of(mode: Mode, text: &[u8]) -> Option<u64>
+    ensures { result ≡ seat_in mode text.now }
+{
+    match mode {
+        Mode::Feed if text.is_empty() => Some(0),
+        Mode::Feed => None,
+        Mode::Run | Mode::Replay => parse_number(text),
+    }
+}
+
 // The item of four fields, or the first test that they fail.
 fn item_of_fields(
     cfg: &Config,
@@ -139,9 +160,9 @@ fn item_of_fields(
 {
     let op = Op::named(fields.op).ok_or(RowCause::BadOp)?;
     if !op.is_here(mode) {
-        return Err(RowCause::TurnNotHere);
+        return Err(not_here(mode));
     }
-    let seat = parse_number(fields.seat).ok_or(RowCause::BadNumber)?;
+    let seat = seat_of(mode, fields.seat).ok_or(RowCause::BadNumber)?;
     let a = parse_number(fields.a).ok_or(RowCause::BadNumber)?;
     let deed = deed_of(cfg.value_words(), op, a, fields.b).ok_or(RowCause::BadNumber)?;
     if seat >= u64::from(cfg.all_seats()) {

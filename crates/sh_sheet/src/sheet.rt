@@ -114,6 +114,9 @@ fn read_rows(alloc: Global, bytes: &[u8], mode: Mode, cfg: &Config) -> Result<Sh
 /// isn't below its low (`BadBounds`); the number of a `mark` is new, and that of an `after` is an earlier mark's
 /// (`BadMark`). A number is 1 to 20 digits with a value below 2^64.
 ///
+/// For a feed the operations are the first four alone (else `BadOp`), and the seat's field is empty (else `BadNumber`); the
+/// seat of its calls is 0 and means nothing.
+///
 /// `TooMany` comes exactly where every row is lawful and there are more than [`MOST_CALLS`](crate::MOST_CALLS) calls,
 /// more than [`MOST_TURNS`](crate::MOST_TURNS) turns, or more than [`MOST_ROWS`](crate::MOST_ROWS) rows in the ranges'
 /// answers, where a range counts as the lesser of `rows` and `high - low`. `NoMemory` is free.

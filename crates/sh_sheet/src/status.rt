@@ -28,8 +28,6 @@ pub enum RowCause {
     BadBounds,
     /// A mark stands twice, or is waited for before it stands.
     BadMark,
-    /// It is a row that this version doesn't take.
-    NotYet,
 }
 
 /// How a run ended.
@@ -70,7 +68,6 @@ impl RowCause {
             RowCause::BadKey => "BadKey",
             RowCause::BadBounds => "BadBounds",
             RowCause::BadMark => "BadMark",
-            RowCause::NotYet => "NotYet",
         }
     }
 }

@@ -48,6 +48,18 @@ const READ: &[u8] = b"0 false|
 2 false|range,0,8,8;range,0,1,18446744073709551615;
 5 false|mark,0,1,;after,1,1,;mark,0,2,;after,0,1,;after,0,2,;";
 
+// Sheets of a feed.
+const FED: &[u8] = b"2 false|put,,5,50;get,,5,
+3 true|op,seat,a,b;del,,5,;range,,8,8;range,,1,18446744073709551615;
+row 1 FieldCount|mark,0,1
+row 1 BadOp|mark,0,x,1;
+row 2 BadOp|get,,5,;after,,1,
+row 1 BadOp|turn,,1,
+row 1 BadNumber|put,0,5,50
+row 1 BadNumber|get, ,0,
+row 1 BadKey|put,,0,50
+row 1 BadBounds|range,,8,7";
+
 fn setting(rows: u32, value_words: u32) -> ConfigParts {
     ConfigParts {
         servers: 2,
@@ -125,6 +137,14 @@ fn sheets_are_refused_and_read(rt: HostRuntime) -> Result<(), Fail> {
     assert_eq!(rt; cases, 38);
     let turn = b"row 1 TurnNotHere|turn,9,x,;";
     assert!(rt; is_said(alloc, setting(256, 1), Mode::Run, turn)?);
+    for case in FED.split(|byte| *byte == b'\n') {
+        assert!(rt;
+            is_said(alloc, setting(256, 1), Mode::Feed, case)?,
+            "{cases}"
+        );
+        cases = cases.saturating_add(1);
+    }
+    assert_eq!(rt; cases, 48);
     Ok(())
 }
 
@@ -180,7 +200,6 @@ fn causes_are_told(rt: HostRuntime) -> Result<(), Fail> {
         (10_000, RowCause::BadKey),
         (99_999, RowCause::BadBounds),
         (1_000_000, RowCause::BadMark),
-        (0, RowCause::NotYet),
         (u64::MAX, RowCause::TurnNotHere),
     ] {
         tell(&mut text, row, cause)?;
@@ -190,7 +209,7 @@ fn causes_are_told(rt: HostRuntime) -> Result<(), Fail> {
         "6 row 1 FieldCount row 1 FieldCount FieldCount;6 row 9 BadOp row 9 BadOp BadOp;\
         6 row 10 BadNumber row 10 BadNumber BadNumber;6 row 100 BadSeat row 100 BadSeat BadSeat;\
         6 row 10000 BadKey row 10000 BadKey BadKey;6 row 99999 BadBounds row 99999 BadBounds BadBounds;\
-        6 row 1000000 BadMark row 1000000 BadMark BadMark;6 row 0 NotYet row 0 NotYet NotYet;\
+        6 row 1000000 BadMark row 1000000 BadMark BadMark;\
         6 row 18446744073709551615 TurnNotHere row 18446744073709551615 TurnNotHere TurnNotHere;"
     );
     Ok(())

@@ -10,6 +10,7 @@ returns c = record {
   zeros = refl;
   seed = refl;
   seed_alone = refl;
+  feed = λ words. refl;
   nothing_made = refl;
   leaf_of_three = refl;
   twice = refl;

@@ -24,5 +24,9 @@ returns c = record {
   all_keys = refl;
   mark = refl;
   second_mark = refl;
+  feed = refl;
+  feed_seat = refl;
+  feed_turn = refl;
+  feed_key = refl;
   later_mark = refl;
 }

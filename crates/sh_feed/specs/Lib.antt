@@ -1,0 +1,5 @@
+pub mod Jobs
+pub mod Views
+pub mod Rule
+pub mod Feeds
+pub mod Lines

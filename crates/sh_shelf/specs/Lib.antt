@@ -1,0 +1,4 @@
+pub mod Shelf
+pub mod Book
+pub mod Racked
+pub mod Held

@@ -7,9 +7,9 @@ use Rattle.sh_base.specs.{declared.config.ConfigParts.{ConfigParts}, Setting.{al
 use Rattle.sh_map.specs.{declared.{call.{Call.{Call}, Reply.{Reply}}, book.Row.{Row}, log.{Change.{Change}, Entry.{Entry}}}, Map.{Map, size}, Log.{changed, map_from}}
 use Rattle.sh_map.specs.declared.log.Change.TheVariants as change
 use Rattle.sh_client.specs.{declared.state.Want.{Want}}
-use Rattle.sh_sheet.specs.{declared.item.Item.{Item, TheVariants.{Ask, Mark, After, Turn}}, Sheet.{IsLawfulItem}}
+use Rattle.sh_sheet.specs.{declared.item.Item.{Item, TheVariants.{Ask, Mark, After, Turn}}, Sheet.{IsLawfulItem, is_call}}
 use Rattle.sh_world.specs.{States.{Given, Place, State, answered}, Turning.{give_at, took, turn_at, turn_of}}
-use Rattle.sh_replay.{specs.{Course.{given_by}, Served.{is_call, item_of}}, proofs.{EndLemmas.{there_is}, ItemLemmas.{given_keeps}}}
+use Rattle.sh_replay.{specs.{Course.{given_by}, Served.{item_of}}, proofs.{EndLemmas.{there_is}, ItemLemmas.{given_keeps}}}
 
 abbrev pub items_of : State → List Item
 items_of s = map item_of s.calls

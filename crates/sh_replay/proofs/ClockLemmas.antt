@@ -1,13 +1,14 @@
 -- The clocks that are made of a sheet's rows, one row after another.
-use Rattle.std.proofs.Common.{rules, ◌≡◌, ◌≢◌, ◌<◌, ◌≤◌, ℕ, zero, suc, ◌+◌, Bool, true, false, List, [], ◌∷◌, ◌++◌, length, set, get_or, Option, Some, None, append-nil, refl, sym, ap, subst, ◌∙◌, inl, inr, arith, replicate, take}
+use Rattle.std.proofs.Common.{rules, ◌≡◌, ◌≢◌, ◌<◌, ◌≤◌, ℕ, ◌+◌, Bool, true, false, List, [], ◌∷◌, ◌++◌, length, set, get_or, Option, Some, None, append-nil, refl, sym, ap, subst, ◌∙◌, inl, inr, arith, replicate, take}
 use Rattle.std.{specs.{Prelude.{◌==◌, if◌then◌else◌, All}, List.{fold, sum_by}, Ordering.{nat_cmp}, BTreeMap.{BTreeMap, Updates}}, proofs.lemmas.{Bool.{cases_eq}, List.{get_or-set_same, get_or-set_other, length-set, length-replicate, get_or-replicate, take_more}}}
-use Rattle.std.proofs.lemmas.List.Sums.{fold_push, sum_by-cons, sum_by_more}
+use Rattle.std.proofs.lemmas.List.Sums.{fold_push, sum_by-cons, sum_by-take-le, sum_by_more}
 use Rattle.std.specs.BTreeMap as tree
 use Rattle.std.proofs.lemmas.Option.{get_or_from_slice_get, slice_get-get_or}
 use Rattle.sh_map.proofs.MapLemmas.{apart_test}
 use Rattle.sh_sheet.specs.{declared.item.Item.{Item, TheVariants.{Ask, Mark, After, Turn}}, Sheet.{item_calls}}
 use Rattle.sh_map.specs.declared.call.Call.{Call}
-use Rattle.sh_replay.specs.{declared.marks.{Clock.{Clock}, AfterRow.{AfterRow}, Found.{Found}}, Marks.{at_place, behind, greater, nothing, stops_from, seat_in, stops_of, Before, Stop}, Clocks.{before, no_clock, Agrees, AgreesAt, AreRows, IsFound}}
+use Rattle.sh_replay.specs.{declared.marks.{Clock.{Clock}, AfterRow.{AfterRow}, Found.{Found}}, Clocks.{before, no_clock, Agrees, AgreesAt, AreRows, IsFound}}
+use Rattle.sh_sheet.specs.{Marks.{at_place, behind, greater, nothing, stops_from, stops_of, Before, Stop}, Sheet.{item_seat}}
 
 -- ---- functions that were changed at one place
 
@@ -113,12 +114,6 @@ few_before items seat of = omega (arith, (all_most items nothing 0 ((λ s o. ome
 
 -- ---- the beginning, and the next item
 
-sum_take : (items : List Item) (i : ℕ) → sum_by item_calls (take i items) ≤ sum_by item_calls items
-sum_take [] zero = omega arith
-sum_take [] (suc i) = omega arith
-sum_take (x ∷ xs) zero = omega arith
-sum_take (x ∷ xs) (suc i) = omega (arith, sum_take xs i, sum_by-cons item_calls x xs, sum_by-cons item_calls x (take i xs))
-
 no_entry : (marks : BTreeMap ℕ Clock) → marks.entries ≡ [] → (n : ℕ) → tree.get nat_cmp marks n ≡ None
 no_entry marks empty n = rw empty refl
 
@@ -135,7 +130,7 @@ found_more items i item other found new below is same so h = search (rules, take
 
 pub few_counted : (items : List Item) (i seat : ℕ) (item : Item) (call : Call) (rows : List AfterRow) (seats : List Clock) (marks : BTreeMap ℕ Clock) → IsFound (take i items) rows seats marks → seat < 64 → i < length items → item ≡ get_or items i item → item ≡ Ask seat call → sum_by item_calls items < 4294967296 → get_or (get_or seats seat no_clock).counts seat 0 < 4294967295
 few_counted items i seat item call rows seats marks h below lt is same few =
-    omega (arith, h.clocks seat below seat below, few_before (take i items) seat seat, sum_by_more item_calls items i item lt, ap item_calls (sym is ∙ same), sum_take items (i + 1), few)
+    omega (arith, h.clocks seat below seat below, few_before (take i items) seat seat, sum_by_more item_calls items i item lt, ap item_calls (sym is ∙ same), sum_by-take-le item_calls items (i + 1), few)
 
-pub in_reach : (items : List Item) (i : ℕ) (item other : Item) → i < length items → item ≡ get_or items i item → item ≡ other → All (λ (x : Item). seat_in x < 64) items → seat_in other < 64
-in_reach items i item other below is same all = omega (arith, all i item below, ap seat_in (sym is ∙ same))
+pub in_reach : (items : List Item) (i : ℕ) (item other : Item) → i < length items → item ≡ get_or items i item → item ≡ other → All (λ (x : Item). item_seat x < 64) items → item_seat other < 64
+in_reach items i item other below is same all = omega (arith, all i item below, ap item_seat (sym is ∙ same))

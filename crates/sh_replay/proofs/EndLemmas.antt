@@ -1,8 +1,9 @@
 -- All seats are idle exactly where every call has ended.
 use Rattle.std.proofs.Common.{rules, ◌≡◌, ◌≤◌, ◌<◌, ℕ, zero, suc, ◌+◌, Bool, true, false, List, [], ◌∷◌, ◌++◌, length, Option, Some, None, refl, sym, ap, ◌∙◌, arith}
-use Rattle.std.{proofs.lemmas.{Bool.{and_parts, eqb-true, Decides.{nat_tests}}, Option.{slice_get_within}}, specs.Prelude.{◌==◌, ◌&&◌, is_some, slice_get}}
+use Rattle.std.{proofs.lemmas.{Bool.{and_parts, eqb-true}, Option.{slice_get_within}}, specs.Prelude.{◌==◌, ◌&&◌, is_some, slice_get}}
 use Rattle.sh_base.specs.{declared.config.ConfigParts.{ConfigParts}, Setting.{all_seats, IsSetting}}
 use Rattle.sh_map.specs.declared.{call.Reply.{Reply}, book.Done.{Done}}
+use Rattle.sh_logic.proofs.Tests.{same_test, true_and}
 use Rattle.sh_client.specs.{Rests.{is_resting}, Wants.{want_in, want_of}}
 use Rattle.sh_core.specs.Actors.{Actor}
 use Rattle.sh_world.specs.{States.{Given, HasActor, Place, State, done_in, dones_by, dones_from}, Turning.{is_done, is_idle, is_idle_at}, Running.{IsPlace, IsRunning, numbers_from}}
@@ -43,10 +44,8 @@ each_ended seat n [] e place g here by = absurd (cc)
 each_ended seat n (f ∷ calls) e zero g here by =
     let is : f ≡ g = cc in
     let b = f.seat == seat in
-    let own : (f.seat == seat) ≡ true = test f.seat seat (ap (λ (x : Given). x.seat) is ∙ by) in
-    ap (λ (x : Given). is_some x.reply) (sym is) ∙ ended_one (is_some f.reply) b own (omega (arith, e, ended_head f seat n (dones_from (n + 1) calls) f.reply b refl, all_head f seat n calls b refl, fewer seat (n + 1) calls)) where
-      test : (x y : ℕ) → x ≡ y → (x == y) ≡ true
-      test x y same = grind (arith, nat_tests)
+    let own : (f.seat == seat) ≡ true = same_test f.seat seat (ap (λ (x : Given). x.seat) is ∙ by) in
+    ap (λ (x : Given). is_some x.reply) (sym is) ∙ ended_one (is_some f.reply) b own (omega (arith, e, ended_head f seat n (dones_from (n + 1) calls) f.reply b refl, all_head f seat n calls b refl, fewer seat (n + 1) calls))
 each_ended seat n (f ∷ calls) e (suc place) g here by =
     let b = f.seat == seat in
     each_ended seat (n + 1) calls (omega (arith, e, ended_head f seat n (dones_from (n + 1) calls) f.reply b refl, all_head f seat n calls b refl, no_more (is_some f.reply) b, fewer seat (n + 1) calls)) place g here by
@@ -61,10 +60,7 @@ as_many seat n (g ∷ calls) e =
 
 pub by_places : (calls : List Given) → ((place : ℕ) (g : Given) → slice_get calls place ≡ Some g → is_some g.reply ≡ true) → have_ended calls ≡ true
 by_places [] each = refl
-by_places (g ∷ calls) each = both (is_some g.reply) (have_ended calls) (each 0 g refl) (by_places calls (λ place f here. each (suc place) f here)) where
-  both : (a b : Bool) → a ≡ true → b ≡ true → (a && b) ≡ true
-  both true b x y = y
-  both false b x y = absurd (cc)
+by_places (g ∷ calls) each = true_and (is_some g.reply) (have_ended calls) (each 0 g refl) (by_places calls (λ place f here. each (suc place) f here))
 
 pub there_is : {X : Type 0} (xs : List X) (i : ℕ) → i < length xs → (x : X) × (slice_get xs i ≡ Some x)
 there_is [] i below = absurd (omega (arith, below))
@@ -76,13 +72,7 @@ module _ (s : State) (h : IsRunning s) where
   idle_place seat q p ended true rests =
       let done : is_done (want_of q.client) ≡ true = ap (λ f. is_done (want_in q.client f)) (p.rests rests) in
       let all : q.ended ≡ length q.numbers = sym p.count ∙ as_many seat 1 s.calls ended ∙ sym (ap length p.numbers) in
-      both (is_done (want_of q.client)) (q.ended == length q.numbers) done (test q.ended (length q.numbers) all) where
-        both : (a b : Bool) → a ≡ true → b ≡ true → (a && b) ≡ true
-        both true b x y = y
-        both false b x y = absurd (cc)
-
-        test : (x y : ℕ) → x ≡ y → (x == y) ≡ true
-        test x y same = grind (arith, nat_tests)
+      true_and (is_done (want_of q.client)) (q.ended == length q.numbers) done (same_test q.ended (length q.numbers) all)
   idle_place seat q p ended false rests =
       let all : q.ended ≡ length q.numbers = sym p.count ∙ as_many seat 1 s.calls ended ∙ sym (ap length p.numbers) in
       absurd (omega (arith, all, slice_get_within q.numbers q.ended q.number (p.busy rests)))

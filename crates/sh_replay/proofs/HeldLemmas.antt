@@ -3,11 +3,11 @@ use Rattle.std.proofs.Common.{rules, ◌≡◌, ◌≢◌, ◌<◌, ◌≤◌, �
 use Rattle.std.{specs.{Prelude.{◌==◌, ◌&&◌, if◌then◌else◌, filter, not, slice_get}, List.{fold, range_with_len}}, proofs.lemmas.Bool.{and_parts, eqb-true, Decides.{nat_tests}}}
 use Rattle.sh_map.specs.declared.{call.{Call.{Call}, Reply.{Reply}}, book.Row.{Row}}
 use Rattle.sh_client.specs.{declared.state.Want.{Want}, Wants.{want_of}}
-use Rattle.sh_sheet.specs.declared.item.Item.{Item, TheVariants.{Ask, Mark, After, Turn}}
+use Rattle.sh_sheet.specs.{declared.item.Item.{Item, TheVariants.{Ask, Mark, After, Turn}}, Marks.{behind, is_passed, nothing, Before}, Sheet.{is_call}}
 use Rattle.sh_world.specs.{States.{Given, Place, State, answered, dones_by, dones_from}, Turning.{answer_of, asked, is_done, is_idle, is_idle_at, took, turn_at, turn_of}, Running.{IsRunning, numbers_from}, Laws.{IdlesRight}, declared.turn.Turn.{Turn as Answer}}
 use Rattle.sh_world.specs.declared.turn.Turn.TheVariants as turn
 use Rattle.sh_world.proofs.{PlaceLemmas.{number_in}}
-use Rattle.sh_replay.specs.{declared.{marks.{Marks.{Marks}}, turns.Outcome.{Outcome}}, Course.{can_turn, ended_of, goes_on, have_ended, is_held_back, takes, Asking, Course, InRound}, Marks.{behind, is_passed, nothing, Before}, Served.{is_call, item_of}, Standing.{left_after, stop_of, IsAsk, IsAt, IsChoice, IsMove, Keeps}, Thinning.{goes_in, AllRest}}
+use Rattle.sh_replay.specs.{declared.{marks.Marks.{Marks}, turns.Outcome.{Outcome}}, Course.{can_turn, ended_of, goes_on, have_ended, is_held_back, takes, Asking, Course, InRound}, Served.{item_of}, Standing.{left_after, stop_of, IsAsk, IsAt, IsChoice, IsMove, Keeps}, Thinning.{goes_in, AllRest}}
 use Rattle.sh_replay.specs.declared.turns.Outcome.TheVariants as outcome
 use Rattle.sh_replay.proofs.{EndLemmas.{all_head, by_places, each_ended, ended_head, fewer, no_more, one, there_is}, StopLemmas.{all_grow, ask_seat, at_own, own, seat_goes_on, rises, within_next, IsWithin}, RoundLemmas.{asked_next, round_idle, round_kept, SoFar}, TurnLemmas.{idle_stays, turn_seats}}
 

@@ -1,6 +1,6 @@
 -- The items of a sheet, one after another.
-use Rattle.std.{proofs.Common.{rules, ◌≡◌, ◌≤◌, ◌<◌, ℕ, zero, suc, ◌+◌, ◌-◌, ◌^◌, List, [], ◌∷◌, ◌++◌, length, take, get_or, refl, sym, ap, subst, ◌∙◌, arith}, specs.Prelude.{All, Option, Some, None}}
-use Rattle.std.{specs.List.{fold, sum_by}, proofs.lemmas.List.{length-append, take_more, Sums.{fold_more, sum_by-cons}}}
+use Rattle.std.{proofs.Common.{rules, ◌≡◌, ◌≤◌, ◌<◌, ℕ, ◌+◌, ◌-◌, ◌^◌, List, [], ◌∷◌, ◌++◌, length, take, get_or, refl, sym, ap, subst, ◌∙◌, arith}, specs.Prelude.{All, Option, Some, None}}
+use Rattle.std.{specs.List.{fold, sum_by}, proofs.lemmas.List.{length-append, take_more, Sums.{fold_more, sum_by-cons, sum_by-take-le}}}
 use Rattle.sh_base.specs.declared.config.ConfigParts.{ConfigParts}
 use Rattle.sh_map.specs.declared.call.Call.{Call}
 use Rattle.sh_sheet.specs.{declared.item.Item.{Item, TheVariants.{Ask, Mark, After, Turn}}, Sheet.{item_calls, IsLawfulItem}}
@@ -45,14 +45,8 @@ pub given_counts : (items : List Item) (s : State) → length (fold given_by s i
 given_counts [] s = omega arith
 given_counts (i ∷ is) s = omega (arith, given_count s i, given_counts is (given_by s i), sum_by-cons item_calls i is)
 
-sum_take : (items : List Item) (i : ℕ) → sum_by item_calls (take i items) ≤ sum_by item_calls items
-sum_take [] zero = omega arith
-sum_take [] (suc i) = omega arith
-sum_take (x ∷ xs) zero = omega arith
-sum_take (x ∷ xs) (suc i) = omega (arith, sum_take xs i, sum_by-cons item_calls x xs, sum_by-cons item_calls x (take i xs))
-
 pub few_given : (first world : State) (items : List Item) (i : ℕ) → world ≡ fold given_by first (take i items) → first.calls ≡ [] → sum_by item_calls items ≤ 1000000 → length world.calls < 2 ^ 32 - 1
-few_given first world items i so none few = omega (arith, ap (λ (t : State). length t.calls) so, given_counts (take i items) first, ap length none, sum_take items i, few)
+few_given first world items i so none few = omega (arith, ap (λ (t : State). length t.calls) so, given_counts (take i items) first, ap length none, sum_by-take-le item_calls items i, few)
 
 -- ---- items that are lawful
 

@@ -11,3 +11,4 @@ pub mod ReplayLemmas
 pub mod ClockLemmas
 pub mod StopLemmas
 pub mod HeldLemmas
+pub mod WaitLemmas

@@ -8,7 +8,8 @@ use Rattle.sh_port.{specs.Port.{AppendsFront}, proofs.Bytes.{appends_none}}
 use Rattle.sh_text.{specs.{Text.{calls_text, row_line}, Counts.{counts_of, no_counts, with_answer, with_part, with_rows}, declared.counts.Counts.{Counts}}, proofs.Fronts.{front_more, part_at}}
 use Rattle.sh_text.specs.declared.points.Points.TheVariants as points
 use Rattle.sh_world.specs.States.{Given, done_in, dones_from, dones_of}
-use Rattle.sh_replay.specs.{Course.{have_ended}, Output.{count_ended, counted, ended_by, lines_from, text_with, total}, Served.{done_item, item_of}}
+use Rattle.sh_replay.specs.{Course.{have_ended}, Output.{count_ended, counted, ended_by, lines_from, text_with, total}, Served.{item_of}}
+use Rattle.sh_sheet.specs.Sheet.{done_item}
 
 -- a front of the first part is one of the whole
 pub front_of_first : (a b : Option (List ℕ)) (first second : List ℕ) → AppendsFront a b first → AppendsFront a b (first ++ second)

@@ -4,12 +4,12 @@ use Rattle.sh_map.specs.declared.book.Row.{Row}
 use Rattle.sh_port.{specs.{Port.{AppendsFront}, Intake.{TookAll}}, proofs.{Bytes.{appends_more}, Fronts.{front_none, some_last}}}
 use Rattle.sh_sheet.specs.{declared.{item.{Item.{Item}, Mode.TheVariants.{Replay}}, status.Status.{Status}}, Sheet.{Items, AreFew, sheet_of}}
 use Rattle.sh_sheet.specs.declared.status.Status.TheVariants as status
-use Rattle.sh_text.specs.{declared.write.WriteError.{WriteError}, Write.{CauseOf}, Text.{end_line, unfinished_line}}
+use Rattle.sh_text.specs.{declared.write.WriteError.{WriteError}, Write.{CauseOf}, Text.{end_line, unfinished_line, end_lines, map_lines, sum_of}}
 use Rattle.sh_text.specs.declared.write.WriteError.TheVariants as error
 use Rattle.sh_options.specs.Order.{Asked}
 use Rattle.sh_world.specs.States.{Given, State}
 use Rattle.sh_replay.specs.{declared.ending.Finish.{Finish}, Course.{have_ended, SeatEvent}, Headline.{ended_with, unwritten, AreItems, HalfWritten, HasNoItems, IsWritten, Replayed, Served, Untouched, Written}}
-use Rattle.sh_replay.specs.{Output.{calls_lines, count_ended, end_lines, event_lines, last_lines, lines_behind, map_lines, sum_of}, Served.{HasServed, HasStopped, HoldsRows}}
+use Rattle.sh_replay.specs.{Output.{calls_lines, count_ended, event_lines, last_lines, lines_behind}, Served.{HasServed, HasStopped, HoldsRows}}
 use Rattle.sh_replay.specs.declared.ending.Finish.TheVariants as finish
 
 -- what was read of the whole input

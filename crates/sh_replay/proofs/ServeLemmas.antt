@@ -4,14 +4,14 @@ use Rattle.std.{specs.{Prelude.{All, IfOk, filter, true}, List.{sum_by}, FinMap.
 use Rattle.std.proofs.lemmas.List.Sums.{sum_by-cons}
 use Rattle.sh_base.specs.{declared.config.ConfigParts.{ConfigParts}, Setting.{all_seats, IsSetting}}
 use Rattle.sh_map.specs.{declared.book.Row.{Row}, Book.{IsClosed}, Log.{map_of}, Map.{Map, row_pair, size}}
-use Rattle.sh_sheet.specs.{declared.item.Item.{Item, TheVariants.{Ask, Mark, After, Turn}}, Sheet.{item_calls, IsLawfulItem}}
+use Rattle.sh_sheet.specs.{declared.item.Item.{Item, TheVariants.{Ask, Mark, After, Turn}}, Sheet.{item_calls, IsLawfulItem, item_seat, is_call}}
 use Rattle.sh_tree.specs.Tree.{IsTree, map_in}
 use Rattle.sh_world.specs.{Laws.{IsLawfulWorld}, Running.{IsRunning}, States.{State, dones_of, fresh_from, fresh_state}, Turning.{is_idle_at, turn_of}}
 use Rattle.sh_replay.specs.declared.ending.Finish.{Finish, TheVariants.{Done, Spent}}
-use Rattle.sh_replay.specs.{Course.{all_asks, begun, budget_of, course, course_from, finished, goes_on, have_ended, row_asks, rounds_asks, Asking, Course, HasFinished}, Marks.{seat_in}, Run.{IsRun}, Standing.{HasEnds}, Stopping.{Stops}}
-use Rattle.sh_replay.specs.{Served.{is_call, item_of, row_of, HasEnded, HasServed, HasStopped, HoldsAll, HoldsRows, IsGiven}, declared.turns.TurnRow.{TurnRow}, TurnRows.{kept_asks, turn_rows}}
+use Rattle.sh_replay.specs.{Course.{all_asks, begun, budget_of, course, course_from, finished, goes_on, have_ended, row_asks, rounds_asks, Asking, Course, HasFinished}, Run.{IsRun}, Standing.{HasEnds}, Stopping.{Stops}}
+use Rattle.sh_replay.specs.{Served.{item_of, row_of, HasEnded, HasServed, HasStopped, HoldsAll, HoldsRows, IsGiven}, declared.turns.TurnRow.{TurnRow}, TurnRows.{kept_asks, turn_rows}}
 use Rattle.sh_replay.proofs.{CallLemmas.{all_given, map_size, turn_same}, EndLemmas.{all_rest, idle_ended}, ItemLemmas.{given_seats, given_setting, kept_are}, RunLemmas.{course_run, given_run}}
-use Rattle.sh_replay.proofs.TurnLemmas.{all_keep, turn_seats, turn_setting}
+use Rattle.sh_replay.proofs.{TurnLemmas.{all_keep, turn_seats, turn_setting}, WaitLemmas.{has_waited, right_course, right_given, IsRight}}
 
 -- what a world's laws give
 abbrev pub IsSound : State → Type 0
@@ -60,7 +60,7 @@ pub asks_are : (items : List Item) (rows : List TurnRow) (n seats budget : ℕ) 
 asks_are items rows n seats budget are same = ap (λ l. kept_asks l ++ rounds_asks budget n) are ∙ ap (λ xs. xs ++ rounds_asks budget n) (kept_are items) ∙ ap (λ k. row_asks items ++ rounds_asks budget k) same
 
 -- the seats of lawful items
-pub all_within : (p : ConfigParts) (items : List Item) → all_seats p ≤ 64 → All (IsLawfulItem p) items → All (λ (i : Item). seat_in i < 64) items
+pub all_within : (p : ConfigParts) (items : List Item) → all_seats p ≤ 64 → All (IsLawfulItem p) items → All (λ (i : Item). item_seat i < 64) items
 all_within p items few all = search rules
 
 -- rows there are, whether memory was there for them or not
@@ -85,6 +85,9 @@ module _ (p : ConfigParts) (items : List Item) (s : State) (g : IsGiven p items 
 
   run_to : (budget : ℕ) (xs : List Asking) → IsRun g.laid (course_from items s budget xs).events (course_from items s budget xs).stage.world.words
   run_to budget xs = subst (λ (x : State). IsRun g.laid (course_from items x budget xs).events (course_from items x budget xs).stage.world.words) (sym g.is) (given_run items items (fresh_state p g.laid) budget xs)
+
+  right_to : IsRunning s → (budget : ℕ) (xs : List Asking) → IsRight items (course_from items s budget xs).stage.world
+  right_to run budget xs = right_course items xs (begun s budget) (subst (IsRight items) (sym g.is) (right_given p g.laid items items (subst IsRunning g.is run)))
 
   module _ (can : All (IsLawfulItem p) items) where
     pub given_all : map item_of s.calls ≡ filter is_call items
@@ -120,8 +123,8 @@ module _ (p : ConfigParts) (items : List Item) (s : State) (g : IsGiven p items 
           by (Done turns) ends = ap (λ (x : State). have_ended x.calls) h.last ∙ ends.0
           by (Spent turns) ends = tt
 
-        pub has_served : (rows : List Row) → length s.calls ≤ 1000000 → IsSound after → HoldsRows after finish rows → HasServed p items after finish (finished s items budget).events rows
-        has_served rows few sound holds =
+        pub has_served : (rows : List Row) → length s.calls ≤ 1000000 → IsRunning s → IsSound after → HoldsRows after finish rows → HasServed p items after finish (finished s items budget).events rows
+        has_served rows few run sound holds =
             let few_calls : length after.calls ≤ 1000000 = omega (arith, calls_same, few) in
             record {
               laid = g.laid;
@@ -134,6 +137,7 @@ module _ (p : ConfigParts) (items : List Item) (s : State) (g : IsGiven p items 
               calls = keeps (λ (x : State). map item_of x.calls) turn_same ∙ given_all;
               lawful = sound.0.book.lawful;
               causes = sound.0.causes;
+              waited = has_waited items after (subst (IsRight items) (sym h.last) (right_to run budget (all_asks items (length s.seats) budget)));
               rows_are = holds;
               few_rows = few_rows after finish rows sound few_calls holds;
               few_calls = few_calls;
@@ -146,8 +150,8 @@ module _ (p : ConfigParts) (items : List Item) (s : State) (g : IsGiven p items 
         pub left_laid : IsSetting p → 0 < length after.seats
         left_laid lawful = omega (arith, left (λ (x : State). length x.seats) turn_seats, given_laid lawful)
 
-        pub has_stopped : IsSound after → HasStopped p items after held now
-        has_stopped sound =
+        pub has_stopped : IsRunning s → IsSound after → HasStopped p items after held now
+        has_stopped run sound =
             let stops = subst (λ (x : State). Stops items (begun x (budget_of (sum_by item_calls items))) (all_asks items (length x.seats) (budget_of (sum_by item_calls items))) after held now) g.is (subst (λ n. Stops items (begun s n) (all_asks items (length s.seats) n) after held now) budget_same st) in
             let before : IsRun g.laid stops.before.events stops.before.stage.world.words = subst (λ (c : Course). IsRun g.laid c.events c.stage.world.words) (sym stops.before_is) (given_run items items (fresh_state p g.laid) (budget_of (sum_by item_calls items)) stops.made) in
             record {
@@ -159,4 +163,5 @@ module _ (p : ConfigParts) (items : List Item) (s : State) (g : IsGiven p items 
               calls = left (λ (x : State). map item_of x.calls) turn_same ∙ given_all;
               lawful = sound.0.book.lawful;
               causes = sound.0.causes;
+              waited = has_waited items after (subst (IsRight items) (sym st.world_is) (right_course items (st.last ∷ []) st.before (subst (λ (c : Course). IsRight items c.stage.world) (sym st.before_is) (right_to run budget st.made))));
             }

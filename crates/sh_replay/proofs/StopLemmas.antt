@@ -1,31 +1,17 @@
 -- Afters that hold a seat back.
-use Rattle.std.proofs.Common.{rules, ◌≡◌, ◌≢◌, ◌⊎◌, ◌<◌, ◌≤◌, ℕ, zero, suc, ◌+◌, Bool, true, false, List, [], ◌∷◌, length, get_or, Some, refl, sym, ap, subst, ◌∙◌, inl, inr, arith}
+use Rattle.std.proofs.Common.{rules, ◌≡◌, ◌⊎◌, ◌<◌, ◌≤◌, ℕ, zero, suc, ◌+◌, Bool, true, false, List, [], ◌∷◌, length, get_or, Some, refl, sym, ap, subst, ◌∙◌, inl, inr, arith}
 use Rattle.std.{specs.{Prelude.{◌==◌, ◌&&◌, ◌||◌, replicate, nat_le, if◌then◌else◌, not, slice_get}, List.{fold, list_all, list_any, range_with_len}}, proofs.lemmas.{Bool.{and_parts, cases_eq, cases_lt, Decides.{nat_tests}}, Option.{slice_get_within, slice_get-get_or, get_or_from_slice_get}, List.{FromFn.{get_or-range_with_len, length-range_with_len}, Folds.{list_all_at, list_any_at, list_any_none}}}}
-use Rattle.sh_logic.proofs.Options.{some_is}
+use Rattle.sh_logic.proofs.{Options.{some_is}, Tests.{above_test, at_most_test, differ_test, same_test, true_and}}
 use Rattle.sh_map.specs.declared.call.Call.{Call}
 use Rattle.sh_sheet.specs.declared.item.Item.{Item, TheVariants.{Ask, Mark, After, Turn}}
-use Rattle.sh_replay.{specs.{declared.marks.{AfterRow.{AfterRow}}, Marks.{at_place, behind, greater, is_held, is_passed, nothing, stops_at, stops_from, stops_of, Before, Stop}, Clocks.{Agrees, AreRows}, Standing.{stop_of, IsStand}}, proofs.ClockLemmas.{at_all, greater_most}}
-
-test : (a b : ℕ) → a ≡ b → (a == b) ≡ true
-test a b e = grind (arith, nat_tests)
-
-differ : (a b : ℕ) → a ≢ b → (a == b) ≡ false
-differ a b ne = grind (arith, nat_tests)
-
-pub at_most : (a b : ℕ) → a ≤ b → nat_le a b ≡ true
-at_most a b e = grind (arith, nat_tests)
-
-pub above : (a b : ℕ) → b < a → nat_le a b ≡ false
-above a b e = grind (arith, nat_tests)
-
-both : (a b : Bool) → a ≡ true → b ≡ true → (a && b) ≡ true
-both a b e t = search rules
+use Rattle.sh_replay.{specs.{declared.marks.AfterRow.{AfterRow}, Clocks.{Agrees, AreRows}, Standing.{stop_of, IsStand}}, proofs.ClockLemmas.{at_all, greater_most}}
+use Rattle.sh_sheet.specs.Marks.{at_place, behind, greater, is_held, is_passed, nothing, stops_at, stops_from, stops_of, Before, Stop}
 
 -- what holds of a changed function at a place, by whether it is the changed one
 at_cases : {A : Type 0} (f : ℕ → A) (p : ℕ) (a : A) (x : ℕ) (P : ℕ → A → Type 0) → P p a → P x (f x) → P x (at_place f p a x)
 at_cases {A} f p a x P here else_ = elim (cases_eq x p) [
-  | inl same ↦ subst (λ (y : ℕ). P y (at_place f p a y)) (sym same) (by_test (p == p) (test p p refl))
-  | inr ne ↦ by_other (x == p) (differ x p ne)
+  | inl same ↦ subst (λ (y : ℕ). P y (at_place f p a y)) (sym same) (by_test (p == p) (same_test p p refl))
+  | inr ne ↦ by_other (x == p) (differ_test x p ne)
 ] where
   by_test : (t : Bool) → t ≡ true → P p (if t then a else f p)
   by_test true e = here
@@ -50,7 +36,7 @@ pub rises : (b : Before) (item : Item) (seat : ℕ) → own b seat ≤ own (behi
 rises b item seat = search (rules, at_rises, greater_least)
 
 pub at_own : {A : Type 0} (f : ℕ → A) (p : ℕ) (a : A) → at_place f p a p ≡ a
-at_own f p a = search (rules, test)
+at_own f p a = search (rules, same_test)
 
 -- a later after has at least as many calls of its seat before it
 low : (b : Before) (items : List Item) (j : ℕ) (y : Stop) → slice_get (stops_from b items) j ≡ Some y → own b y.seat ≤ y.counts y.seat
@@ -90,7 +76,7 @@ pub all_grow : (old new f : ℕ → ℕ) (xs : List ℕ) → ((of : ℕ) → old
 all_grow old new f [] more h = refl
 all_grow old new f (x ∷ xs) more h =
     let parts = and_parts (nat_le (f x) (old x)) (list_all (λ of. nat_le (f of) (old of)) xs) h in
-    both (nat_le (f x) (new x)) _ (wider (f x) (old x) (new x) (more x) parts.0) (all_grow old new f xs more parts.1) where
+    true_and (nat_le (f x) (new x)) _ (wider (f x) (old x) (new x) (more x) parts.0) (all_grow old new f xs more parts.1) where
       wider : (a b c : ℕ) → b ≤ c → nat_le a b ≡ true → nat_le a c ≡ true
       wider a b c le t = grind (arith, nat_tests)
 
@@ -118,11 +104,11 @@ module _ (items : List Item) (ended : ℕ → ℕ) (seats seat : ℕ) (few : sea
   held_here r here same reached open_one =
       sym (rows_any ended seats few seat below rows (stops_of items) are)
       ∙ list_any_at (λ (y : AfterRow). stops_at ended seats seat (stop_of y)) rows at r (slice_get_within rows at r here)
-      (ap (λ (y : AfterRow). stops_at ended seats seat (stop_of y)) (get_or_from_slice_get rows at r r here) ∙ holds_all (r.seat == seat) _ _ (test r.seat seat same) (at_most _ _ reached) open_one)
+      (ap (λ (y : AfterRow). stops_at ended seats seat (stop_of y)) (get_or_from_slice_get rows at r r here) ∙ holds_all (r.seat == seat) _ _ (same_test r.seat seat same) (at_most_test _ _ reached) open_one)
 
   free_of : ((r : AfterRow) → slice_get rows at ≡ Some r → (r.seat ≡ seat) × (ended seat < get_or r.clock.counts seat 0)) → (i : ℕ) (r : AfterRow) → slice_get rows i ≡ Some r → stops_at ended seats seat (stop_of r) ≡ false
   free_of free i r here = elim (cases_eq r.seat seat) [
-    | inr ne ↦ falls (r.seat == seat) _ _ (inl (differ r.seat seat ne))
+    | inr ne ↦ falls (r.seat == seat) _ _ (inl (differ_test r.seat seat ne))
     | inl same ↦ elim (cases_lt i at) [
       | inl before ↦ falls (r.seat == seat) _ _ (inr (inr (past i r before here same)))
       | inr later ↦
@@ -135,7 +121,7 @@ module _ (items : List Item) (ended : ℕ → ℕ) (seats seat : ℕ) (few : sea
           let up = rising nothing items at i x.0 y.0 x.1 y.1 (omega (arith, later)) same_seat in
           let is : x.0.seat ≡ seat = sym x.2 ∙ f.0 in
           let up2 : x.0.counts seat ≤ y.0.counts seat = subst (λ s. x.0.counts s ≤ y.0.counts s) is up in
-          falls (r.seat == seat) _ _ (inr (inl (above (get_or r.clock.counts seat 0) (ended seat) (omega (arith, f.1, x.3 seat below, y.3 seat below, up2)))))
+          falls (r.seat == seat) _ _ (inr (inl (above_test (get_or r.clock.counts seat 0) (ended seat) (omega (arith, f.1, x.3 seat below, y.3 seat below, up2)))))
     ]
   ]
 
@@ -165,7 +151,7 @@ within_next b ended (Turn t count) h few = h
 
 all_below : (ended f : ℕ → ℕ) (xs : List ℕ) → ((of : ℕ) → f of ≤ ended of) → list_all (λ of. nat_le (f of) (ended of)) xs ≡ true
 all_below ended f [] h = refl
-all_below ended f (x ∷ xs) h = both (nat_le (f x) (ended x)) _ (at_most (f x) (ended x) (h x)) (all_below ended f xs h)
+all_below ended f (x ∷ xs) h = true_and (nat_le (f x) (ended x)) _ (at_most_test (f x) (ended x) (h x)) (all_below ended f xs h)
 
 -- Where fewer of a seat's calls have ended than the items have, there is such a seat that isn't held back.
 abbrev pub GoesOn : Before → List Item → (ended : ℕ → ℕ) → (seats : ℕ) → Type 0
@@ -176,7 +162,7 @@ own_later b [] seat = omega arith
 own_later b (i ∷ is) seat = omega (arith, rises b i seat, own_later (behind b i) is seat)
 
 none_reached : (ended : ℕ → ℕ) (seats seat : ℕ) (b : Before) (items : List Item) → ended seat < own b seat → list_any (stops_at ended seats seat) (stops_from b items) ≡ false
-none_reached ended seats seat b items less = search (rules, list_any_none, slice_get-get_or, falls, differ, above, low)
+none_reached ended seats seat b items less = search (rules, list_any_none, slice_get-get_or, falls, differ_test, above_test, low)
 
 pub ask_seat : (t s : ℕ) (call other : Call) → Ask t call ≡ Ask s other → t ≡ s
 ask_seat t s call other e = cc
@@ -206,11 +192,11 @@ seat_goes_on b (After t n ∷ items) ended seats h =
 pub all_snoc : (p : ℕ → Bool) (a n : ℕ) → list_all p (range_with_len a n) ≡ true → p (a + n) ≡ true → list_all p (range_with_len a (n + 1)) ≡ true
 all_snoc p a n h here = let more : n + 1 ≡ suc n = omega arith in ap (λ k. list_all p (range_with_len a k)) more ∙ go a n h here where
   go : (a n : ℕ) → list_all p (range_with_len a n) ≡ true → p (a + n) ≡ true → list_all p (range_with_len a (suc n)) ≡ true
-  go a zero h here = let same : a ≡ a + 0 = omega arith in both (p a) true (ap p same ∙ here) refl
+  go a zero h here = let same : a ≡ a + 0 = omega arith in true_and (p a) true (ap p same ∙ here) refl
   go a (suc n) h here =
       let parts = and_parts (p a) (list_all p (range_with_len (a + 1) n)) h in
       let same : a + 1 + n ≡ a + suc n = omega arith in
-      both (p a) _ parts.0 (go (a + 1) n parts.1 (ap p same ∙ here))
+      true_and (p a) _ parts.0 (go (a + 1) n parts.1 (ap p same ∙ here))
 
 pub all_fails : (p : ℕ → Bool) (n i : ℕ) → i < n → p i ≡ false → list_all p (range_with_len 0 n) ≡ false
 all_fails p n i below fails = list_all_at p (range_with_len 0 n) i 0 (omega (arith, below, length-range_with_len 0 n)) (let same : 0 + i ≡ i = omega arith in ap p (get_or-range_with_len 0 n i 0 below ∙ same) ∙ fails)

@@ -48,7 +48,7 @@ by_test b c t more = search (rules, append-nil)
 pub asks : (items : List Item) (c : Course) (a : Asking) → (goes_on items c a ≡ c) ⊎ (((goes_on items c a).stage ≡ turned c.stage a) × (takes items c.stage a ≡ true))
 asks items c a = by_test (takes items c.stage a) c (turned c.stage a) _
 
-turned_world : (r : Stage) (a : Asking) → (turned r a).world ≡ turn_of r.world (seat_of a)
+pub turned_world : (r : Stage) (a : Asking) → (turned r a).world ≡ turn_of r.world (seat_of a)
 turned_world r a = search rules
 
 -- what a turn leaves, each ask leaves

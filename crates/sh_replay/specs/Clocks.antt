@@ -2,8 +2,8 @@
 use Rattle.std.specs.Prelude.{◌≡◌, ◌<◌, ℕ, List, [], ◌∷◌, get_or, replicate, length, Option, Some, None}
 use Rattle.std.specs.{List.{fold}, Ordering.{nat_cmp}, BTreeMap.{BTreeMap}}
 use Rattle.std.specs.BTreeMap as tree
-use Rattle.sh_sheet.specs.declared.item.Item.{Item}
-use Rattle.sh_replay.specs.{declared.marks.{Clock.{Clock}, AfterRow.{AfterRow}}, Marks.{behind, nothing, stops_of, Before, Stop}}
+use Rattle.sh_sheet.specs.{declared.item.Item.{Item}, Marks.{behind, nothing, stops_of, Before, Stop}}
+use Rattle.sh_replay.specs.declared.marks.{Clock.{Clock}, AfterRow.{AfterRow}}
 
 -- the clock counts what comes before
 abbrev pub Agrees : Clock → (ℕ → ℕ) → Type 0

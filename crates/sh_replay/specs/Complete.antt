@@ -1,12 +1,9 @@
 -- A replay that meets nothing in its way.
-use Rattle.std.specs.Prelude.{ℕ, Bool, ◌≡◌, ◌≢◌, ◌<◌, ◌⊎◌, ◌-◌, ◌^◌, List, length, Option, Some, None}
+use Rattle.std.specs.Prelude.{ℕ, Bool, ◌≡◌, ◌<◌, ◌⊎◌, List, length, Option, Some, None}
 use Rattle.sh_sheet.specs.{declared.{item.{Item.{Item}, Mode.TheVariants.{Replay}}, status.Status.{Status}}, Sheet.{Items, AreFew, sheet_of}, Generate.{made_items}}
 use Rattle.sh_sheet.specs.declared.status.Status.TheVariants as status
+use Rattle.sh_port.specs.Port.{HasNoFault}
 use Rattle.sh_options.specs.Order.{Asked}
-
--- a count of faults that stays, below its last value
-abbrev pub HasNoFault : ℕ → ℕ → Type 0
-HasNoFault before now = (now ≡ before) × (now ≢ 2 ^ 64 - 1)
 
 -- The source's bytes are told and not too many, these are the items of its rows, and it didn't fail.
 pub record InputIsFree (o : Asked) (left : Option (List ℕ)) (before now : ℕ) (items : List Item) : Type 0 where
@@ -40,9 +37,3 @@ EndsWell budget status.Ok = Unit {0}
 EndsWell budget status.NoMemory = Unit {0}
 EndsWell budget (status.Unfinished turns) = turns ≡ budget
 EndsWell budget s = ⊥
-
--- it wasn't a fault of the source or the sink
-abbrev pub IsNoFault : Status → Type 0
-IsNoFault status.ReadFault = ⊥
-IsNoFault status.WriteFault = ⊥
-IsNoFault s = Unit {0}

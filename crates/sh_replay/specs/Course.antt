@@ -2,10 +2,10 @@
 -- turns and then in rounds of all seats.
 use Rattle.std.specs.{Prelude.{◌≡◌, ℕ, zero, suc, ◌+◌, ◌-◌, ◌*◌, ◌==◌, ◌++◌, if◌then◌else◌, ◌&&◌, not, Bool, true, false, is_some, List, [], ◌∷◌, length, map, slice_get}, List.{flat_map, fold, list_all, range_with_len, sum_by}}
 use Rattle.sh_base.specs.declared.{config.ConfigParts.{ConfigParts}, event.Event.{Event}}
-use Rattle.sh_sheet.specs.{declared.item.Item.{Item, TheVariants.{Ask, Mark, After, Turn}}, Sheet.{item_calls}}
+use Rattle.sh_sheet.specs.{declared.item.Item.{Item, TheVariants.{Ask, Mark, After, Turn}}, Sheet.{item_calls}, Marks.{is_held}}
 use Rattle.sh_world.specs.{States.{Given, State, dones_by, dones_of, fresh_state}, Turning.{answer_of, give_of, is_idle_at, turn_of}, declared.turn.Turn.{Turn as Answer}}
 use Rattle.sh_world.specs.declared.turn.Turn.TheVariants as turn
-use Rattle.sh_replay.specs.{declared.ending.Finish.{Finish, TheVariants.{Done, Spent}}, Marks.{is_held}}
+use Rattle.sh_replay.specs.declared.ending.Finish.{Finish, TheVariants.{Done, Spent}}
 
 -- a call is given to its seat
 abbrev pub given_by : State → Item → State

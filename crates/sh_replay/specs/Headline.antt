@@ -3,11 +3,11 @@ use Rattle.std.specs.{Prelude.{ℕ, ◌≡◌, ◌≢◌, ◌<◌, ◌⊎◌, �
 use Rattle.sh_base.specs.declared.config.ConfigParts.{ConfigParts}
 use Rattle.sh_map.specs.declared.book.Row.{Row}
 use Rattle.sh_sheet.specs.declared.{item.{Item.{Item}, Mode.TheVariants.{Replay}}, status.Status.{Status}}
-use Rattle.sh_sheet.specs.{Sheet.{Reading, Items, Refused, AreFew, IsTooMany, most_rows, rows_of, sheet_of}, Generate.{made_items}}
+use Rattle.sh_sheet.specs.{Sheet.{Reading, Items, Refused, AreFew, IsTooMany, most_rows, rows_of, sheet_of}, Generate.{made_items}, Status.{IsUsage}}
 use Rattle.sh_sheet.specs.declared.status.Status.TheVariants as status
 use Rattle.sh_text.specs.{declared.write.WriteError.{WriteError}, Write.{CauseOf}}
 use Rattle.sh_text.specs.declared.write.WriteError.TheVariants as error
-use Rattle.sh_port.specs.{Port.{HasRisen, AppendsFront}, Intake.{TookAll, TookSome, TookMost}}
+use Rattle.sh_port.specs.{Port.{HasRisen, AppendsFront, Unread}, Intake.{TookAll, TookSome, TookMost}}
 use Rattle.sh_options.specs.Order.{Asked}
 use Rattle.sh_world.specs.States.{State}
 use Rattle.sh_replay.specs.{declared.ending.Finish.{Finish, TheVariants.{Done as AllDone, Spent}}, Course.{SeatEvent}, Output.{event_lines, lines_behind, text_of}, Served.{HasServed, HasStopped, HoldsRows}}
@@ -27,11 +27,6 @@ pub record AreRead (o : Asked) (left rest : Option (List ℕ)) (before now : ℕ
   pub make : o.make ≡ None
   pub headed : Bool
   pub read : Read o.parts left rest before now (Items headed items)
-
--- Nothing was read.
-pub record Unread (left rest : Option (List ℕ)) (before now : ℕ) : Type 0 where
-  pub left_is : rest ≡ left
-  pub count : now ≡ before
 
 -- The items are calls that are made from the order's seed, and nothing was read.
 pub record AreMade (o : Asked) (left rest : Option (List ℕ)) (before now : ℕ) (items : List Item) : Type 0 where
@@ -148,12 +143,6 @@ pub record IsWritten (o : Asked) (s : State) (finish : Finish) (held after : Opt
   pub rows : List Row
   pub holds : HoldsRows s finish rows
   pub ends : (Appends held after (lines_behind o s.calls rows) × (fallen ≡ fell) × (status ≡ ended_with finish)) ⊎ ((e : WriteError) × AppendsFront held after (lines_behind o s.calls rows) × CauseOf fell fallen e × (status ≡ unwritten e))
-
--- the words are refused, or memory is wanting
-abbrev pub IsUsage : Status → Type 0
-IsUsage status.Usage = Unit {0}
-IsUsage status.NoMemory = Unit {0}
-IsUsage s = ⊥
 
 -- Where the words give no order, nothing was read or written; where they do, the replay of that order.
 abbrev pub Headline : (asked : Option Asked) → (old new : State) → (left rest : Option (List ℕ)) → (before now : ℕ) → (held after : Option (List ℕ)) → (fell fallen : ℕ) → Status → Type 0

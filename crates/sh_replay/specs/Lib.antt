@@ -1,4 +1,3 @@
-pub mod Marks
 pub mod Course
 pub mod Run
 pub mod Output
@@ -7,6 +6,7 @@ pub mod Clocks
 pub mod TurnRows
 pub mod Standing
 pub mod Thinning
+pub mod Waiting
 pub mod Served
 pub mod Headline
 pub mod Complete

@@ -1,8 +1,8 @@
 -- The output of a replay: the lines of the events and of each call, and the last lines.
-use Rattle.std.specs.{Prelude.{ℕ, ◌+◌, Bool, List, [], ◌∷◌, ◌++◌, length, sum, Option, Some, None, is_some, if◌then◌else◌}, List.{flat_map, sum_by}}
+use Rattle.std.specs.{Prelude.{ℕ, ◌+◌, Bool, List, [], ◌∷◌, ◌++◌, length, Option, Some, None, is_some, if◌then◌else◌}, List.{flat_map, sum_by}}
 use Rattle.sh_map.specs.declared.{book.Row.{Row}, call.{Call.{Call}, Reply.{Reply}}}
 use Rattle.sh_text.specs.declared.points.Points.TheVariants as points
-use Rattle.sh_text.specs.{Text.{call_text, end_line, event_line, made_line, map_line, pending_line, unfinished_line}, Counts.{counts_line, counts_of, with_answer}, declared.counts.Counts.{Counts}}
+use Rattle.sh_text.specs.{Text.{call_text, end_lines, event_line, made_line, pending_line, unfinished_line}, Counts.{counts_line, counts_of, with_answer}, declared.counts.Counts.{Counts}}
 use Rattle.sh_options.specs.Order.{Asked}
 use Rattle.sh_world.specs.States.{Given, dones_of}
 use Rattle.sh_replay.specs.Course.{have_ended, SeatEvent}
@@ -23,19 +23,6 @@ ended_by g = if is_some g.reply then 1 else 0
 
 abbrev pub count_ended : List Given → ℕ
 count_ended calls = sum_by ended_by calls
-
--- the sum of all words of all values
-abbrev pub sum_of : List Row → ℕ
-sum_of rows = sum_by (λ r. sum r.value) rows
-
--- a line for each key, where the map is asked for
-abbrev pub map_lines : (asked : Bool) → List Row → List ℕ
-map_lines asked rows = if asked then flat_map map_line rows else []
-
--- the lines behind the calls' lines, where every call has ended: the map, the numbers of calls and keys, and the sum of
--- all words of the keys' values
-abbrev pub end_lines : (asked : Bool) → (calls : ℕ) → List Row → List ℕ
-end_lines asked calls rows = map_lines asked rows ++ end_line calls (length rows) (sum_of rows)
 
 abbrev pub last_lines : (asked : Bool) → List Given → List Row → List ℕ
 last_lines asked calls rows = if have_ended calls then end_lines asked (length calls) rows else unfinished_line (length calls) (count_ended calls)

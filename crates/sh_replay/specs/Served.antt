@@ -1,12 +1,12 @@
 -- What is left of a sheet that was served.
-use Rattle.std.specs.{Prelude.{◌≡◌, ◌≤◌, ℕ, Bool, true, false, List, [], map, filter, length, All, Option}, FinMap.{entries}, List.{fold, sum_by}}
+use Rattle.std.specs.{Prelude.{◌≡◌, ◌≤◌, ℕ, true, List, [], map, filter, length, All, Option}, FinMap.{entries}, List.{fold, sum_by}}
 use Rattle.sh_base.specs.declared.config.ConfigParts.{ConfigParts}
-use Rattle.sh_map.specs.{declared.book.{Done.{Done}, Row.{Row}}, Book.{IsClosed, IsLawful}, Log.{map_of}}
-use Rattle.sh_sheet.specs.{declared.item.Item.{Item, TheVariants.{Ask, Mark, After, Turn}}, Sheet.{item_calls, AreFew, IsLawfulItem}}
+use Rattle.sh_map.specs.{declared.book.{Row.{Row}}, Book.{IsClosed, IsLawful}, Log.{map_of}}
+use Rattle.sh_sheet.specs.{declared.item.Item.{Item, TheVariants.{Ask}}, Sheet.{is_call, item_calls, AreFew, IsLawfulItem}}
 use Rattle.sh_tree.specs.Tree.{IsTree, map_in}
 use Rattle.sh_image.specs.Laid.{AreLaid}
 use Rattle.sh_world.specs.{Laws.{RefusalsHaveCauses}, States.{Given, State, dones_of, fresh_state}}
-use Rattle.sh_replay.specs.{declared.{ending.Finish.{Finish}, turns.Plan.{Plan}}, Course.{all_asks, begun, budget_of, course, given, given_by, goes_on, have_ended, HasFinished, SeatEvent}, Run.{IsRun}, Standing.{IsPlan}, Stopping.{Stops}}
+use Rattle.sh_replay.specs.{declared.{ending.Finish.{Finish}, turns.Plan.{Plan}}, Course.{all_asks, begun, budget_of, course, given, given_by, goes_on, have_ended, HasFinished, SeatEvent}, Run.{IsRun}, Standing.{IsPlan}, Stopping.{Stops}, Waiting.{HasWaited}}
 use Rattle.sh_replay.specs.declared.ending.Finish.TheVariants as finish
 
 -- the row of a key and its value
@@ -35,17 +35,6 @@ HasEnded s (finish.Spent turns) = Unit {0}
 abbrev pub item_of : Given → Item
 item_of g = Ask g.seat g.call
 
--- the same of a finished call
-abbrev pub done_item : Done → Item
-done_item d = Ask d.seat d.call
-
--- an item is a call
-abbrev pub is_call : Item → Bool
-is_call (Ask seat call) = true
-is_call (Mark seat n) = false
-is_call (After seat n) = false
-is_call (Turn seat count) = false
-
 -- The world was laid, and then given the items' calls.
 pub record IsGiven (p : ConfigParts) (items : List Item) (s : State) : Type 0 where
   pub laid : List ℕ
@@ -63,7 +52,8 @@ pub record IsReady (p : ConfigParts) (s : State) (plan : Plan) : Type 0 where
 -- The world is the last one of the items' course, over laid words, and its rounds ended so. These are the course's events,
 -- a run from the laid words to the world's. Its calls are the items'.
 -- The log and the ended calls are a lawful book, so each seat has at most one entry whose call hasn't ended; a put was
--- full, an update worn and a range ended early by their causes. Where every call has ended the book is closed, and the
+-- full, an update worn and a range ended early by their causes. A call behind an after begins no earlier in the log than the
+-- calls before it were answered. Where every call has ended the book is closed, and the
 -- words hold the log's map, whose rows these are.
 pub record HasServed (p : ConfigParts) (items : List Item) (s : State) (end : Finish) (events : List SeatEvent) (rows : List Row) : Type 0 where
   pub laid : List ℕ
@@ -76,13 +66,14 @@ pub record HasServed (p : ConfigParts) (items : List Item) (s : State) (end : Fi
   pub calls : map item_of s.calls ≡ filter is_call items
   pub lawful : IsLawful s.log (dones_of s.calls)
   pub causes : RefusalsHaveCauses s
+  pub waited : HasWaited items s
   pub rows_are : HoldsRows s end rows
   pub few_rows : length rows ≤ 4294967296
   pub few_calls : length s.calls ≤ 1000000
 
 -- Of the asks of the items' course, over laid words, the first ones were made, up to one with an event: the world is the one
 -- right behind that turn, and the events so far are a run from the laid words to the world's. Of that event's line a front
--- was written, behind those of the events before it. The log and the ended calls are a lawful book.
+-- was written, behind those of the events before it. The log and the ended calls are a lawful book, and calls behind afters have waited.
 pub record HasStopped (p : ConfigParts) (items : List Item) (s : State) (held after : Option (List ℕ)) : Type 0 where
   pub laid : List ℕ
   pub are_laid : AreLaid p laid
@@ -92,3 +83,4 @@ pub record HasStopped (p : ConfigParts) (items : List Item) (s : State) (held af
   pub calls : map item_of s.calls ≡ filter is_call items
   pub lawful : IsLawful s.log (dones_of s.calls)
   pub causes : RefusalsHaveCauses s
+  pub waited : HasWaited items s

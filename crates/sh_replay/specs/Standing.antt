@@ -1,9 +1,9 @@
 -- Where seats stand among the afters of a sheet, as a replay keeps it.
 use Rattle.std.specs.{Prelude.{◌≡◌, ◌≢◌, ◌<◌, ◌≤◌, ◌-◌, ℕ, Bool, true, false, List, length, get_or, slice_get, Option, Some, Result, MatchResult}, Io.KnownBytes.{Appends}}
-use Rattle.sh_sheet.specs.declared.item.Item.{Item}
+use Rattle.sh_sheet.specs.{declared.item.Item.{Item}, Marks.{is_passed, stops_of, Stop}}
 use Rattle.sh_world.specs.{States.{State}, Turning.{is_idle_at, turn_of}}
 use Rattle.sh_text.specs.{declared.write.WriteError.{WriteError}, Write.{CauseOf}}
-use Rattle.sh_replay.specs.{declared.{ending.Finish.{Finish}, marks.{AfterRow.{AfterRow}, Marks.{Marks}}, turns.{Outcome.{Outcome}, Plan.{Plan}}}, Clocks.{AreRows}, Course.{can_turn, ended_of, Asking, ByRow, Course, HasFinished, InRound}, Output.{event_lines}, TurnRows.{turn_rows}, Marks.{is_passed, stops_of, Stop}}
+use Rattle.sh_replay.specs.{declared.{ending.Finish.{Finish}, marks.{AfterRow.{AfterRow}, Marks.{Marks}}, turns.{Outcome.{Outcome}, Plan.{Plan}}}, Clocks.{AreRows}, Course.{can_turn, ended_of, Asking, ByRow, Course, HasFinished, InRound}, Output.{event_lines}, TurnRows.{turn_rows}}
 use Rattle.sh_replay.specs.declared.turns.Outcome.TheVariants as outcome
 
 abbrev pub stop_of : AfterRow → Stop

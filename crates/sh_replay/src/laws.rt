@@ -1,10 +1,10 @@
 // What the headline means for a caller.
 ghost use Rattle.std.specs.{Prelude.{◌≡◌, ℕ, true, List, Option, map}, List.{sum_by}};
-ghost use Rattle.sh_sheet.specs.{declared.status.Status.{Status}, Sheet.{item_calls}};
+ghost use Rattle.sh_sheet.specs.{declared.status.Status.{Status}, Sheet.{item_calls, done_item}, Status.{IsNoFault}};
 ghost use Rattle.sh_text.specs.Text.{calls_text};
 ghost use Rattle.sh_text.specs.declared.points.Points.TheVariants as points;
 ghost use Rattle.sh_world.specs.States.{Given, dones_of, State, IsBlank};
-ghost use Rattle.sh_replay.specs.{Output.{lines_from}, Served.{done_item, item_of}, Course.{budget_of, have_ended}, Headline.{Headline}, Complete.{IsFree, EndsWell, IsNoFault}};
+ghost use Rattle.sh_replay.specs.{Output.{lines_from}, Served.{item_of}, Course.{budget_of, have_ended}, Headline.{Headline}, Complete.{IsFree, EndsWell}};
 ghost use Rattle.sh_options.specs.Order.{Asked, order_of};
 ghost use Rattle.sh_sheet.specs.declared.item.Mode.TheVariants.{Replay};
 

@@ -1,8 +1,8 @@
 // The marks and afters of a sheet, as clocks.
 ghost use Rattle.std.specs.{Prelude.{◌≡◌, ◌<◌, ◌≤◌, ◌+◌, ◌++◌, ◌∷◌, [], ℕ, List, All, IfOk, OnOk, length, get_or, nat_le}, List.{list_all, range_with_len, sum_by}};
 ghost use Rattle.sh_map.specs.declared.call.Call.{Call};
-ghost use Rattle.sh_sheet.specs.{declared.item.Item.{Item, TheVariants.{Ask, Mark, After}}, Sheet.{item_calls}};
-ghost use Rattle.sh_replay.specs.{Course.{ended_of, is_held_back}, Marks.{at_place, greater, seat_in, stops_of}, Clocks.{before, no_clock, AreRows, IsFound}, Standing.{IsStand, Keeps}};
+ghost use Rattle.sh_sheet.specs.{declared.item.Item.{Item, TheVariants.{Ask, Mark, After}}, Sheet.{item_calls, item_seat}, Marks.{at_place, greater, stops_of}};
+ghost use Rattle.sh_replay.specs.{Course.{ended_of, is_held_back}, Clocks.{before, no_clock, AreRows, IsFound}, Standing.{IsStand, Keeps}};
 ghost use Rattle.sh_world.specs.States.{State};
 
 use sh_sheet::Item;
@@ -107,7 +107,7 @@ impl Found {
 
 // The afters among these items, each with what comes before the calls behind it.
 fn afters_in(alloc: Global, items: &[Item]) -> Result<Vec<AfterRow>, AllocError>
-    requires seats { All (λ (i : Item). seat_in i < 64) items.now }
+    requires seats { All (λ (i : Item). item_seat i < 64) items.now }
     requires few { sum_by item_calls items.now < 4294967296 }
     ensures { IfOk result (λ v. AreRows v.items (stops_of items.now)) }
 {
@@ -158,7 +158,7 @@ fn has_passed(world: &World, clock: &Clock) -> bool
 impl Marks {
     /// The afters among these items, of which no seat has passed one.
     pub(crate) fn of(alloc: Global, items: &[Item]) -> Result<Marks, AllocError>
-        requires seats { All (λ (i : Item). seat_in i < 64) items.now }
+        requires seats { All (λ (i : Item). item_seat i < 64) items.now }
         requires few { sum_by item_calls items.now < 4294967296 }
         ensures { IfOk result (λ m. (s : State) → Keeps items.now s m) }
     {

@@ -3,18 +3,17 @@ ghost use Rattle.std.specs.Prelude.{Some, ◌≡◌, ◌<◌, ◌≤◌, ◌*◌
 ghost use Rattle.std.specs.{List.{flat_map, sum_by}, Io.KnownBytes.{Appends}};
 ghost use Rattle.sh_port.specs.Port.{AppendsFront};
 ghost use Rattle.sh_options.specs.Order.{asked_of};
-ghost use Rattle.sh_text.specs.{Counts.{counts_of}, Text.{row_line}, Write.{HasWriteCause}};
+ghost use Rattle.sh_text.specs.{Counts.{counts_of}, Text.{row_line, end_lines, map_lines, sum_of}, Write.{HasWriteCause}};
 ghost use Rattle.sh_world.specs.States.{dones_of, rows_at, with_rows};
-ghost use Rattle.sh_replay.specs.Output.{calls_lines, count_ended, counted, end_lines, last_lines, lines_from, map_lines, sum_of, lines_behind, text_with, total};
+ghost use Rattle.sh_replay.specs.Output.{calls_lines, count_ended, counted, last_lines, lines_from, lines_behind, text_with, total};
 
 use crate::turns::have_ended;
-use sh_base::Value;
 use sh_map::Row;
 use sh_options::Order;
 use sh_port::Sink;
 use sh_text::{
-    Counts, Finished, Points, WriteError, add_answer, write_counts, write_end, write_finished,
-    write_made, write_map, write_pending, write_row, write_unfinished,
+    Counts, Finished, Points, WriteError, add_answer, write_counts, write_end_lines,
+    write_finished, write_made, write_pending, write_row, write_unfinished,
 };
 use sh_world::{Calls, GivenCall};
 use std::alloc::Global;
@@ -86,68 +85,6 @@ fn write_given_calls<K: Sink>(alloc: Global, sink: &mut K, calls: &Calls) -> Res
         }
     }
     Ok(())
-}
-
-// The sum of a value's words.
-fn sum_of_value(value: &Value) -> u128
-    ensures sum { result ≡ sum value.now }
-    ensures small { result ≤ 8 * 2 ^ 64 }
-{
-    let words = value.words();
-    let mut total = 0;
-    for index in 0..value.len() {
-        total += u128::from(words[index]);
-    }
-    total
-}
-
-// The sum of all words of the rows' values. Condition: there are at most 2^32 rows.
-fn sum_of(rows: &[Row]) -> u128
-    requires { length rows.now ≤ 4294967296 }
-    ensures { result ≡ sum_of rows.now }
-{
-    let mut total = 0;
-    for row in rows {
-        total += sum_of_value(&row.value);
-    }
-    total
-}
-
-// Writes the map, where it is asked for.
-fn write_map_lines<K: Sink>(
-    alloc: Global,
-    sink: &mut K,
-    asked: bool,
-    rows: &[Row],
-) -> Result<(), WriteError>
-    ensures ok { OnOk result (Appends (K.held sink.old) (K.held sink.new) (map_lines asked rows.now)) }
-    ensures err { OnErr result (AppendsFront (K.held sink.old) (K.held sink.new) (map_lines asked rows.now)) }
-    ensures cause { HasWriteCause (K.faults sink.old) (K.faults sink.new) result }
-{
-    if asked {
-        write_map(alloc, sink, rows)
-    } else {
-        Ok(())
-    }
-}
-
-// Writes the lines behind the calls' lines where every call has ended.
-fn write_end_lines<K: Sink>(
-    alloc: Global,
-    sink: &mut K,
-    asked: bool,
-    calls: u64,
-    rows: &[Row],
-) -> Result<(), WriteError>
-    requires { length rows.now ≤ 4294967296 }
-    ensures ok { OnOk result (Appends (K.held sink.old) (K.held sink.new) (end_lines asked calls rows.now)) }
-    ensures err { OnErr result (AppendsFront (K.held sink.old) (K.held sink.new) (end_lines asked calls rows.now)) }
-    ensures cause { HasWriteCause (K.faults sink.old) (K.faults sink.new) result }
-{
-    match write_map_lines(alloc, sink, asked, rows) {
-        Ok(()) => write_end(alloc, sink, calls, rows.len() as u64, sum_of(rows)),
-        Err(error) => Err(error),
-    }
 }
 
 // Whether a call has ended, as a number.

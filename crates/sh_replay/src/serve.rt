@@ -1,10 +1,10 @@
 // A sheet is served by a world.
 ghost use Rattle.std.specs.{Prelude.{◌≡◌, ◌≤◌, ◌<◌, ℕ, [], List, Option, All, IfOk, OnOk, length, map, filter}, List.{fold, sum_by}};
 ghost use Rattle.sh_base.specs.{Parts.{parts_of}, Setting.{all_seats}};
-ghost use Rattle.sh_sheet.specs.Sheet.{item_calls, AreFew, IsLawfulItem};
+ghost use Rattle.sh_sheet.specs.Sheet.{item_calls, AreFew, IsLawfulItem, is_call};
 ghost use Rattle.sh_options.specs.Order.{asked_of};
 ghost use Rattle.sh_world.specs.States.{State};
-ghost use Rattle.sh_replay.specs.{Course.{budget_of, given_by}, Headline.{ended_with, unwritten, AreItems, IsWritten, Replayed}, Served.{is_call, item_of, HasEnded, HoldsRows, IsGiven, IsReady}, Standing.{IsPlan}};
+ghost use Rattle.sh_replay.specs.{Course.{budget_of, given_by}, Headline.{ended_with, unwritten, AreItems, IsWritten, Replayed}, Served.{item_of, HasEnded, HoldsRows, IsGiven, IsReady}, Standing.{IsPlan}};
 
 use crate::Finish;
 use crate::output::write_lines;
@@ -128,6 +128,7 @@ pub(crate) fn serve<K: Sink, T: Tells>(
     requires told { order.now.events ≡ T.TOLD }
     ensures { (items : List Item) (blank : State) (left rest : Option (List ℕ)) (before now : ℕ) → IsPlan items plan → IsGiven (parts_of order.now.cfg) items world.old → All (IsLawfulItem (parts_of order.now.cfg)) items → AreItems (asked_of order.now) left rest before now items → AreFew (parts_of order.now.cfg) items → Replayed (asked_of order.now) blank world.new left rest before now (K.held sink.old) (K.held sink.new) (K.faults sink.old) (K.faults sink.new) result }
 {
+    world.keeps_the_laws();
     let budget = budget_of(world.calls().len());
     match make_turns::<K, T>(alloc, sink, world, plan, budget) {
         Ok(finish) => {

@@ -2,9 +2,9 @@
 ghost use Rattle.std.specs.{Prelude.{◌≡◌, ◌≢◌, ◌≤◌, ◌<◌, ◌+◌, ℕ, [], ◌∷◌, List, Option, All, IfOk, OnOk, OnErr, length, map, take, filter, slice_get, true}, List.{fold, range_with_len, sum_by}, Io.KnownBytes.{Appends}};
 ghost use Rattle.sh_port.specs.Port.{AppendsFront};
 ghost use Rattle.sh_text.specs.Write.{HasWriteCause};
-ghost use Rattle.sh_sheet.specs.{declared.item.Item.{Item}, Sheet.{item_calls, IsLawfulItem}};
+ghost use Rattle.sh_sheet.specs.{declared.item.Item.{Item}, Sheet.{item_calls, IsLawfulItem, item_seat, is_call}};
 ghost use Rattle.sh_world.specs.declared.turn.Turn.TheVariants as turn;
-ghost use Rattle.sh_replay.specs.{Course.{all_asks, begun, finished, found_in, goes_on, have_ended, rounds_asks, turn_asks, Asking, Course, HasFinished, InRound}, Marks.{seat_in}, Output.{event_lines, line_of}, Served.{is_call, item_of}};
+ghost use Rattle.sh_replay.specs.{Course.{all_asks, begun, finished, found_in, goes_on, have_ended, rounds_asks, turn_asks, Asking, Course, HasFinished, InRound}, Output.{event_lines, line_of}, Served.{item_of}};
 ghost use Rattle.sh_replay.specs.{Standing.{left_after, HasCause, HasEnds, IsAsk, IsAt, IsChoice, IsMove, IsPlan, Keeps}, Stopping.{Stops}, Thinning.{goes_in, AllRest, IsThinned}, TurnRows.{kept_asks, turn_rows}};
 
 use crate::Finish;
@@ -312,7 +312,7 @@ pub(crate) struct Plan {
 impl Plan {
     // The plan of a sheet, which is let go.
     pub(crate) fn of(alloc: Global, sheet: Sheet) -> Result<Plan, AllocError>
-        requires seats { All (λ (i : Item). seat_in i < 64) sheet.items }
+        requires seats { All (λ (i : Item). item_seat i < 64) sheet.items }
         requires few { sum_by item_calls sheet.items < 4294967296 }
         ensures { IfOk result (λ p. IsPlan sheet.items p) }
     {

@@ -3,15 +3,15 @@
 use Rattle.std.proofs.Common.{rules, ◌≡◌, ◌≢◌, ℕ, ◌-◌, ◌<◌, inr, Bool, true, false, List, [], length, set, Option, Some, None, refl, sym, ap, ◌∙◌, subst, arith, ◌≤◌, ◌++◌, get_or, take}
 use Rattle.std.{proofs.lemmas.{List.{append-nil, length-set, set-set, take_at}, Option.{slice_get_within, slice_get_read}}, specs.Prelude.{◌==◌, if◌then◌else◌, slice_get, IfSome}}
 use Rattle.sh_logic.proofs.{Tests.{less_test}, Lists.{set_same, set_here}, Options.{some_is}}
-use Rattle.sh_base.specs.{Layout.{compute_of}, Memory.{apply, found_by}, Setting.{all_locks, node_size}, declared.{config.ConfigParts.{ConfigParts}, event.Event.{Event}}}
+use Rattle.sh_base.{proofs.PlanLemmas.{lock_below}, specs.{Layout.{compute_of, lock_of}, Memory.{apply, found_by}, Setting.{all_locks, node_size}, declared.{config.ConfigParts.{ConfigParts}, event.Event.{Event}}}}
 use Rattle.sh_map.specs.{Calls.{IsInRange}, declared.log.Entry.{Entry}}
 use Rattle.sh_alloc.specs.{declared.state.ChunkWant.{ChunkWant}, Chunks.{WantsEvent}}
 use Rattle.sh_read.specs.Reads.{Reads, wanted}
-use Rattle.sh_state.specs.TreeState.{TreeState}
-use Rattle.sh_decide.specs.declared.state.Posting.{Posting}
+use Rattle.sh_state.specs.TreeState.{Linked, TreeState}
+use Rattle.sh_decide.specs.{declared.state.Posting.{Posting}, Aims.{target}}
 use Rattle.sh_client.{proofs.{BeginLemmas.{has_begun}, CachedLemmas.{fed_keeps}, InLineLemmas.{count_stands, draw_stands, look_stands}, Wanting.{stand_ended}}, specs.Feeds.{fed_by, fed_in, turned_by}}
 use Rattle.sh_client.specs.{Giving.{counted, made_in, makes, released}, InLine.{stand_in, MayHand, Stand, stand_of, IsIn}, Machine.{Machine}, Rests.{has_ended, is_resting, rests}}
-use Rattle.sh_client.specs.{Wants.{count_of, load_of, want_in, want_of, IsWithin}, declared.state.{Phase.{Phase}, Then.{Then}, Want.{Want}}}
+use Rattle.sh_client.specs.{Wants.{count_of, load_of, want_in, want_of, IsWithin}, declared.state.{Phase.{Phase, TheVariants.{Draw, Leave, Look, Waiting}}, Then.{Then}, Want.{Want}}}
 use Rattle.sh_client.specs.declared.state.Write.{Write}
 use Rattle.sh_core.specs.{Actors.{Actor, actor_begun}, Fits.{Fits}, Keeps.{KeepsActor}}
 use Rattle.sh_core_turns.proofs.Calls.{begin_keeps}
@@ -122,6 +122,21 @@ module _ (s : State) (run : IsRunning s) (i : ℕ) (q : Place) (at : slice_get s
 pub runs : (s : State) (room : ℕ) (kept : ConfigParts) → IsWorld s room kept → s.seats ≢ [] → IsRunning s × (length s.calls < room) × (kept ≡ s.setting)
 runs s room kept h3 some = search (rules, h)
 
+-- a call on a line is wanted of the lock of a linked node, or of one in whose line the client stands
+load_calls : (o : Option ℕ) (lock : ℕ) → wanted_lock (load_of o) ≢ Some lock
+load_calls o lock e = search rules
+
+count_calls : (w : ChunkWant) (lock : ℕ) → wanted_lock (count_of w) ≢ Some lock
+count_calls w lock e = search rules
+
+lock_real : (p : ConfigParts) (s : TreeState) (i f q e lock : ℕ) (m : Machine) (duty : Option Posting) (ph : Phase) → m.setting ≡ p → Fits p s i f q e m.registers duty ph → ((n level low : ℕ) → s.class n ≡ Linked level low → lock_of p n < all_locks p)
+    → (IsIn lock (stand_in m.setting m.registers ph) → lock < all_locks p) → wanted_lock (want_in m ph) ≡ Some lock → lock < all_locks p
+lock_real p s i f q e lock m duty (Draw aim n) is h linked stands wants = subst (λ l. l < all_locks p) (ap (λ (x : ConfigParts). lock_of x n) (sym is) ∙ some_is wants) (linked n (target aim) h.there.low h.there.linked)
+lock_real p s i f q e lock m duty (Look aim n) is h linked stands wants = stands (some_is wants)
+lock_real p s i f q e lock m duty (Waiting depth giving) is h linked stands wants = stands (some_is wants)
+lock_real p s i f q e lock m duty (Leave n carry after) is h linked stands wants = stands (some_is wants)
+lock_real p s i f q e lock m duty ph is h linked stands wants = search (rules, load_calls, count_calls)
+
 module _ (s : State) (run : IsRunning s) (i : ℕ) (q : Place) (at : slice_get s.seats i ≡ Some q) where
   -- the seat that was asked
   abbrev R : Place
@@ -146,25 +161,31 @@ module _ (s : State) (run : IsRunning s) (i : ℕ) (q : Place) (at : slice_get s
   again : (words : List ℕ) (log : List Entry) (x : Place) (calls : List Given) (lines : List Line) → IsRunning (record { setting = s.setting; words = words; log = log; seats = set (set s.seats i R) i x; calls = calls; lines = lines }) → IsRunning (record { setting = s.setting; words = words; log = log; seats = set s.seats i x; calls = calls; lines = lines })
   again words log x calls lines h = subst (λ (xs : List Place). IsRunning (record { setting = s.setting; words = words; log = log; seats = xs; calls = calls; lines = lines })) (set-set s.seats i R x) h
 
-  took_runs : (w : Want) → want_of R.client ≡ w → IsWithin s.setting w → IsRunning (took s i R w)
-  took_runs want.Done e within = run1
-  took_runs (want.Event x) e within = again (apply s.words x) (s.log ++ makes R.client) (place_after R s.log (makes R.client) (fed_by R.client (found_by s.words x))) (calls_after s.calls R s.log (fed_by R.client (found_by s.words x))) s.lines (event_runs S1 run1 i R at1 x e)
-  took_runs (want.Draw lock) e within = again s.words (s.log ++ []) (place_after (record R { ticket = (line_of s i lock).next }) s.log [] (fed_by R.client (line_of s i lock).next)) (calls_after s.calls (record R { ticket = (line_of s i lock).next }) s.log (fed_by R.client (line_of s i lock).next)) (set s.lines (line_at s.setting lock (compute_of s.setting i)) (drawn (line_of s i lock))) (draw_runs S1 run1 i R at1 lock within e)
-  took_runs (want.Look lock) e within = again s.words (s.log ++ []) (place_after R s.log [] (looked_client R (line_of s i lock))) (calls_after s.calls R s.log (looked_client R (line_of s i lock))) (set s.lines (line_at s.setting lock (compute_of s.setting i)) (looked_line R (line_of s i lock))) (look_runs S1 run1 i R at1 lock within e)
-  took_runs (want.Waiting lock) e within = again s.words (s.log ++ []) _ _ (set s.lines (line_at s.setting lock (compute_of s.setting i)) (line_of s i lock)) (count_runs S1 run1 i R at1 lock within e)
-  took_runs (want.Leave lock carry) e within = again s.words (s.log ++ []) (place_after R s.log [] (fed_by R.client 0)) (calls_after s.calls R s.log (fed_by R.client 0)) (set s.lines (line_at s.setting lock (compute_of s.setting i)) (left_line (line_of s i lock) carry)) (leave_runs S1 run1 i R at1 lock within carry e)
+  wanted_real : (lock : ℕ) → wanted_lock (want_of R.client) ≡ Some lock → lock < all_locks s.setting
+  wanted_real lock wants =
+      let k = run1.inv.kept i (actor_of s.calls i R) (record { place = R; here = at1; actor_is = refl }) in
+      lock_real s.setting run1.inv.scene i R.first R.point R.seen lock R.client k.work.duty R.client.phase k.work.seated.setting_is k.work.fits
+      (λ n level low linked. lock_below s.setting n run.setting (run1.inv.ground.sits n level low linked).real) (run1.lines.within i R lock at1) wants
+
+  took_runs : (w : Want) → want_of R.client ≡ w → IsRunning (took s i R w)
+  took_runs want.Done e = run1
+  took_runs (want.Event x) e = again (apply s.words x) (s.log ++ makes R.client) (place_after R s.log (makes R.client) (fed_by R.client (found_by s.words x))) (calls_after s.calls R s.log (fed_by R.client (found_by s.words x))) s.lines (event_runs S1 run1 i R at1 x e)
+  took_runs (want.Draw lock) e = again s.words (s.log ++ []) (place_after (record R { ticket = (line_of s i lock).next }) s.log [] (fed_by R.client (line_of s i lock).next)) (calls_after s.calls (record R { ticket = (line_of s i lock).next }) s.log (fed_by R.client (line_of s i lock).next)) (set s.lines (line_at s.setting lock (compute_of s.setting i)) (drawn (line_of s i lock))) (draw_runs S1 run1 i R at1 lock (wanted_real lock (ap wanted_lock e)) e)
+  took_runs (want.Look lock) e = again s.words (s.log ++ []) (place_after R s.log [] (looked_client R (line_of s i lock))) (calls_after s.calls R s.log (looked_client R (line_of s i lock))) (set s.lines (line_at s.setting lock (compute_of s.setting i)) (looked_line R (line_of s i lock))) (look_runs S1 run1 i R at1 lock (wanted_real lock (ap wanted_lock e)) e)
+  took_runs (want.Waiting lock) e = again s.words (s.log ++ []) _ _ (set s.lines (line_at s.setting lock (compute_of s.setting i)) (line_of s i lock)) (count_runs S1 run1 i R at1 lock (wanted_real lock (ap wanted_lock e)) e)
+  took_runs (want.Leave lock carry) e = again s.words (s.log ++ []) (place_after R s.log [] (fed_by R.client 0)) (calls_after s.calls R s.log (fed_by R.client 0)) (set s.lines (line_at s.setting lock (compute_of s.setting i)) (left_line (line_of s i lock) carry)) (leave_runs S1 run1 i R at1 lock (wanted_real lock (ap wanted_lock e)) carry e)
 
   -- a turn keeps all that holds of a world
-  pub turn_runs : IsWithin s.setting (want_of R.client) → IsRunning (turn_of s i)
-  turn_runs within = subst IsRunning (sym (turn_is (want_of R.client) refl)) (took_runs (want_of R.client) refl within)
+  pub turn_runs : IsRunning (turn_of s i)
+  turn_runs = subst IsRunning (sym (turn_is (want_of R.client) refl)) (took_runs (want_of R.client) refl)
 
   -- as many calls, in the same setting
   took_long : (w : Want) (lock : Option ℕ) → (length (took_in s i R w lock).calls ≡ length s.calls) × ((took_in s i R w lock).setting ≡ s.setting)
   took_long w lock = search (rules, calls_long)
 
   -- a world of the same parts is one, with as much room
-  pub world_is : (w : Want) → want_of R.client ≡ w → IsWithin s.setting w → (t : State) (room new : ℕ) (kept : ConfigParts) → t ≡ took s i R w → length s.calls < room → new ≡ room → kept ≡ s.setting → IsWorld t new kept
-  world_is w e within t room new kept is lt same kept_is = subst (λ (x : State). IsWorld x new kept) (sym is) (let l = took_long w (wanted_lock w) in inr (took_runs w e within, omega (arith, l.0, lt, same), kept_is ∙ sym l.1))
+  pub world_is : (w : Want) → want_of R.client ≡ w → (t : State) (room new : ℕ) (kept : ConfigParts) → t ≡ took s i R w → length s.calls < room → new ≡ room → kept ≡ s.setting → IsWorld t new kept
+  world_is w e t room new kept is lt same kept_is = subst (λ (x : State). IsWorld x new kept) (sym is) (let l = took_long w (wanted_lock w) in inr (took_runs w e, omega (arith, l.0, lt, same), kept_is ∙ sym l.1))
 
 -- ---- from what a turn's parts do to the turn
 
@@ -234,7 +255,7 @@ module _ (s : State) (i room : ℕ) (kept : ConfigParts) (r : Place) (w : Want) 
   turned t u words x e ws is told = record { world = value_is t u e is; answer = told_is u words x e ws told }
 
   pub kept_is : (t : State) (new : ℕ) (now : ConfigParts) → t ≡ took s i (asked s.calls a.place (length s.log)) w → new ≡ room → now ≡ kept → IsWorld t new now
-  kept_is t new now is same now_is = world_is s a.run i a.place a.here w a.want_is a.within t room new now is a.room_is same (now_is ∙ a.kept_for)
+  kept_is t new now is same now_is = world_is s a.run i a.place a.here w a.want_is t room new now is a.room_is same (now_is ∙ a.kept_for)
 
 -- a call that ends where its client was fed can end
 fed_can : (s : State) (i room : ℕ) (kept : ConfigParts) (r : Place) (w : Want) (cs : List Given) (lg : List Entry) (word : ℕ) (a : IsAsked s i room kept r w) → cs ≡ s.calls → lg ≡ s.log

@@ -1,6 +1,7 @@
 use Rattle.std.proofs.Common.{take, subst}
 use Rattle.std.{proofs.lemmas.List.{take_all}}
-use Rattle.sh_replay.{specs.{Clocks.{AreRows}, Marks.{stops_of}}, proofs.{ClockLemmas.{few_counted, found_more, found_none, found_turn, in_reach}, marks.afters_in.Goals.{in-Ask, in-Mark+in_ok-mark-in-Mark, in-After+in_ok-after-in-After, in-Turn}}}
+use Rattle.sh_replay.{specs.Clocks.{AreRows}, proofs.{ClockLemmas.{few_counted, found_more, found_none, found_turn, in_reach}, marks.afters_in.Goals.{in-Ask, in-Mark+in_ok-mark-in-Mark, in-After+in_ok-after-in-After, in-Turn}}}
+use Rattle.sh_sheet.specs.Marks.{stops_of}
 use Rattle.sh_replay.proofs.marks.afters_in.Goals as goal
 
 pub loop-item-init : goal.loop-item-init

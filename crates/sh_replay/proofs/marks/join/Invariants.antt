@@ -1,5 +1,5 @@
 use Rattle.std.proofs.Common.{◌≡◌, ◌<◌, ◌≤◌, ℕ, get_or}
-use Rattle.sh_replay.specs.Marks.{greater}
+use Rattle.sh_sheet.specs.Marks.{greater}
 use Rattle.sh_replay.proofs.marks.join.Given as goal
 
 abbrev pub invariant-loop-seat : goal.invariant-loop-seat

@@ -12,7 +12,10 @@ pub make_turns-requires : goal.make_turns-requires
 make_turns-requires g c = let r = c.requires.ready in record { laid = given_laid (parts_of c.args.order.now.cfg) r.items c.args.world.now r.given_is c.args.order.now.cfg.lawful }
 
 pub keeps_the_laws-requires : goal.keeps_the_laws-requires
-keeps_the_laws-requires g c =
+keeps_the_laws-requires g c = let r = c.requires.ready in given_laid (parts_of c.args.order.now.cfg) r.items c.args.world.now r.given_is c.args.order.now.cfg.lawful
+
+pub keeps_the_laws-requires-in-Ok : goal.keeps_the_laws-requires-in-Ok
+keeps_the_laws-requires-in-Ok g c =
     let r = c.requires.ready in
     let p = parts_of c.args.order.now.cfg in
     after_laid p r.items c.args.world.now r.given_is r.can c.budget_of-budget.result (c.budget_of-budget.ensures ∙ ap budget_of (c.len.ensures ∙ ap length c.calls.ensures)) c.make_turns.new.world (g.K.Sink.held c.args.sink.now) (g.K.Sink.held c.make_turns.new.sink) g.T.Tells.TOLD c.in-Ok.finish (c.in-Ok.ensures.ok r.items r.plan_is (given_all p r.items c.args.world.now r.given_is r.can)) c.args.order.now.cfg.lawful
@@ -43,7 +46,7 @@ returns-in-Ok g c items blank left rest before now plan given can are few =
     let few_calls : length c.args.world.now.calls ≤ 1000000 = omega (arith, given_count p items c.args.world.now given can, few.calls) in
     ended o blank c.make_turns.new.world left rest before now (g.K.Sink.held c.args.sink.now) (g.K.Sink.held c.write_behind.new.sink) (g.K.Sink.faults c.args.sink.now) (g.K.Sink.faults c.write_behind.new.sink) items are few c.in-Ok.finish (finished c.args.world.now items c.budget_of-budget.result).events (g.K.Sink.held c.make_turns.new.sink)
     (subst (λ t. Appends (g.K.Sink.held c.args.sink.now) (g.K.Sink.held c.make_turns.new.sink) (event_lines t (finished c.args.world.now items c.budget_of-budget.result).events)) (sym c.requires.told) over.lines)
-    (λ rows holds. has_served p items c.args.world.now given can c.budget_of-budget.result (c.budget_of-budget.ensures ∙ ap budget_of (c.len.ensures ∙ ap length c.calls.ensures)) c.make_turns.new.world (g.K.Sink.held c.args.sink.now) (g.K.Sink.held c.make_turns.new.sink) g.T.Tells.TOLD c.in-Ok.finish over rows few_calls (c.keeps_the_laws.ensures.lawful, c.keeps_the_laws.ensures.running) holds)
+    (λ rows holds. has_served p items c.args.world.now given can c.budget_of-budget.result (c.budget_of-budget.ensures ∙ ap budget_of (c.len.ensures ∙ ap length c.calls.ensures)) c.make_turns.new.world (g.K.Sink.held c.args.sink.now) (g.K.Sink.held c.make_turns.new.sink) g.T.Tells.TOLD c.in-Ok.finish over rows few_calls c.keeps_the_laws.ensures.running (c.keeps_the_laws-in-Ok.ensures.lawful, c.keeps_the_laws-in-Ok.ensures.running) holds)
     c.write_behind.result
     (subst (λ n. IsWritten o c.make_turns.new.world c.in-Ok.finish (g.K.Sink.held c.make_turns.new.sink) (g.K.Sink.held c.write_behind.new.sink) n (g.K.Sink.faults c.write_behind.new.sink) c.write_behind.result) c.in-Ok.ensures.cause c.write_behind.ensures)
 
@@ -52,4 +55,4 @@ returns-in-Err g c items blank left rest before now plan given can are few =
     let p = parts_of c.args.order.now.cfg in
     let o = asked_of c.args.order.now in
     rw c.unwritten.ensures (stopped_at o blank c.make_turns.new.world left rest before now (g.K.Sink.held c.args.sink.now) (g.K.Sink.held c.make_turns.new.sink) (g.K.Sink.faults c.args.sink.now) (g.K.Sink.faults c.make_turns.new.sink) items are few c.in-Err.error (c.requires.told ∙ c.in-Err.ensures.told)
-    (has_stopped p items c.args.world.now given can c.budget_of-budget.result (c.budget_of-budget.ensures ∙ ap budget_of (c.len.ensures ∙ ap length c.calls.ensures)) c.make_turns.new.world (g.K.Sink.held c.args.sink.now) (g.K.Sink.held c.make_turns.new.sink) (c.in-Err.ensures.err items plan) (c.keeps_the_laws-in-Err.ensures.lawful, c.keeps_the_laws-in-Err.ensures.running)) c.in-Err.ensures.cause)
+    (has_stopped p items c.args.world.now given can c.budget_of-budget.result (c.budget_of-budget.ensures ∙ ap budget_of (c.len.ensures ∙ ap length c.calls.ensures)) c.make_turns.new.world (g.K.Sink.held c.args.sink.now) (g.K.Sink.held c.make_turns.new.sink) (c.in-Err.ensures.err items plan) c.keeps_the_laws.ensures.running (c.keeps_the_laws-in-Err.ensures.lawful, c.keeps_the_laws-in-Err.ensures.running)) c.in-Err.ensures.cause)

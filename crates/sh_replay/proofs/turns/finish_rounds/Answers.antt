@@ -1,6 +1,7 @@
 use Rattle.std.{proofs.Common.{◌≡◌, length, map, sym, ap, ◌∙◌, arith}, specs.{Prelude.{filter}}}
 use Rattle.sh_world.specs.States.{State}
-use Rattle.sh_replay.{specs.{Course.{have_ended, rounds_asks, Stage}, Served.{is_call, item_of}}, proofs.{CallLemmas.{turn_same}, HeldLemmas.{none_left}, TurnLemmas.{all_keep}}}
+use Rattle.sh_replay.{specs.{Course.{have_ended, rounds_asks, Stage}, Served.{item_of}}, proofs.{CallLemmas.{turn_same}, HeldLemmas.{none_left}, TurnLemmas.{all_keep}}}
+use Rattle.sh_sheet.specs.Sheet.{is_call}
 use Rattle.sh_replay.proofs.turns.finish_rounds.Goals as goal
 
 pub keeps_the_laws-requires : goal.keeps_the_laws-requires

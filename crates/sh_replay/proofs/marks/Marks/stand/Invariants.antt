@@ -1,6 +1,7 @@
 use Rattle.std.proofs.Common.{◌≡◌, ◌≤◌, ◌<◌, ℕ, true, length, get_or, Some}
 use Rattle.std.specs.Prelude.{slice_get}
-use Rattle.sh_replay.specs.{declared.marks.AfterRow.{AfterRow}, Course.{ended_of}, Marks.{is_passed}, Standing.{stop_of}}
+use Rattle.sh_replay.specs.{declared.marks.AfterRow.{AfterRow}, Course.{ended_of}, Standing.{stop_of}}
+use Rattle.sh_sheet.specs.Marks.{is_passed}
 use Rattle.sh_replay.proofs.marks.Marks.stand.Given as goal
 
 abbrev pub invariant-loop-at : goal.invariant-loop-at

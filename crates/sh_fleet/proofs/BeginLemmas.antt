@@ -3,15 +3,16 @@ use Rattle.std.proofs.Common.{◌≡◌, ◌<◌, ◌+◌, ℕ, zero, suc, List,
 use Rattle.std.{specs.{Prelude.{filter, slice_get}}}
 use Rattle.atomic_table.specs.Seated.{TableId}
 use Rattle.sh_base.specs.{declared.config.ConfigParts.{ConfigParts}, Setting.{all_seats}}
-use Rattle.sh_sheet.specs.{declared.item.Item.{Item}}
+use Rattle.sh_sheet.specs.{declared.item.Item.{Item}, Sheet.{done_item, is_call}}
 use Rattle.sh_local.specs.Chairs.{CellTable}
 use Rattle.sh_pool_rule.specs.Views.{view_seat}
 use Rattle.sh_pool.specs.{Passes.{pass_actor, PoolTable, Standing}, Pools.{fresh_passes, AreLaidFor, AreReady, HasChairs, IsReady}, declared.right.Knower.{Knower}}
-use Rattle.sh_fleet.specs.{declared.{sharing.Share.{Share}, work.{Place.{Place}, Work.{Work}}}, Sharing.{answers_in, done_item, is_call, items_of, rows_told, told_of, AreShares, AreUnused, AreWorks, HasRoom, IsBegun, IsShare, IsWork}}
+use Rattle.sh_fleet.specs.{declared.{sharing.Share.{Share}, work.{Place.{Place}, Work.{Work}}}, Sharing.{AreOrdered, answers_in, items_of, rows_told, told_of, AreShares, AreUnused, AreWorks, HasRoom, IsBegun, IsShare, IsWork}}
+use Rattle.sh_fleet.proofs.HeardLemmas.{heard_none}
 
 fresh_unused : (p : ConfigParts) (laid : Option PoolTable) (z : TableId) (s : ConfigParts) (r : CellTable Knower) (k n : ℕ) → AreReady p laid (fresh_passes z s r k n) → AreUnused p laid k (fresh_passes z s r k n)
 fresh_unused p laid z s r k zero h = tt
-fresh_unused p laid z s r k (suc n) h = (h.0, refl, refl, fresh_unused p laid z s r (suc k) n h.1)
+fresh_unused p laid z s r k (suc n) h = (h.0, refl, refl, refl, fresh_unused p laid z s r (suc k) n h.1)
 
 with_chairs : (p : ConfigParts) (laid : Option PoolTable) (t : PoolTable) (qs : List Standing) (cells : Option (CellTable Knower)) → HasChairs cells (λ (r : CellTable Knower). qs ≡ fresh_passes t.table t.setting r 0 (all_seats t.setting)) → AreReady p laid qs → AreUnused p laid 0 qs
 with_chairs p laid t qs None h ready = absurd h
@@ -22,14 +23,16 @@ pub laid_unused : (p : ConfigParts) (laid : Option PoolTable) (qs : List Standin
 laid_unused p None qs h ready = absurd h
 laid_unused p (Some t) qs h ready = with_chairs p (Some t) t qs t.cells h.1 ready
 
-begun : (p : ConfigParts) (laid : Option PoolTable) (items : List Item) (seat : ℕ) (q : Standing) (s : Share) (w : Work) → IsReady p laid q → view_seat q.view ≡ seat → (pass_actor q).dones ≡ [] → IsShare p items items seat s → IsBegun q s w → IsWork p laid items seat w
-begun p laid items seat q s w ready own none share h =
+begun : (p : ConfigParts) (laid : Option PoolTable) (items : List Item) (seat : ℕ) (q : Standing) (s : Share) (w : Work) → IsReady p laid q → view_seat q.view ≡ seat → (pass_actor q).dones ≡ [] → q.view.cards ≡ [] → IsShare p items items seat s → IsBegun q s w → IsWork p laid items seat w
+begun p laid items seat q s w ready own none no_cards share h =
     let mine = items_of seat items in
     record {
       ready = subst (IsReady p laid) (sym h.pass) ready;
       seat_is = ap (λ (x : Standing). view_seat x.view) h.pass ∙ own;
       places = ap (map (λ (x : Place). slice_get items x.at)) h.places ∙ share.places;
+      order = subst (λ (ps : List Place). AreOrdered items seat mine ps) (sym h.places) share.order;
       next = omega (arith, h.next);
+      heard = heard_none items seat w.next w.pass h.next (ap (λ (x : Standing). x.view.cards) h.pass ∙ no_cards);
       calls = ap (λ (x : Standing). map done_item (pass_actor x).dones) h.pass ∙ (ap (map done_item) none ∙ sym (ap (λ (n : ℕ). filter is_call (take n mine)) h.next));
       told = ap (λ (x : Standing). map told_of (pass_actor x).dones) h.pass ∙ (ap (map told_of) none ∙ sym (ap₂ answers_in h.replies h.rows));
       counted = ap rows_told h.replies ∙ sym (ap length h.rows);
@@ -55,7 +58,7 @@ pub begun_more : (p : ConfigParts) (laid : Option PoolTable) (items : List Item)
 begun_more p laid items i q qs ss s ws w count lt unused shares is h new =
     let share : IsShare p items items i s = subst (λ (x : Share). IsShare p items items i x) (sym is) (share_first p items ss i i s lt shares) in
     let at : i ≡ 0 + length ws = omega (arith, count) in
-    works_more p laid items 0 ws w h (subst (λ (j : ℕ). IsWork p laid items j w) at (begun p laid items i q s w unused.0 unused.1 unused.2 share new))
+    works_more p laid items 0 ws w h (subst (λ (j : ℕ). IsWork p laid items j w) at (begun p laid items i q s w unused.0 unused.1 unused.2 unused.3 share new))
 
 fresh_long : (z : TableId) (s : ConfigParts) (r : CellTable Knower) (k n : ℕ) → length (fresh_passes z s r k n) ≡ n
 fresh_long z s r k zero = refl
@@ -73,4 +76,4 @@ laid_long p (Some t) qs h = long_with t qs t.cells h.1 ∙ ap all_seats h.0
 pub unused_left : (p : ConfigParts) (laid : Option PoolTable) (items : List Item) (i n : ℕ) (q : Standing) (qs : List Standing) (ss : List Share) (t : Share) → n ≡ i + 1 → i < length ss → AreUnused p laid i (q ∷ qs) → AreShares p items items i (drop i ss) → AreUnused p laid n qs × AreShares p items items n (drop n (slice_set ss i t))
 unused_left p laid items i n q qs ss t is lt unused shares =
     let next : suc i ≡ n = omega (arith, is) in
-    (subst (λ (k : ℕ). AreUnused p laid k qs) next unused.3, subst (λ (k : ℕ). AreShares p items items k (drop k (slice_set ss i t))) next (shares_left p items ss i i t lt shares))
+    (subst (λ (k : ℕ). AreUnused p laid k qs) next unused.4, subst (λ (k : ℕ). AreShares p items items k (drop k (slice_set ss i t))) next (shares_left p items ss i i t lt shares))

@@ -6,3 +6,6 @@ pub mod TopLemmas
 pub mod TaskLemmas
 pub mod ShareLemmas
 pub mod BeginLemmas
+pub mod BoardLemmas
+pub mod HeardLemmas
+pub mod KeptLemmas

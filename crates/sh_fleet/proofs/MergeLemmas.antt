@@ -1,19 +1,20 @@
 -- The finished calls of a run: those of the seats, merged in the sheet's order, are a lawful book.
 use Rattle.std.proofs.Common.{rules, ◌≡◌, ◌≢◌, ◌⊎◌, ◌<◌, ◌≤◌, ◌+◌, ℕ, zero, suc, Bool, true, false, List, [], ◌∷◌, map, length, take, drop, Option, Some, None, refl, sym, ap, subst, ◌∙◌, ap₂, inl, inr, arith, eq-eqb, ne_eqb}
-use Rattle.std.{specs.{Prelude.{All, AllPairs, Any, filter, if◌then◌else◌, ◌==◌, slice_get}, List.{sum_by, AllByRecursion}, FinMap.{empty, entries, len-empty, len-entries, len-insert, len-remove}, Ordering.{nat_cmp}, Cmp.{nat_cmp_total}}, proofs.{Math.Seq.{take-length}, lemmas.{Bool.{cases_lt, eqb-true}, Option.{slice_get-get_or}, Simd.{map-map}, List.{length-map, map-id, nil_from_length, Elements.{All-cons, All-filter, All-head, All-tail}, Kept.{AllPairs-cons}, Sums.{sum_by-cons}}}}}
+use Rattle.std.{specs.{Prelude.{All, AllPairs, Any, filter, if◌then◌else◌, ◌==◌, slice_get}, List.{sum_by, AllByRecursion}, FinMap.{empty, entries, len-empty, len-entries, len-insert, len-remove}, Ordering.{nat_cmp}, Cmp.{nat_cmp_total}}, proofs.{Math.Seq.{take-append_seam, take-length}, lemmas.{Bool.{cases_lt, eqb-true}, Option.{slice_get-get_or}, Simd.{map-map}, List.{length-map, map-id, nil_from_length, Elements.{All-cons, All-filter, All-head, All-tail}, Kept.{AllPairs-cons}, Sums.{sum_by-cons}}}}}
 use mathlib.Core.Option as maybe
 use lib.ListN.{get_elem?}
 use Rattle.sh_logic.proofs.{Options.{some_is}, Pigeons.{at_most}, Lists.{all_weaker}}
 use Rattle.sh_base.specs.{declared.config.ConfigParts.{ConfigParts}, Setting.{all_seats}}
-use Rattle.sh_map.specs.{declared.{call.Call.{Call}, log.{Change.{Change}, Entry.{Entry}}, book.{Done.{Done}, Row.{Row}}}, Book.{IsClosed, IsOwn}, Map.{Map, row_pair, size}, Log.{changed, map_from, map_of}}
+use Rattle.sh_map.specs.{declared.{call.Call.{Call}, log.{Change.{Change}, Entry.{Entry}}, book.{Done.{Done}, Row.{Row}}}, Book.{made, IsClosed, IsLawful, IsOwn}, Map.{Map, row_pair, size}, Log.{changed, map_from, map_of}}
 use Rattle.sh_map.specs.declared.log.Change.TheVariants as change
-use Rattle.sh_sheet.specs.{declared.item.Item.{Item, TheVariants.{Ask, Mark, After, Turn}}, Sheet.{item_calls, AreFew, IsLawfulItem}}
+use Rattle.sh_sheet.specs.{declared.item.Item.{Item, TheVariants.{Ask, Mark, After, Turn}}, Sheet.{done_item, is_call, item_calls, item_seat, AreFew, IsLawfulItem}}
 use Rattle.sh_tree.specs.Tree.{map_in, IsTree}
 use Rattle.sh_core.specs.Actors.{Actor}
 use Rattle.sh_core_says.specs.Books.{calls_by, numbered, IsBookOf}
-use Rattle.sh_pool_rule.specs.{declared.view.Member.{Member}, Views.{member, view_seat}}
-use Rattle.sh_pool.specs.{Passes.{pass_actor, PoolTable, Standing}, Pools.{AreLaidFor, AreReady, PoolState}, Gathering.{member_of, seats_of, AreAllOf, AreAllPasses, HasGatheredAll, IsGatheredFrom, PassesHave}}
-use Rattle.sh_fleet.specs.{declared.{answers.Answers.{Answers}, work.{Place.{Place}, Work.{Work}}}, Served.{row_of, AreFinished, AreNumbered, HasItsRows, HasServed}, Sharing.{done_item, is_call, item_seat, items_of, told_by, told_of, AreDone, IsDone}}
+use Rattle.sh_pool_rule.specs.{declared.view.Member.{Member}, Views.{member, view_seat}, declared.view.Card.{Card}, Rights.{lengths_of}}
+use Rattle.sh_pool.specs.{Passes.{pass_actor, PoolTable, Standing}, Pools.{AreLaidFor, AreReady, PoolState}, Gathering.{member_of, seats_of, AreAllOf, AreAllPasses, HasGatheredAll, IsGatheredFrom, PassesHave}, Cards.{HasItsNotes, HeardFrom}}
+use Rattle.sh_fleet.specs.{declared.{answers.Answers.{Answers}, work.{Place.{Place}, Work.{Work}}}, Served.{row_of, AreFinished, AreNumbered, HasItsRows, HasServed, MarksKept}, Sharing.{items_of, told_by, told_of, AreDone, ArePlaces, HasLearned, IsDone}, Boards.{AreHeard, IsCardFor}, Wants.{counted, heeds_from, heeds_of, is_after, no_tally, Heed, Tally}}
+use Rattle.sh_fleet.proofs.{HeardLemmas.{none_more as passed_long}, KeptLemmas.{after_long, calls_ordered, same_drop, same_take, stops_kept, take_none, AreKept, IsKept, Short, Under}}
 
 -- each seat's finished calls are those of its items, in their order
 pub record AreCalls (items : List Item) (of : ℕ → List Done) : Type 0 where
@@ -113,11 +114,11 @@ module _ (p : ConfigParts) (items : List Item) (of : ℕ → List Done) (qs : Li
     numbers = rising n m.dones m.numbers;
   }
 
-  pub merged_finished : (words : List ℕ) (g : IsGatheredFrom p qs words) (m : Merge 1 items of) → AreFinished p items qs words g m.dones
-  merged_finished words g m =
+  pub merged_finished : (words : List ℕ) (g : IsGatheredFrom p qs words) (m : Merge 1 items of) → (IsLawful g.log m.dones → MarksKept items m.dones) → AreFinished p items qs words g m.dones
+  merged_finished words g m marks =
       let book = merged_book 1 m in
       let both = g.rest.books m.dones book in
-      record { calls = m.calls; numbers = m.numbers; book = book; lawful = both.0; closed = both.1; causes = g.causes m.dones book }
+      record { calls = m.calls; numbers = m.numbers; book = book; lawful = both.0; closed = both.1; causes = g.causes m.dones book; marks = marks both.0 }
 
 -- ---- the rows of the words' map
 
@@ -178,6 +179,12 @@ calls_past : (ws : List Work) (k : ℕ) → length ws ≤ k → calls_in ws k �
 calls_past [] k h = refl
 calls_past (w ∷ ws) zero h = absurd (omega (arith, h))
 calls_past (w ∷ ws) (suc k) h = calls_past ws k (omega (arith, h))
+
+-- what each seat's pass had seen after each note that it has learnt
+abbrev pub lengths_in : List Work → (seat : ℕ) → List ℕ
+lengths_in [] k = []
+lengths_in (w ∷ ws) zero = lengths_of w.pass.view.cards
+lengths_in (w ∷ ws) (suc k) = lengths_in ws k
 
 -- a seat that isn't one of the setting's has no items
 items_past : (p : ConfigParts) (items : List Item) (k : ℕ) → All (IsLawfulItem p) items → all_seats p ≤ k → items_of k items ≡ []
@@ -252,6 +259,70 @@ module _ (p : ConfigParts) (laid : Option PoolTable) (items : List Item) where
     pub done_passes : (new qs : List Standing) → AreLaidFor p laid new → qs ≡ passes_of ws → AreAllOf laid qs
     done_passes new qs is same = subst (AreAllOf laid) (sym same) (all_of p laid new (passes_of ws) is (done_ready 0 ws done) (length-map ws (λ (w : Work). w.pass) ∙ long) (λ k lt. let at = one_seat k lt in (k, at.there ∙ ap (λ (j : ℕ). maybe.some j) at.is.work.seat_is)))
 
+-- ---- the notes that the seats have learnt
+
+heeds_long : (seat : ℕ) (t : Tally) (items : List Item) → length (heeds_from seat t items) ≡ length (filter is_after (items_of seat items))
+heeds_long seat t [] = refl
+heeds_long seat t (Ask k call ∷ items) = heeds_long seat (counted t (Ask k call)) items ∙ passed_long is_after (Ask k call) (items_of seat items) (k == seat) refl
+heeds_long seat t (Mark k n ∷ items) = heeds_long seat (counted t (Mark k n)) items ∙ passed_long is_after (Mark k n) (items_of seat items) (k == seat) refl
+heeds_long seat t (After k n ∷ items) = after_long (k == seat) k n (record { want = t.marks n; behind = t.calls k }) (heeds_from seat (counted t (After k n)) items) (items_of seat items) (heeds_long seat (counted t (After k n)) items)
+heeds_long seat t (Turn k n ∷ items) = heeds_long seat t items ∙ passed_long is_after (Turn k n) (items_of seat items) (k == seat) refl
+
+-- of a card and the pass that made its note, wherever it stands among the passes
+card_kept : (p : ConfigParts) (laid : Option PoolTable) (items : List Item) (c : Card) (s k seat : ℕ) (ws : List Work) → AreDone p laid items s ws → s + k ≡ seat → c.seat ≡ seat → HeardFrom (passes_of ws) c → Under c.seen (take (length c.dones) (calls_in ws k)) × Short c.seen (take (length c.learnt) (lengths_in ws k))
+card_kept p laid items c s k seat [] h e own from = (take_none (λ (d : Done). d.point + made d.call d.reply ≤ c.seen) (length c.dones), take_none (λ (l : ℕ). l ≤ c.seen) (length c.learnt))
+card_kept p laid items c s zero seat (w ∷ ws) h e own from =
+    let heard = from.0 (omega (arith, h.0.work.seat_is, e, own)) in (
+      subst (λ (ds : List Done). Under c.seen ds) (sym (ap (take (length c.dones)) heard.dones.1 ∙ take-append_seam c.dones heard.dones.0)) heard.holds.points,
+      subst (λ (ls : List ℕ). Short c.seen ls) (sym (ap (take (length c.learnt)) heard.learnt.1 ∙ take-append_seam c.learnt heard.learnt.0)) heard.holds.lengths,
+    )
+card_kept p laid items c s (suc k) seat (w ∷ ws) h e own from = card_kept p laid items c (suc s) k seat ws h.1 (omega (arith, e)) own from.1
+
+module _ (p : ConfigParts) (laid : Option PoolTable) (items : List Item) (all : List Work) (done : AreDone p laid items 0 all) (dones : List Done) (own : (k : ℕ) → map (numbered 0) (calls_by k dones) ≡ map (numbered 0) (calls_in all k)) where
+  heed_kept : (seat : ℕ) (h : Heed) (c : Card) (mine : List Done) → map (numbered 0) mine ≡ map (numbered 0) (calls_by seat dones) → IsCardFor h.want c → AllByRecursion (λ (d : Done). c.seen ≤ d.first) (drop h.behind mine) → HeardFrom (passes_of all) c → IsKept (λ k. calls_by k dones) (lengths_in all) seat h c.seen
+  heed_kept seat h c mine same for behind from =
+      let none : 0 + h.want.seat ≡ h.want.seat = omega arith in
+      let both = card_kept p laid items c 0 h.want.seat h.want.seat all done none for.seat from in
+      record {
+        within = record {
+          calls = same_take (λ (d : Done). d.point + made d.call d.reply ≤ c.seen) (λ d x. x) (λ d x. x) h.want.calls (calls_in all h.want.seat) (calls_by h.want.seat dones) (sym (own h.want.seat)) (subst (λ (n : ℕ). Under c.seen (take n (calls_in all h.want.seat))) for.calls both.0);
+          learnt = subst (λ (n : ℕ). Short c.seen (take n (lengths_in all h.want.seat))) for.learnt both.1;
+        };
+        behind = same_drop (λ (d : Done). c.seen ≤ d.first) (λ d x. x) (λ d x. x) h.behind mine (calls_by seat dones) same behind;
+      }
+
+  heeds_kept : (seat : ℕ) (hs : List Heed) (cs : List Card) (mine : List Done) → map (numbered 0) mine ≡ map (numbered 0) (calls_by seat dones) → length cs ≡ length hs → AreHeard hs cs mine → AllByRecursion (HeardFrom (passes_of all)) cs → AreKept (λ k. calls_by k dones) (lengths_in all) seat hs (lengths_of cs)
+  heeds_kept seat [] [] mine same long h from = tt
+  heeds_kept seat (x ∷ hs) [] mine same long h from = absurd (omega (arith, long))
+  heeds_kept seat [] (c ∷ cs) mine same long h from = absurd h
+  heeds_kept seat (x ∷ hs) (c ∷ cs) mine same long h from = (heed_kept seat x c mine same h.0 h.1 from.0, heeds_kept seat hs cs mine same (omega (arith, long)) h.2 from.1)
+
+  seat_kept : (s k seat : ℕ) (ws : List Work) → AreDone p laid items s ws → s + k ≡ seat → k < length ws → AllByRecursion (HasItsNotes (passes_of all)) (passes_of ws) → map (numbered 0) (calls_in ws k) ≡ map (numbered 0) (calls_by seat dones) → AreKept (λ j. calls_by j dones) (lengths_in all) seat (heeds_of seat items) (lengths_in ws k)
+  seat_kept s k seat [] h e lt notes same = absurd (omega (arith, lt))
+  seat_kept s zero seat (w ∷ ws) h e lt notes same =
+      let is : s ≡ seat = omega (arith, e) in
+      let heard = subst (λ (n : ℕ). HasLearned items n w.next w.pass) is h.0.work.heard in
+      let mine = items_of seat items in
+      let placed = subst (λ (n : ℕ). ArePlaces items (items_of n items) w.places.items) is h.0.work.places in
+      let long : w.next ≡ length mine = omega (arith, h.0.all, sym (length-map w.places.items (λ (a : Place). slice_get items a.at)), ap length placed, length-map mine (λ (x : Item). Some x)) in
+      let count : length w.pass.view.cards ≡ length (heeds_of seat items) = heard.count ∙ (ap (λ n. length (filter is_after (take n mine))) long ∙ (ap (λ xs. length (filter is_after xs)) (take-length mine) ∙ sym (heeds_long seat no_tally items))) in
+      heeds_kept seat (heeds_of seat items) w.pass.view.cards (pass_actor w.pass).dones same count heard.heard notes.0
+  seat_kept s (suc k) seat (w ∷ ws) h e lt notes same = seat_kept (suc s) k seat ws h.1 (omega (arith, e)) (omega (arith, lt)) notes.1 same
+
+lengths_past : (ws : List Work) (k : ℕ) → length ws ≤ k → lengths_in ws k ≡ []
+lengths_past [] k h = refl
+lengths_past (w ∷ ws) zero h = absurd (omega (arith, h))
+lengths_past (w ∷ ws) (suc k) h = lengths_past ws k (omega (arith, h))
+
+done_kept : (p : ConfigParts) (laid : Option PoolTable) (items : List Item) (ws : List Work) → All (IsLawfulItem p) items → AreDone p laid items 0 ws → length ws ≡ all_seats p → (k : ℕ) (dones : List Done) → ((j : ℕ) → map (numbered 0) (calls_by j dones) ≡ map (numbered 0) (calls_in ws j)) → AllByRecursion (HasItsNotes (passes_of ws)) (passes_of ws)
+    → AreKept (λ j. calls_by j dones) (lengths_in ws) k (heeds_of k items) (lengths_in ws k)
+done_kept p laid items ws can done long k dones own notes = elim (cases_lt k (all_seats p)) [
+  | inl lt ↦ let none : 0 + k ≡ k = omega arith in seat_kept p laid items ws done dones own 0 k k ws done none (omega (arith, lt, long)) notes (sym (own k))
+  | inr past ↦
+      let no_heeds : heeds_of k items ≡ [] = nil_from_length (heeds_of k items) (omega (arith, heeds_long k no_tally items, ap (λ xs. length (filter is_after xs)) (items_past p items k can past))) in
+      subst (λ (hs : List Heed). AreKept (λ j. calls_by j dones) (lengths_in ws) k hs (lengths_in ws k)) (sym no_heeds) (subst (λ (ls : List ℕ). AreKept (λ j. calls_by j dones) (lengths_in ws) k [] ls) (sym (lengths_past ws k (omega (arith, past, long)))) tt)
+]
+
 -- ---- the sheet was served
 
 gathered_at : (p : ConfigParts) (o : Option PoolTable) (new qs : List Standing) (s : PoolState) → AreLaidFor p o new → HasGatheredAll o qs s → (s.laid ≡ None) × IsGatheredFrom p qs s.words
@@ -263,7 +334,8 @@ module _ (p : ConfigParts) (laid : Option PoolTable) (items : List Item) (ws : L
   served_from : (g : (s.laid ≡ None) × IsGatheredFrom p (passes_of ws) s.words) (rows : List Row) → ((levels : List (List ℕ)) → IsTree p s.words levels → map row_pair rows ≡ entries (map_in p s.words levels)) → HasServed p items s (answers_by ws) rows
   served_from g rows holds =
       let m = merge 1 items (calls_in ws) (done_calls p laid items ws done long can) in
-      let finished = merged_finished p items (calls_in ws) (passes_of ws) can (done_have p laid items ws done long) s.words g.1 m in
+      let kept = λ (lawful : IsLawful g.1.log m.dones). stops_kept (λ k. calls_by k m.dones) (lengths_in ws) (calls_ordered m.dones lawful.order) items (λ k. done_kept p laid items ws can done long k m.dones (λ j. m.own j) g.1.notes) in
+      let finished = merged_finished p items (calls_in ws) (passes_of ws) can (done_have p laid items ws done long) s.words g.1 m kept in
       let calls : length m.dones ≤ 1000000 = omega (arith, calls_long items m.dones m.calls, few.calls) in
       let levels = g.1.rest.levels in
       let rows_are = sym (map-map row_of row_pair rows ∙ map-id rows) ∙ ap (map row_of) (holds levels g.1.rest.tree) in

@@ -1,17 +1,18 @@
 -- What a seat's items come to, one by one.
 use Rattle.std.proofs.Common.{◌≡◌, ◌≤◌, ◌<◌, ◌-◌, ◌+◌, ℕ, zero, suc, List, [], ◌∷◌, ◌++◌, map, length, take, drop, refl, sym, ap, ap₂, subst, length-append, append-nil, ◌∙◌, arith}
-use Rattle.std.{specs.{Prelude.{All, AllPairs, slice_index_or, Bool, true, false, ◌==◌, Option, Some, None, filter, slice_get, nat_le, if◌then◌else◌}, Option.{option_map}}, proofs.lemmas.{Bool.Decides.{nat_tests}, List.{drop-append-le, length-drop, map-append, take-append-le, Elements.{filter-append}, Sums.{sum_by-append, sum_by-cons}}, Option.{get_or_from_slice_get, slice_get-map, slice_get_read}}}
+use Rattle.std.{specs.{Prelude.{All, AllPairs, slice_index_or, Bool, true, false, ◌==◌, Option, Some, None, filter, slice_get, nat_le, if◌then◌else◌}, Option.{option_map}}, proofs.lemmas.{Bool.Decides.{nat_tests}, List.{drop-append-le, length-drop, length-map, map-append, take-append-le, Elements.{filter-append}, Sums.{sum_by-append, sum_by-cons}}, Option.{get_or_from_slice_get, slice_get-map, slice_get_read}}}
 use Rattle.std.proofs.Math.Seq.{take-length}
 use Rattle.sh_logic.proofs.Options.{some_is, some_none}
 use Rattle.sh_base.specs.declared.config.ConfigParts.{ConfigParts}
 use Rattle.sh_map.specs.{declared.{book.{Done.{Done}, Row.{Row}}, call.{Call.{Call, TheVariants.{Get, Put, Del, Range}}, Reply.{Reply}}, log.Entry.{Entry}}, Book.{AnswersAt}}
 use Rattle.sh_map.specs.declared.call.Reply.TheVariants as reply
-use Rattle.sh_sheet.specs.{declared.item.Item.{Item, TheVariants.{Ask, Mark, After, Turn}}, Sheet.{item_calls, rows_of}}
-use Rattle.sh_core.specs.Actors.{AreAnswered, HasOwnRows, IsAnswered}
-use Rattle.sh_client.specs.Rests.{rows_told as machine_rows}
+use Rattle.sh_sheet.specs.{declared.item.Item.{Item, TheVariants.{Ask, Mark, After, Turn}}, Sheet.{done_item, is_call, item_calls, item_seat, rows_of}}
+use Rattle.sh_core.specs.Actors.{Actor, AreAnswered, HasOwnRows, IsAnswered}
+use Rattle.sh_client.specs.Rests.{is_resting, rows_told as machine_rows}
 use Rattle.sh_pool_rule.specs.Views.{view_seat}
 use Rattle.sh_pool.specs.{Calls.{HasServed}, Passes.{pass_actor, PoolTable, Standing}, Pools.{IsOfTables}}
-use Rattle.sh_fleet.specs.{declared.{answers.Answer.{Answer}, work.{Place.{Place}, Work.{Work}}}, Sharing.{answers_in, done_item, is_call, item_seat, items_of, rows_told, told, told_of, ArePlaces, HasAsked, HasRoom, HasServedItem, IsWork}}
+use Rattle.sh_fleet.specs.{declared.{answers.{Answer.{Answer}, Answers.{Answers}}, work.{Place.{Place}, Work.{Work}}}, Sharing.{answers_in, answers_of, items_of, rows_told, told, told_of, AreOrdered, ArePlaces, HasAsked, HasLearned, HasRoom, HasServedItem, IsWork, KeepsRest}}
+use Rattle.sh_fleet.{specs.{Boards.{want_at, want_by, IsMaker, StandsAt}, Wants.{heeds_of, is_after, no_tally, stand, tally_from, Heed, Want}}, proofs.HeardLemmas.{heard_asked, heard_learnt, heard_same, calls_before, heed_at, learnt_before}}
 
 -- rows that rise between two bounds are no more than the numbers between them
 rising_few : (low high : ℕ) (rows : List Row) → AllPairs (λ (x y : Row). x.key < y.key) rows → All (λ (x : Row). (low ≤ x.key) × (x.key < high)) rows → length rows ≤ high - low
@@ -56,7 +57,7 @@ placed : (x o : Option Item) → Some x ≡ option_map (λ (i : Item). Some i) o
 placed x None h = absurd (some_none h)
 placed x (Some it) h = (it, some_is h, refl)
 
-pub split_at : (mine : List Item) (k : ℕ) (it : Item) → slice_get mine k ≡ Some it → (drop k mine ≡ it ∷ drop (suc k) mine) × (take (suc k) mine ≡ take k mine ++ it ∷ [])
+pub split_at : {A : Type 0} (mine : List A) (k : ℕ) (it : A) → slice_get mine k ≡ Some it → (drop k mine ≡ it ∷ drop (suc k) mine) × (take (suc k) mine ≡ take k mine ++ it ∷ [])
 split_at [] k it h = absurd (some_none (sym h))
 split_at (x ∷ xs) zero it h = let is = some_is h in (ap (λ i. i ∷ xs) is, ap (λ i. i ∷ []) is)
 split_at (x ∷ xs) (suc k) it h = let s = split_at xs k it h in (s.0, ap (λ ys. x ∷ ys) s.1)
@@ -125,6 +126,12 @@ next_calls mine k it d xs ys here is so h =
     let right : filter is_call (take (suc k) mine) ≡ filter is_call (take k mine) ++ it ∷ [] = ap (filter is_call) parts.1 ∙ (filter-append is_call (take k mine) (it ∷ []) ∙ ap (λ zs. filter is_call (take k mine) ++ zs) one) in
     left ∙ (ap₂ (λ zs z. zs ++ z ∷ []) h is ∙ (sym right ∙ ap (λ (n : ℕ). filter is_call (take n mine)) next))
 
+-- the afters among the first items of a seat, with one item more
+after_count : (mine : List Item) (k : ℕ) (it : Item) → slice_get mine k ≡ Some it → length (filter is_after (take (k + 1) mine)) ≡ length (filter is_after (take k mine)) + length (filter is_after (it ∷ []))
+after_count mine k it here =
+    let next : suc k ≡ k + 1 = omega arith in
+    ap (λ (n : ℕ). length (filter is_after (take n mine))) (sym next) ∙ (ap (λ xs. length (filter is_after xs)) (split_at mine k it here).1 ∙ (ap length (filter-append is_after (take k mine) (it ∷ [])) ∙ length-append (filter is_after (take k mine)) (filter is_after (it ∷ []))))
+
 asked_kept : (p : ConfigParts) (laid : Option PoolTable) (items : List Item) (seat : ℕ) (call : Call) (v w : Work) → IsWork p laid items seat v → v.next < length v.places.items → slice_get (items_of seat items) v.next ≡ Some (Ask seat call) → IsOfTables laid w.pass → HasAsked call v w → IsWork p laid items seat (record w { next = v.next + 1 })
 asked_kept p laid items seat call v w old below here of h =
     let mine = items_of seat items in
@@ -142,15 +149,19 @@ asked_kept p laid items seat call v w old below here of h =
       ready = (of, h.served.rests, setting ∙ old.ready.2);
       seat_is = h.served.same_seat ∙ old.seat_is;
       places = subst (λ (ps : List Place). ArePlaces items mine ps) (sym h.places) old.places;
+      order = subst (λ (ps : List Place). AreOrdered items seat mine ps) (sym h.places) old.order;
       next = omega (arith, below, ap length h.places);
+      heard = heard_asked items seat v.next (v.next + 1) v.pass w.pass old.heard call h.reply h.served (omega (arith, after_count mine v.next it here));
       calls = next_calls mine v.next it d (pass_actor v.pass).dones (pass_actor w.pass).dones here item_is h.served.dones old.calls;
       told = ap (map told_of) h.served.dones ∙ (map-append told_of (pass_actor v.pass).dones (d ∷ []) ∙ (ap₂ (λ xs x. xs ++ x ∷ []) old.told told_is ∙ (sym (answer_more v.answers.replies.items v.answers.rows.items (machine_rows w.pass.client) h.reply old.counted) ∙ ap₂ answers_in (sym h.replies) (sym h.rows))));
       counted = ap rows_told h.replies ∙ (more ∙ omega (arith, old.counted, ap length h.rows, length-append v.answers.rows.items (machine_rows w.pass.client), sum_by-cons (λ (x : Answer). x.rows) one []));
       room = subst (λ (xs : List Item). HasRoom p xs w.answers) (ap (λ (k : ℕ). drop k mine) next) (room_asked p seat call (drop (suc v.next) mine) v w h.reply w.pass h refl few (subst (λ (xs : List Item). HasRoom p xs v.answers) parts.0 old.room));
     }
 
-passed_over : (p : ConfigParts) (laid : Option PoolTable) (items : List Item) (seat : ℕ) (it : Item) (v : Work) → IsWork p laid items seat v → v.next < length v.places.items → slice_get (items_of seat items) v.next ≡ Some it → is_call it ≡ false → item_calls it ≡ 0 → rows_of p it ≡ 0 → IsWork p laid items seat (record v { next = v.next + 1 })
-passed_over p laid items seat it v old below here not none no_rows =
+-- an item that is no call: the pass's calls and all but the pass stay
+passed_over : (p : ConfigParts) (laid : Option PoolTable) (items : List Item) (seat : ℕ) (it : Item) (v w : Work) → IsWork p laid items seat v → v.next < length v.places.items → slice_get (items_of seat items) v.next ≡ Some it → IsOfTables laid w.pass → is_call it ≡ false → item_calls it ≡ 0 → rows_of p it ≡ 0
+    → w.pass.client ≡ v.pass.client → view_seat w.pass.view ≡ view_seat v.pass.view → pass_actor w.pass ≡ pass_actor v.pass → KeepsRest v w → HasLearned items seat (v.next + 1) w.pass → IsWork p laid items seat (record w { next = v.next + 1 })
+passed_over p laid items seat it v w old below here of not none no_rows client seat_same actor kept heard =
     let mine = items_of seat items in
     let next : suc v.next ≡ v.next + 1 = omega arith in
     let parts = split_at mine v.next it here in
@@ -162,23 +173,58 @@ passed_over p laid items seat it v old below here not none no_rows =
       rows = omega (arith, room.rows, sum_by-cons (rows_of p) it (drop (suc v.next) mine), no_rows);
     } in
     record {
-      ready = old.ready;
-      seat_is = old.seat_is;
-      places = old.places;
-      next = omega (arith, below);
-      calls = old.calls ∙ (sym same ∙ ap (λ (n : ℕ). filter is_call (take n mine)) next);
-      told = old.told;
-      counted = old.counted;
-      room = subst (λ (xs : List Item). HasRoom p xs v.answers) (ap (λ (k : ℕ). drop k mine) next) rest;
+      ready = (of, ap is_resting client ∙ old.ready.1, ap (λ m. m.setting) client ∙ old.ready.2);
+      seat_is = seat_same ∙ old.seat_is;
+      places = subst (λ (ps : List Place). ArePlaces items mine ps) (sym kept.places) old.places;
+      order = subst (λ (ps : List Place). AreOrdered items seat mine ps) (sym kept.places) old.order;
+      next = omega (arith, below, ap length kept.places);
+      heard = heard;
+      calls = ap (λ (a : Actor). map done_item a.dones) actor ∙ (old.calls ∙ (sym same ∙ ap (λ (n : ℕ). filter is_call (take n mine)) next));
+      told = ap (λ (a : Actor). map told_of a.dones) actor ∙ (old.told ∙ ap answers_of (sym kept.answers));
+      counted = subst (λ (a : Answers). rows_told a.replies.items ≡ length a.rows.items) (sym kept.answers) old.counted;
+      room = subst (λ (a : Answers). HasRoom p (drop (v.next + 1) mine) a) (sym kept.answers) (subst (λ (xs : List Item). HasRoom p xs v.answers) (ap (λ (k : ℕ). drop k mine) next) rest);
     }
 
-pub item_kept : (p : ConfigParts) (laid : Option PoolTable) (items : List Item) (seat : ℕ) (it : Item) (v w : Work) → IsWork p laid items seat v → v.next < length v.places.items → slice_get (items_of seat items) v.next ≡ Some it → IsOfTables laid w.pass → HasServedItem it v w → IsWork p laid items seat (record w { next = v.next + 1 })
-item_kept p laid items seat (Ask k call) v w old below here of h =
-    let same : k ≡ seat = of_seat seat items v.next (Ask k call) here in
-    asked_kept p laid items seat call v w old below (here ∙ ap (λ (n : ℕ). Some (Ask n call)) same) of h
-item_kept p laid items seat (Mark k n) v w old below here of h = subst (λ (x : Work). IsWork p laid items seat (record x { next = v.next + 1 })) (sym h) (passed_over p laid items seat (Mark k n) v old below here refl refl refl)
-item_kept p laid items seat (After k n) v w old below here of h = subst (λ (x : Work). IsWork p laid items seat (record x { next = v.next + 1 })) (sym h) (passed_over p laid items seat (After k n) v old below here refl refl refl)
-item_kept p laid items seat (Turn k n) v w old below here of h = subst (λ (x : Work). IsWork p laid items seat (record x { next = v.next + 1 })) (sym h) (passed_over p laid items seat (Turn k n) v old below here refl refl refl)
+-- ---- where a seat stands at its next item
+
+module _ (p : ConfigParts) (laid : Option PoolTable) (items : List Item) (seat : ℕ) (v : Work) (old : IsWork p laid items seat v) (at : ℕ) (order : items_of seat (take at items) ≡ take v.next (items_of seat items)) where
+  calls_here : length (pass_actor v.pass).dones ≡ (tally_from no_tally (take at items)).calls seat
+  calls_here = sym (calls_before seat (take at items) ∙ (ap (λ xs. length (filter is_call xs)) order ∙ (sym (ap length old.calls) ∙ length-map (pass_actor v.pass).dones done_item)))
+
+  learnt_here : length v.pass.view.cards ≡ (tally_from no_tally (take at items)).learnt seat
+  learnt_here = sym (learnt_before seat (take at items) ∙ (ap (λ xs. length (filter is_after xs)) order ∙ sym old.heard.count))
+
+  -- what the note of a mark here carries
+  stands : (it : Item) → slice_get items at ≡ Some it → item_seat it ≡ seat → StandsAt (want_at items at) it v.pass
+  stands (Mark k n) here is =
+      let want : want_at items at ≡ stand (tally_from no_tally (take at items)) seat = ap (want_by (tally_from no_tally (take at items))) here ∙ ap (stand (tally_from no_tally (take at items))) is in
+      subst (λ (w : Want). IsMaker w v.pass) (sym want) (record { seat = old.seat_is; calls = calls_here; learnt = learnt_here })
+  stands (Ask k call) here is = tt
+  stands (After k n) here is = tt
+  stands (Turn k n) here is = tt
+
+  -- the after here is the next one of the seat's
+  heed_here : (k n : ℕ) → slice_get items at ≡ Some (After k n) → k ≡ seat → slice_get (heeds_of seat items) (length v.pass.view.cards) ≡ Some (record { want = want_at items at; behind = (tally_from no_tally (take at items)).calls seat })
+  heed_here k n here is =
+      let own : slice_get items at ≡ Some (After seat n) = here ∙ ap (λ (j : ℕ). Some (After j n)) is in
+      let want : want_at items at ≡ (tally_from no_tally (take at items)).marks n = ap (want_by (tally_from no_tally (take at items))) here in
+      ap (slice_get (heeds_of seat items)) (old.heard.count ∙ sym (ap (λ xs. length (filter is_after xs)) order))
+      ∙ (heed_at seat no_tally items at n own ∙ ap (λ (w : Want). Some (record { want = w; behind = (tally_from no_tally (take at items)).calls seat })) (sym want))
+
+  pub item_kept : (it : Item) (w : Work) → v.next < length v.places.items → slice_get items at ≡ Some it → slice_get (items_of seat items) v.next ≡ Some it → IsOfTables laid w.pass → HasServedItem (want_at items at) it v w → IsWork p laid items seat (record w { next = v.next + 1 })
+  item_kept (Ask k call) w below there here of h =
+      let same : k ≡ seat = of_seat seat items v.next (Ask k call) here in
+      asked_kept p laid items seat call v w old below (here ∙ ap (λ (n : ℕ). Some (Ask n call)) same) of h
+  item_kept (Mark k n) w below there here of h =
+      passed_over p laid items seat (Mark k n) v w old below here of refl refl refl h.0.client h.0.seat_is h.0.actor h.1 (heard_same items seat v.next (v.next + 1) v.pass w.pass old.heard h.0.actor h.0.cards h.0.seen (omega (arith, after_count (items_of seat items) v.next (Mark k n) here)))
+  item_kept (After k n) w below there here of h =
+      let same : k ≡ seat = of_seat seat items v.next (After k n) here in
+      let x : Heed = record { want = want_at items at; behind = (tally_from no_tally (take at items)).calls seat } in
+      passed_over p laid items seat (After k n) v w old below here of refl refl refl h.learnt.kept.client h.learnt.kept.seat_is h.learnt.kept.actor h.rest (heard_learnt items seat v.next (v.next + 1) v.pass w.pass old.heard h.note x h.learnt h.card (heed_here k n there same) (omega (arith, calls_here)) (after_count (items_of seat items) v.next (After k n) here))
+  item_kept (Turn k n) w below there here of h =
+      let same : record w { next = v.next + 1 } ≡ record v { next = v.next + 1 } = ap (λ (x : Work). record x { next = v.next + 1 }) h in
+      subst (λ (x : Work). IsWork p laid items seat x) (sym same) (passed_over p laid items seat (Turn k n) v v old below here old.ready.0 refl refl refl refl refl refl (record { answers = refl; places = refl; next = refl })
+      (heard_same items seat v.next (v.next + 1) v.pass v.pass old.heard refl refl refl (omega (arith, after_count (items_of seat items) v.next (Turn k n) here))))
 
 -- the item that was read at the seat's next place is the seat's next one
 pub next_item : (p : ConfigParts) (laid : Option PoolTable) (items : List Item) (seat : ℕ) (v : Work) (a : Place) → IsWork p laid items seat v → v.next < length v.places.items → a ≡ slice_index_or v.places.items v.next a → (it : Item) × (slice_get items a.at ≡ Some it) × (slice_get (items_of seat items) v.next ≡ Some it)
@@ -199,11 +245,22 @@ next_room p laid items seat v it work here =
       rows = omega (arith, room.rows, sum_by-cons (rows_of p) it rest, sum_by-cons (rows_of p) it []);
     })
 
-pub same_places : (it : Item) (v w : Work) → HasServedItem it v w → (w.places.items ≡ v.places.items) × (w.next ≡ v.next)
-same_places (Ask k call) v w h = (h.places, h.next)
-same_places (Mark k n) v w h = (ap (λ (x : Work). x.places.items) h, ap (λ (x : Work). x.next) h)
-same_places (After k n) v w h = (ap (λ (x : Work). x.places.items) h, ap (λ (x : Work). x.next) h)
-same_places (Turn k n) v w h = (ap (λ (x : Work). x.places.items) h, ap (λ (x : Work). x.next) h)
+pub same_places : (want : Want) (it : Item) (v w : Work) → HasServedItem want it v w → (w.places.items ≡ v.places.items) × (w.next ≡ v.next)
+same_places want (Ask k call) v w h = (h.places, h.next)
+same_places want (Mark k n) v w h = (h.1.places, h.1.next)
+same_places want (After k n) v w h = (h.rest.places, h.rest.next)
+same_places want (Turn k n) v w h = (ap (λ (x : Work). x.places.items) h, ap (λ (x : Work). x.next) h)
 
-pub item_served : (p : ConfigParts) (laid : Option PoolTable) (items : List Item) (seat : ℕ) (it : Item) (v w : Work) → IsWork p laid items seat v → v.next < length v.places.items → slice_get (items_of seat items) v.next ≡ Some it → IsOfTables laid w.pass → HasServedItem it v w → IsWork p laid items seat (record w { next = w.next + 1 })
-item_served p laid items seat it v w old below here of h = subst (λ (n : ℕ). IsWork p laid items seat (record w { next = n + 1 })) (sym (same_places it v w h).1) (item_kept p laid items seat it v w old below here of h)
+-- the seat's next place, as it was read, with the item that was read there
+module _ (p : ConfigParts) (laid : Option PoolTable) (items : List Item) (seat : ℕ) (v : Work) (a : Place) (it : Item) (old : IsWork p laid items seat v) (below : v.next < length v.places.items) (read : a ≡ slice_index_or v.places.items v.next a) (is : it ≡ slice_index_or items a.at it) where
+  pub read_there : slice_get items a.at ≡ Some it
+  read_there = let h = next_item p laid items seat v a old below read in h.1 ∙ ap (λ (i : Item). Some i) (sym (is ∙ get_or_from_slice_get items a.at h.0 it h.1))
+
+  order_here : items_of seat (take a.at items) ≡ take v.next (items_of seat items)
+  order_here = old.order v.next a (slice_get_read v.places.items (length v.places.items) v.next a refl below read)
+
+  pub stands_here : StandsAt (want_at items a.at) it v.pass
+  stands_here = stands p laid items seat v old a.at order_here it read_there (of_seat seat items v.next it (read_item p laid items seat v a it old below read is))
+
+  pub item_served : (w : Work) → IsOfTables laid w.pass → HasServedItem (want_at items a.at) it v w → IsWork p laid items seat (record w { next = w.next + 1 })
+  item_served w of h = subst (λ (n : ℕ). IsWork p laid items seat (record w { next = n + 1 })) (sym (same_places (want_at items a.at) it v w h).1) (item_kept p laid items seat v old a.at order_here it w below read_there (read_item p laid items seat v a it old below read is) of h)

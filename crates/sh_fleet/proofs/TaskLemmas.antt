@@ -3,8 +3,8 @@ use Rattle.std.proofs.Common.{◌≡◌, ◌<◌, ◌+◌, slice_index_or, slice
 use Rattle.std.specs.Prelude.{All, Option}
 use Rattle.sh_pool.specs.Passes.{PoolTable}
 use Rattle.sh_base.specs.{declared.config.ConfigParts.{ConfigParts}, Setting.{all_seats}}
-use Rattle.sh_sheet.specs.{declared.item.Item.{Item, TheVariants.{Ask, Mark, After, Turn}}, Sheet.{IsLawfulItem}}
-use Rattle.sh_fleet.specs.{Sharing.{item_seat, AreDone, AreWorks, IsDone}, declared.{work.{Floor.{Floor}, Work.{Work}}, threads.{Serves.{Serves}, Task.{Task}}}, Tasks.{AreTasks, IsTask, IsWorkOn}}
+use Rattle.sh_sheet.specs.{declared.item.Item.{Item, TheVariants.{Ask, Mark, After, Turn}}, Sheet.{item_seat, IsLawfulItem}}
+use Rattle.sh_fleet.specs.{Sharing.{AreDone, AreWorks, IsDone}, declared.{work.{Floor.{Floor}, Work.{Work}}, threads.{Serves.{Serves}, Task.{Task}}}, Tasks.{AreTasks, IsTask, IsWorkOn}}
 
 -- what a seat's thread gives back is its work
 pub joined : (f : Floor) (seat : ℕ) (x : Serves) (r w : Work) → (x.floor ≡ f) × (x.seat ≡ seat) → IsWorkOn x.floor x.seat r → w ≡ r → IsWorkOn f seat w

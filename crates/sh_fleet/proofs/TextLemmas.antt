@@ -2,12 +2,12 @@
 use Rattle.std.{proofs.{Math.Dec.{eqb-suc-suc}, Common.{arith, refl, ℕ, zero, suc, ◌≡◌, ◌≢◌, ◌+◌, Bool, true, false, List, [], ◌∷◌, ◌++◌, map, length, drop, get_or, sym, ap, ◌∙◌, subst, add-one}, lemmas.List.{length-map, Sums.{sum_by-cons}}}, specs.{List.{sum_by}, Prelude.{◌==◌, if◌then◌else◌, filter}}}
 use Rattle.sh_map.specs.declared.book.{Done.{Done}, Row.{Row}}
 use Rattle.sh_port.proofs.Fronts.{some_last}
-use Rattle.sh_sheet.specs.{declared.item.Item.{Item, TheVariants.{Ask, Mark, After, Turn}}, Sheet.{item_calls}}
-use Rattle.sh_text.specs.Text.{call_line, call_text, calls_text, end_line}
+use Rattle.sh_sheet.specs.{declared.item.Item.{Item, TheVariants.{Ask, Mark, After, Turn}}, Sheet.{done_item, is_call, item_calls}}
+use Rattle.sh_text.specs.Text.{call_line, call_text, calls_text, end_line, end_lines, map_lines, sum_of}
 use Rattle.sh_text.specs.declared.points.Points.TheVariants as points
 use Rattle.sh_core_says.specs.Books.{calls_by}
-use Rattle.sh_fleet.{specs.{Sharing.{done_item, is_call, told_of, Told}, Served.{AreNumbered}}, proofs.OutputLemmas.{lines_same}}
-use Rattle.sh_fleet.specs.Output.{behind_first, end_lines, lines_from, map_lines, sum_of, text_from, text_of, told_lines}
+use Rattle.sh_fleet.{specs.{Sharing.{told_of, Told}, Served.{AreNumbered}}, proofs.OutputLemmas.{lines_same}}
+use Rattle.sh_fleet.specs.Output.{behind_first, lines_from, text_from, text_of, told_lines}
 
 -- without points the text of a call doesn't depend on them
 one_text : (n : ℕ) (d : Done) (ts : List Told) → d.n ≡ n → told_lines n d.seat d.call (told_of d ∷ ts) ≡ call_text points.Hidden d

@@ -1,15 +1,15 @@
 -- How a run ends, by what was written.
-use Rattle.std.{proofs.Common.{◌≡◌, ℕ, Bool, List, Option, None, sym, ap, ◌∙◌, inr}, specs.{List.{position}, Io.KnownBytes.{Appends}}}
+use Rattle.std.{proofs.Common.{◌≡◌, ℕ, Bool, List, Option, sym, ap, ◌∙◌, inr}, specs.{Io.KnownBytes.{Appends}}}
 use Rattle.sh_base.specs.declared.config.ConfigParts.{ConfigParts}
 use Rattle.sh_map.specs.declared.book.Row.{Row}
 use Rattle.sh_port.specs.{Port.{AppendsFront}, Intake.{TookAll}}
-use Rattle.sh_sheet.{specs.{declared.{item.{Item.{Item}, Mode.TheVariants.{Run}}, status.{RowCause.{RowCause, TheVariants.{NotYet, FieldCount, BadOp, TurnNotHere, BadNumber, BadSeat, BadKey, BadBounds, BadMark}}}}, Sheet.{Items, Refused, AreFew, sheet_of}}, proofs.Served.{sheet_served}}
+use Rattle.sh_sheet.{specs.{declared.{item.{Item.{Item}, Mode.TheVariants.{Run}}, status.{RowCause.{RowCause}}}, Sheet.{Items, Refused, AreFew, sheet_of}}}
 use Rattle.sh_sheet.specs.declared.status.Status.TheVariants as status
 use Rattle.sh_text.specs.{declared.write.WriteError.{WriteError}, Write.{CauseOf}}
 use Rattle.sh_text.specs.declared.write.WriteError.TheVariants as error
 use Rattle.sh_options.specs.Order.{Asked}
 use Rattle.sh_pool.specs.Pools.{PoolState}
-use Rattle.sh_fleet.{specs.{declared.answers.Answers.{Answers}, Headline.{is_later, unwritten, AreRead, IsBadRow, Ran, Read, Served}, Output.{text_from}, Served.{HasServed}, Sharing.{told_by}}, proofs.TextLemmas.{text_is}}
+use Rattle.sh_fleet.{specs.{declared.answers.Answers.{Answers}, Headline.{unwritten, AreRead, Ran, Read, Served}, Output.{text_from}, Served.{HasServed}, Sharing.{told_by}}, proofs.TextLemmas.{text_is}}
 
 module _ (p : ConfigParts) (left rest : Option (List ℕ)) (before now : ℕ) (bytes slice : List ℕ) (took : TookAll left rest before now bytes) (same : slice ≡ bytes) where
   -- what was read of the whole input
@@ -17,25 +17,12 @@ module _ (p : ConfigParts) (left rest : Option (List ℕ)) (before now : ℕ) (b
   read_of headed items reads few = record { headed = headed; read = record { bytes = bytes; took = took; reads = ap (sheet_of p Run) (sym same) ∙ reads }; few = few }
 
   -- a row that the sheet refuses
-  pub bad_row : (row : ℕ) (cause : RowCause) → sheet_of p Run slice ≡ Refused row cause → IsBadRow p left rest before now row cause
-  bad_row row cause reads = by_cause cause reads where
-    refused : (why : RowCause) → sheet_of p Run slice ≡ Refused row why → Read p left rest before now (Refused row why)
-    refused why reads = record { bytes = bytes; took = took; reads = ap (sheet_of p Run) (sym same) ∙ reads }
+  pub bad_row : (row : ℕ) (cause : RowCause) → sheet_of p Run slice ≡ Refused row cause → Read p left rest before now (Refused row cause)
+  bad_row row cause reads = record { bytes = bytes; took = took; reads = ap (sheet_of p Run) (sym same) ∙ reads }
 
-    by_cause : (why : RowCause) → sheet_of p Run slice ≡ Refused row why → IsBadRow p left rest before now row why
-    by_cause NotYet reads = absurd (sheet_served p Run slice row reads)
-    by_cause FieldCount reads = refused FieldCount reads
-    by_cause BadOp reads = refused BadOp reads
-    by_cause TurnNotHere reads = refused TurnNotHere reads
-    by_cause BadNumber reads = refused BadNumber reads
-    by_cause BadSeat reads = refused BadSeat reads
-    by_cause BadKey reads = refused BadKey reads
-    by_cause BadBounds reads = refused BadBounds reads
-    by_cause BadMark reads = refused BadMark reads
-
-module _ (o : Asked) (old new : PoolState) (left rest : Option (List ℕ)) (before now : ℕ) (held after : Option (List ℕ)) (fell fallen : ℕ) (items : List Item) (are : AreRead o.parts left rest before now items) (calls : position is_later items ≡ None) (answers : List Answers) (rows : List Row) (has : HasServed o.parts items new answers rows) where
+module _ (o : Asked) (old new : PoolState) (left rest : Option (List ℕ)) (before now : ℕ) (held after : Option (List ℕ)) (fell fallen : ℕ) (items : List Item) (are : AreRead o.parts left rest before now items) (answers : List Answers) (rows : List Row) (has : HasServed o.parts items new answers rows) where
   served : Served o left rest before now new (text_from o.map items (told_by answers) rows)
-  served = record { items = items; are = are; calls = calls; answers = answers; rows = rows; served = has; text_is = text_is o.map items has.dones (told_by answers) rows has.finished.calls has.finished.numbers has.told }
+  served = record { items = items; are = are; answers = answers; rows = rows; served = has; text_is = text_is o.map items has.dones (told_by answers) rows has.finished.calls has.finished.numbers has.told }
 
   pub ended_well : Appends held after (text_from o.map items (told_by answers) rows) → fallen ≡ fell → Ran o old new left rest before now held after fell fallen status.Ok
   ended_well wrote count = record { text = text_from o.map items (told_by answers) rows; served = served; written = wrote; count = count }

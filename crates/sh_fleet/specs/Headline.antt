@@ -1,16 +1,17 @@
 -- What a run leaves, by how it ended.
-use Rattle.std.specs.{Prelude.{ℕ, ◌≡◌, ◌⊎◌, Bool, true, false, List, Option, Some, None}, List.{position}, Io.KnownBytes.{Appends}}
+use Rattle.std.specs.{Prelude.{ℕ, ◌≡◌, ◌⊎◌, Bool, List, Option, Some, None}, Io.KnownBytes.{Appends}}
 use Rattle.sh_base.specs.declared.config.ConfigParts.{ConfigParts}
 use Rattle.sh_map.specs.declared.book.Row.{Row}
-use Rattle.sh_sheet.specs.declared.{item.{Item.{Item, TheVariants.{Mark, After}}, Mode.TheVariants.{Run}}, status.{RowCause.{RowCause, TheVariants.{NotYet}}, Status.{Status}}}
-use Rattle.sh_sheet.specs.Sheet.{Reading, Items, Refused, AreFew, IsTooMany, row_of, sheet_of}
+use Rattle.sh_sheet.specs.declared.{item.{Item.{Item}, Mode.TheVariants.{Run}}, status.{Status.{Status}}}
+use Rattle.sh_sheet.specs.Status.{IsUsage}
+use Rattle.sh_sheet.specs.Sheet.{Reading, Items, Refused, AreFew, IsTooMany, sheet_of}
 use Rattle.sh_sheet.specs.declared.status.Status.TheVariants as status
 use Rattle.sh_text.specs.declared.write.WriteError.{WriteError}
 use Rattle.sh_text.specs.declared.write.WriteError.TheVariants as error
-use Rattle.sh_port.specs.{Port.{HasRisen, AppendsFront}, Intake.{TookAll, TookSome, TookMost}}
+use Rattle.sh_port.specs.{Port.{HasRisen, AppendsFront, Unread, Unwritten}, Intake.{TookAll, TookSome, TookMost}}
 use Rattle.sh_options.specs.{Order.{Asked, order_of}, Uses.{Text}}
 use Rattle.sh_pool.specs.Pools.{PoolState}
-use Rattle.sh_fleet.specs.{declared.answers.Answers.{Answers}, Output.{text_of}, Served.{HasServed}}
+use Rattle.sh_fleet.specs.{declared.answers.Answers.{Answers}, Output.{text_of}, Served.{HasServed, HasStopped}}
 
 -- what the words ask for, where they are accepted
 abbrev pub accepted : List Text → Option Asked
@@ -34,32 +35,11 @@ pub record ReadTooMany (p : ConfigParts) (left rest : Option (List ℕ)) (before
   pub read : Read p left rest before now reading
   pub many : IsTooMany p reading
 
--- an item that isn't served yet: a mark, or an after
-abbrev pub is_later : Item → Bool
-is_later (Mark seat n) = true
-is_later (After seat n) = true
-is_later other = false
-
--- The items are lawful and not too many, and the first of them that isn't served yet is of this row.
-pub record ReadNotYet (p : ConfigParts) (left rest : Option (List ℕ)) (before now : ℕ) (row : ℕ) : Type 0 where
-  pub headed : Bool
-  pub items : List Item
-  pub read : Read p left rest before now (Items headed items)
-  pub few : AreFew p items
-  pub place : ℕ
-  pub first : position is_later items ≡ Some place
-  pub row_is : row ≡ row_of headed place
-
--- a row that is refused, by its cause; `NotYet` comes behind `TooMany`, and is no cause of the sheet's own
-abbrev pub IsBadRow : (p : ConfigParts) → (left rest : Option (List ℕ)) → (before now : ℕ) → (row : ℕ) → RowCause → Type 0
-IsBadRow p left rest before now row NotYet = ReadNotYet p left rest before now row
-IsBadRow p left rest before now row cause = Read p left rest before now (Refused row cause)
-
 -- Why there are no items.
 abbrev pub HasNoItems : (p : ConfigParts) → (left rest : Option (List ℕ)) → (before now : ℕ) → Status → Type 0
 HasNoItems p left rest before now status.ReadFault = TookSome left rest before now
 HasNoItems p left rest before now status.TooLong = TookMost left rest before now
-HasNoItems p left rest before now (status.BadRow row cause) = IsBadRow p left rest before now row cause
+HasNoItems p left rest before now (status.BadRow row cause) = Read p left rest before now (Refused row cause)
 HasNoItems p left rest before now status.TooMany = ReadTooMany p left rest before now
 HasNoItems p left rest before now status.NoMemory = now ≡ before
 HasNoItems p left rest before now s = ⊥
@@ -69,28 +49,16 @@ abbrev pub unwritten : WriteError → Status
 unwritten error.Fault = status.WriteFault
 unwritten error.NoMemory = status.NoMemory
 
--- nothing was read
-pub record Unread (left rest : Option (List ℕ)) (before now : ℕ) : Type 0 where
-  pub left_is : rest ≡ left
-  pub count : now ≡ before
-
 -- the pool is as it was, and nothing was written
 pub record Untouched (old new : PoolState) (held after : Option (List ℕ)) (fell fallen : ℕ) : Type 0 where
   pub pool : new ≡ old
-  pub sink : after ≡ held
-  pub count : fallen ≡ fell
+  pub unwritten : Unwritten held after fell fallen
 
--- nothing was written
-pub record Silent (held after : Option (List ℕ)) (fell fallen : ℕ) : Type 0 where
-  pub sink : after ≡ held
-  pub count : fallen ≡ fell
-
--- The sheet has no mark and no after. It was served: the pool is gathered, and these are its finished calls, in the sheet's
+-- The sheet was served: the pool is gathered, and these are its finished calls, in the sheet's
 -- order, and the rows of its words.
 pub record Served (o : Asked) (left rest : Option (List ℕ)) (before now : ℕ) (s : PoolState) (text : List ℕ) : Type 0 where
   pub items : List Item
   pub are : AreRead o.parts left rest before now items
-  pub calls : position is_later items ≡ None
   pub answers : List Answers
   pub rows : List Row
   pub served : HasServed o.parts items s answers rows
@@ -111,21 +79,15 @@ pub record HalfWritten (o : Asked) (new : PoolState) (left rest : Option (List �
 
 -- What a run of an order leaves. The source: the bytes that were left and that are left, and its counts of faults before
 -- and now. The sink: the bytes that it held and holds, and its counts. Where memory was wanting before the first line,
--- nothing was written, and the pool may be laid.
+-- nothing was written, and the pool is blank, laid or gathered.
 abbrev pub Ran : (o : Asked) → (old new : PoolState) → (left rest : Option (List ℕ)) → (before now : ℕ) → (held after : Option (List ℕ)) → (fell fallen : ℕ) → Status → Type 0
 Ran o old new left rest before now held after fell fallen status.Ok = Written o new left rest before now held after fell fallen
 Ran o old new left rest before now held after fell fallen status.WriteFault = HalfWritten o new left rest before now held after × HasRisen fell fallen
 Ran o old new left rest before now held after fell fallen status.NoMemory =
-    (now ≡ before) × (Silent held after fell fallen ⊎ (HalfWritten o new left rest before now held after × (fallen ≡ fell)))
+    (now ≡ before) × ((Unwritten held after fell fallen × HasStopped o.parts old new) ⊎ (HalfWritten o new left rest before now held after × (fallen ≡ fell)))
 Ran o old new left rest before now held after fell fallen status.Usage = ⊥
 Ran o old new left rest before now held after fell fallen (status.Unfinished turns) = ⊥
 Ran o old new left rest before now held after fell fallen s = HasNoItems o.parts left rest before now s × Untouched old new held after fell fallen
-
--- the words are refused, or memory is wanting
-abbrev pub IsUsage : Status → Type 0
-IsUsage status.Usage = Unit {0}
-IsUsage status.NoMemory = Unit {0}
-IsUsage s = ⊥
 
 -- Where the words give no order, nothing was read or written; where they do, the run of that order.
 abbrev pub Headline : (asked : Option Asked) → (old new : PoolState) → (left rest : Option (List ℕ)) → (before now : ℕ) → (held after : Option (List ℕ)) → (fell fallen : ℕ) → Status → Type 0

@@ -5,3 +5,5 @@ pub mod Output
 pub mod Telling
 pub mod Headline
 pub mod Complete
+pub mod Wants
+pub mod Boards

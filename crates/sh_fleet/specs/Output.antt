@@ -1,22 +1,10 @@
 -- The output of a run: the lines of each call, and the last lines.
-use Rattle.std.specs.{Prelude.{ℕ, ◌+◌, ◌<◌, ◌≤◌, ◌==◌, All, Bool, List, [], ◌∷◌, ◌++◌, drop, length, sum, if◌then◌else◌}, List.{flat_map, sum_by}}
+use Rattle.std.specs.{Prelude.{ℕ, ◌+◌, ◌<◌, ◌≤◌, ◌==◌, All, Bool, List, [], ◌∷◌, ◌++◌, drop, length, if◌then◌else◌}, List.{sum_by}}
 use Rattle.sh_map.specs.declared.{book.{Done.{Done}, Row.{Row}}, call.Call.{Call}}
-use Rattle.sh_sheet.specs.{declared.item.Item.{Item, TheVariants.{Ask}}, Sheet.{item_calls}}
-use Rattle.sh_fleet.specs.{declared.answers.Answers.{Answers}, Sharing.{item_seat, Told}, Served.{HasItsRows}}
-use Rattle.sh_text.specs.Text.{call_text, calls_text, end_line, map_line}
+use Rattle.sh_sheet.specs.{declared.item.Item.{Item, TheVariants.{Ask}}, Sheet.{item_calls, item_seat}}
+use Rattle.sh_fleet.specs.{declared.answers.Answers.{Answers}, Sharing.{Told}, Served.{HasItsRows}}
+use Rattle.sh_text.specs.Text.{call_text, calls_text, end_lines}
 use Rattle.sh_text.specs.declared.points.Points.TheVariants as points
-
--- the sum of all words of all values
-abbrev pub sum_of : List Row → ℕ
-sum_of rows = sum_by (λ (r : Row). sum r.value) rows
-
--- a line for each key, where the map is asked for
-abbrev pub map_lines : (asked : Bool) → List Row → List ℕ
-map_lines asked rows = if asked then flat_map map_line rows else []
-
--- the lines behind the calls' lines: the map, the numbers of calls and keys, and the sum of all words of the keys' values
-abbrev pub end_lines : (asked : Bool) → (calls : ℕ) → List Row → List ℕ
-end_lines asked calls rows = map_lines asked rows ++ end_line calls (length rows) (sum_of rows)
 
 -- the output for these finished calls, and the rows that the words hold
 unfoldable pub text_of : (asked : Bool) → List Done → List Row → List ℕ

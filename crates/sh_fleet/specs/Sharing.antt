@@ -1,35 +1,18 @@
 -- How a sheet's items are shared out among the seats, and what a seat's work has come to.
-use Rattle.std.specs.{Prelude.{◌≡◌, ℕ, zero, suc, ◌+◌, ◌≤◌, ◌==◌, Bool, true, false, Option, Some, List, [], ◌∷◌, ◌++◌, drop, filter, length, map, slice_get, take, vec_capacity}, List.{sum_by}}
+use Rattle.std.specs.{Prelude.{◌≡◌, ℕ, zero, suc, ◌+◌, ◌≤◌, ◌==◌, Option, Some, List, [], ◌∷◌, ◌++◌, drop, filter, length, map, slice_get, take, vec_capacity}, List.{sum_by, AllByRecursion}}
 use Rattle.sh_base.specs.declared.config.ConfigParts.{ConfigParts}
 use Rattle.sh_map.specs.declared.{book.{Done.{Done}, Row.{Row}}, call.{Call.{Call}, Reply.{Reply}}}
 use Rattle.sh_client.specs.Rests.{rows_told as machine_rows}
-use Rattle.sh_sheet.specs.{declared.item.Item.{Item, TheVariants.{Ask, Mark, After, Turn}}, Sheet.{item_calls, rows_of}}
-use Rattle.sh_pool.specs.{Calls.{HasServed}, Passes.{pass_actor, PoolTable, Standing}, Pools.{IsReady}}
-use Rattle.sh_pool_rule.specs.Views.{view_seat}
+use Rattle.sh_sheet.specs.{declared.item.Item.{Item, TheVariants.{Ask, Mark, After, Turn}}, Sheet.{done_item, is_call, item_calls, item_seat, rows_of}}
+use Rattle.sh_pool.specs.{Calls.{HasServed}, Cards.{HasLearnt}, Passes.{pass_actor, PoolTable, Standing}, Pools.{IsReady}}
+use Rattle.sh_pool_rule.specs.{declared.view.Card.{Card}, Views.{view_seat}}
+use Rattle.sh_fleet.specs.{Boards.{AreHeard, IsCardFor, Stays}, Wants.{heeds_of, is_after, Want}}
 use Rattle.sh_fleet.specs.declared.answers.{Answer.{Answer}, Answers.{Answers}}
 use Rattle.sh_fleet.specs.declared.{sharing.Share.{Share}, work.{Place.{Place}, Work.{Work}}}
-
--- an item's seat
-abbrev pub item_seat : Item → ℕ
-item_seat (Ask seat call) = seat
-item_seat (Mark seat n) = seat
-item_seat (After seat n) = seat
-item_seat (Turn seat count) = seat
-
--- an item is a call
-abbrev pub is_call : Item → Bool
-is_call (Ask seat call) = true
-is_call (Mark seat n) = false
-is_call (After seat n) = false
-is_call (Turn seat count) = false
 
 -- the items of a seat, in their order
 abbrev pub items_of : (seat : ℕ) → List Item → List Item
 items_of seat items = filter (λ (item : Item). item_seat item == seat) items
-
--- a finished call, as the item that asks for it
-abbrev pub done_item : Done → Item
-done_item d = Ask d.seat d.call
 
 -- what a finished call was told: its reply and its rows
 pub record Told : Type 0 where
@@ -65,6 +48,16 @@ told_by (a ∷ more) (suc seat) = told_by more seat
 abbrev pub ArePlaces : List Item → (mine : List Item) → List Place → Type 0
 ArePlaces items mine places = map (λ (a : Place). slice_get items a.at) places ≡ map (λ (item : Item). Some item) mine
 
+-- each place has before it, of its seat, just the items of the places before
+abbrev pub AreOrdered : List Item → (seat : ℕ) → (mine : List Item) → List Place → Type 0
+AreOrdered items seat mine places = (i : ℕ) (a : Place) → slice_get places i ≡ Some a → items_of seat (take a.at items) ≡ take i mine
+
+-- What the pass has learnt at its seat's first items: each after's note, and no more than it has seen now.
+pub record HasLearned (items : List Item) (seat next : ℕ) (p : Standing) : Type 0 where
+  pub heard : AreHeard (heeds_of seat items) p.view.cards (pass_actor p).dones
+  pub count : length p.view.cards ≡ length (filter is_after (take next (items_of seat items)))
+  pub within : AllByRecursion (λ (c : Card). c.seen ≤ length p.view.seen) p.view.cards
+
 -- there is room for the answers of these items
 pub record HasRoom (p : ConfigParts) (rest : List Item) (a : Answers) : Type 0 where
   pub replies : length a.replies.items + sum_by item_calls rest ≤ vec_capacity a.replies
@@ -76,7 +69,9 @@ pub record IsWork (p : ConfigParts) (laid : Option PoolTable) (items : List Item
   pub ready : IsReady p laid w.pass
   pub seat_is : view_seat w.pass.view ≡ seat
   pub places : ArePlaces items (items_of seat items) w.places.items
+  pub order : AreOrdered items seat (items_of seat items) w.places.items
   pub next : w.next ≤ length w.places.items
+  pub heard : HasLearned items seat w.next w.pass
   pub calls : map done_item (pass_actor w.pass).dones ≡ filter is_call (take w.next (items_of seat items))
   pub told : map told_of (pass_actor w.pass).dones ≡ answers_of w.answers
   pub counted : rows_told w.answers.replies.items ≡ length w.answers.rows.items
@@ -100,6 +95,7 @@ AreDone p laid items seat (w ∷ ws) = IsDone p laid items seat w × AreDone p l
 -- have.
 pub record IsShare (p : ConfigParts) (items front : List Item) (seat : ℕ) (s : Share) : Type 0 where
   pub places : ArePlaces items (items_of seat front) s.places.items
+  pub order : AreOrdered items seat (items_of seat front) s.places.items
   pub calls : s.calls ≡ sum_by item_calls (items_of seat front)
   pub rows : s.rows ≡ sum_by (rows_of p) (items_of seat front)
 
@@ -123,7 +119,7 @@ pub record IsGiven (p : ConfigParts) (at n : ℕ) (item : Item) (s t : Share) : 
 -- the passes of all seats from this one on, none of which has served a call
 abbrev pub AreUnused : ConfigParts → Option PoolTable → (seat : ℕ) → List Standing → Type 0
 AreUnused p laid seat [] = Unit {0}
-AreUnused p laid seat (q ∷ qs) = IsReady p laid q × (view_seat q.view ≡ seat) × ((pass_actor q).dones ≡ []) × AreUnused p laid (suc seat) qs
+AreUnused p laid seat (q ∷ qs) = IsReady p laid q × (view_seat q.view ≡ seat) × ((pass_actor q).dones ≡ []) × (q.view.cards ≡ []) × AreUnused p laid (suc seat) qs
 
 -- the work of a pass that has served none of its share, with room for all of it
 pub record IsBegun (q : Standing) (s : Share) (w : Work) : Type 0 where
@@ -146,9 +142,22 @@ pub record HasAsked (call : Call) (v w : Work) : Type 0 where
   pub places : w.places.items ≡ v.places.items
   pub next : w.next ≡ v.next
 
--- the item was served: a call is asked, and any other item changes nothing
-abbrev pub HasServedItem : Item → Work → Work → Type 0
-HasServedItem (Ask seat call) v w = HasAsked call v w
-HasServedItem (Mark seat n) v w = w ≡ v
-HasServedItem (After seat n) v w = w ≡ v
-HasServedItem (Turn seat count) v w = w ≡ v
+-- but for its pass the work is as it was
+pub record KeepsRest (v w : Work) : Type 0 where
+  pub answers : w.answers ≡ v.answers
+  pub places : w.places.items ≡ v.places.items
+  pub next : w.next ≡ v.next
+
+-- The work's pass has learnt a note, as it was wanted.
+pub record HasHeeded (want : Want) (v w : Work) : Type 0 where
+  pub note : Card
+  pub card : IsCardFor want note
+  pub learnt : HasLearnt note v.pass w.pass
+  pub rest : KeepsRest v w
+
+-- the item was served: a call is asked; at a mark the pass stays as it was, and at an after it has learnt this
+abbrev pub HasServedItem : (want : Want) → Item → Work → Work → Type 0
+HasServedItem want (Ask seat call) v w = HasAsked call v w
+HasServedItem want (Mark seat n) v w = Stays v.pass w.pass × KeepsRest v w
+HasServedItem want (After seat n) v w = HasHeeded want v w
+HasServedItem want (Turn seat count) v w = w ≡ v

@@ -1,14 +1,14 @@
 // What the headline means for a caller.
 ghost use Rattle.std.specs.Prelude.{ℕ, List, Option, map};
-ghost use Rattle.sh_sheet.specs.declared.status.Status.{Status};
+ghost use Rattle.sh_sheet.specs.{declared.status.Status.{Status}, Status.{IsNoFault}};
 ghost use Rattle.sh_options.specs.Order.{Asked};
 ghost use Rattle.sh_pool.specs.Pools.{PoolState, IsBlankPool};
-ghost use Rattle.sh_fleet.specs.{Headline.{accepted, Headline}, Complete.{IsFree, EndsWell, IsNoFault}};
+ghost use Rattle.sh_fleet.specs.{Headline.{accepted, Headline}, Complete.{IsFree, EndsWell}};
 
-use crate::{Gate, run_top};
+use crate::run_top;
 use sh_pool::Pool;
 use sh_port::{Sink, Source, SureSink, SureSource};
-use sh_sheet::Status;
+use sh_sheet::{Gate, Status};
 use std::alloc::Global;
 use std::marker::Sync;
 use std::sync::Wait;

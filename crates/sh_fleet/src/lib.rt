@@ -2,8 +2,8 @@
 #![tactic(auto)]
 
 mod answers;
+mod board;
 mod cursor;
-mod gate;
 mod laws;
 mod output;
 mod seat;
@@ -14,10 +14,11 @@ mod top;
 mod work;
 
 pub use answers::{Answer, Answers};
+pub use board::{Board, Naming};
 pub use cursor::Cursor;
-pub use gate::{Free, Gate};
 pub use laws::{run_laws, run_sure};
 pub use sh_pool::Pool;
+pub use sh_sheet::{Free, Gate};
 pub use sharing::Share;
 pub use threads::{Serves, Task};
 pub use top::run_top;

@@ -1,19 +1,18 @@
 // The lines of a run.
 ghost use Rattle.std.specs.{Prelude.{◌≡◌, ◌+◌, ◌<◌, ◌≤◌, ◌*◌, ◌^◌, ℕ, IfOk, MatchResult, OnOk, OnErr, length, replicate, sum, ◌++◌}, List.{flat_map, sum_by}, Io.KnownBytes.{Appends}};
 ghost use Rattle.sh_port.specs.Port.{AppendsFront};
-ghost use Rattle.sh_sheet.specs.Sheet.{item_calls};
+ghost use Rattle.sh_sheet.specs.Sheet.{item_calls, item_seat};
 ghost use Rattle.sh_text.specs.{Text.{call_line, row_line}, Write.{CauseOf, HasWriteCause}};
 ghost use Rattle.sh_text.specs.declared.points.Points.TheVariants as points;
-ghost use Rattle.sh_fleet.specs.Output.{end_lines, item_behind, item_lines, lines_from, map_lines, number_behind, sum_of, text_from, told_lines, IsEnough};
-ghost use Rattle.sh_fleet.specs.{Sharing.{item_seat, told_by}, Telling.{at_first, behind, rest_at, rest_by, AreAt, IsAt}};
+ghost use Rattle.sh_fleet.specs.Output.{item_behind, item_lines, lines_from, number_behind, text_from, told_lines, IsEnough};
+ghost use Rattle.sh_fleet.specs.{Sharing.{told_by}, Telling.{at_first, behind, rest_at, rest_by, AreAt, IsAt}};
 
 use crate::answers::Answers;
 use crate::cursor::Cursor;
-use sh_base::Value;
 use sh_map::{Call, Row};
 use sh_port::Sink;
 use sh_sheet::Item;
-use sh_text::{Finished, Points, WriteError, write_end, write_finished, write_map, write_row};
+use sh_text::{Finished, Points, WriteError, write_end_lines, write_finished, write_rows};
 use std::alloc::{AllocError, Global};
 
 // Where a seat is behind its next answer.
@@ -28,21 +27,6 @@ fn behind(answers: &Answers, at: Cursor) -> Cursor
         },
         None => at,
     }
-}
-
-// Writes the lines of the rows of call `n`.
-fn write_rows<K: Sink>(alloc: Global, sink: &mut K, n: u32, rows: &[Row]) -> Result<(), WriteError>
-    ensures ok { OnOk result (Appends (K.held sink.old) (K.held sink.new) (flat_map (row_line n) rows.now)) }
-    ensures err { OnErr result (AppendsFront (K.held sink.old) (K.held sink.new) (flat_map (row_line n) rows.now)) }
-    ensures cause { HasWriteCause (K.faults sink.old) (K.faults sink.new) result }
-{
-    for row in rows {
-        match write_row(alloc, sink, n, row) {
-            Ok(()) => {}
-            Err(error) => return Err(error),
-        }
-    }
-    Ok(())
 }
 
 // Writes the line of a call, and behind it those of its rows.
@@ -155,68 +139,6 @@ fn write_items<K: Sink>(
         n = number_behind(n, item);
     }
     Ok(n - 1)
-}
-
-// The sum of a value's words.
-fn sum_of_value(value: &Value) -> u128
-    ensures sum { result ≡ sum value.now }
-    ensures small { result ≤ 8 * 2 ^ 64 }
-{
-    let words = value.words();
-    let mut total = 0;
-    for index in 0..value.len() {
-        total += u128::from(words[index]);
-    }
-    total
-}
-
-// The sum of all words of the rows' values. Condition: there are at most 2^32 rows.
-fn sum_of(rows: &[Row]) -> u128
-    requires { length rows.now ≤ 4294967296 }
-    ensures { result ≡ sum_of rows.now }
-{
-    let mut total = 0;
-    for row in rows {
-        total += sum_of_value(&row.value);
-    }
-    total
-}
-
-// Writes the map, where it is asked for.
-fn write_map_lines<K: Sink>(
-    alloc: Global,
-    sink: &mut K,
-    asked: bool,
-    rows: &[Row],
-) -> Result<(), WriteError>
-    ensures ok { OnOk result (Appends (K.held sink.old) (K.held sink.new) (map_lines asked rows.now)) }
-    ensures err { OnErr result (AppendsFront (K.held sink.old) (K.held sink.new) (map_lines asked rows.now)) }
-    ensures cause { HasWriteCause (K.faults sink.old) (K.faults sink.new) result }
-{
-    if asked {
-        write_map(alloc, sink, rows)
-    } else {
-        Ok(())
-    }
-}
-
-// Writes the lines behind the calls' lines.
-fn write_end_lines<K: Sink>(
-    alloc: Global,
-    sink: &mut K,
-    asked: bool,
-    calls: u64,
-    rows: &[Row],
-) -> Result<(), WriteError>
-    requires { length rows.now ≤ 4294967296 }
-    ensures ok { OnOk result (Appends (K.held sink.old) (K.held sink.new) (end_lines asked calls rows.now)) }
-    ensures err { OnErr result (AppendsFront (K.held sink.old) (K.held sink.new) (end_lines asked calls rows.now)) }
-    ensures cause { HasWriteCause (K.faults sink.old) (K.faults sink.new) result }
-{
-    match write_map_lines(alloc, sink, asked, rows) {
-        Ok(()) => write_end(alloc, sink, calls, rows.len() as u64, sum_of(rows)),
-        Err(error) => Err(error),
-    }
 }
 
 // Writes the lines of a run, of which nothing was told yet.

@@ -1,18 +1,19 @@
 // A seat serves its items.
-ghost use Rattle.std.specs.Prelude.{◌≡◌, ◌<◌, ◌≤◌, ◌+◌, ◌∷◌, [], length, suc, true, All, vec_capacity, vec_len, slice_index_or};
+ghost use Rattle.std.specs.Prelude.{◌≡◌, ◌<◌, ◌≤◌, ◌+◌, ◌∷◌, [], length, slice_get, suc, true, All, Some, vec_capacity, vec_len, slice_index_or};
 ghost use Rattle.sh_base.specs.Parts.{parts_of};
 ghost use Rattle.sh_map.specs.Calls.{IsInRange};
 ghost use Rattle.sh_sheet.specs.{Sheet.{rows_of, IsLawfulItem}, declared.item.Item.TheVariants.{Ask}};
 ghost use Rattle.sh_client.specs.Rests.{is_resting};
 ghost use Rattle.sh_pool.specs.{Calls.{HasServed}, Pools.{IsOfPool, IsReady}};
-ghost use Rattle.sh_fleet.specs.Sharing.{HasAsked, HasRoom, HasServedItem, IsDone, IsWork};
+ghost use Rattle.sh_fleet.specs.{Boards.{want_at, IsAfter, IsMaker, IsMark, IsNoteFor, Stays, StandsAt}, Sharing.{HasAsked, HasHeeded, HasRoom, HasServedItem, IsDone, IsWork, KeepsRest}};
 
-use crate::Gate;
+use crate::board::{Board, Naming};
 use crate::work::{Floor, Place, Work};
 use sh_map::{Call, Reply};
-use sh_pool::{Pass, Pool};
-use sh_sheet::Item;
-use std::sync::Wait;
+use sh_pool::{Note, Pass, Pool};
+use sh_sheet::{Gate, Item};
+use std::sync::{Mutex, Wait};
+use std::thread::yield_now;
 
 // The item at a place. Condition: there is one.
 fn item_at(items: &[Item], at: usize) -> &Item
@@ -36,6 +37,20 @@ fn serve_call<R: Wait>(rt: &R, pool: &Pool, pass: &mut Pass, call: &Call) -> Rep
         Call::Del { key } => pass.del(rt, pool, *key),
         Call::Range { low, high } => pass.range(rt, pool, *low, *high),
     }
+}
+
+// Waits for the note of the after at this place of the sheet.
+fn await_note<R: Wait, N: Naming>(rt: &R, board: &Mutex<Board<N>>, at: usize) -> Note
+    requires { IsAfter (slice_get N.items at) }
+    ensures { IsNoteFor N.laid (want_at N.items at) result }
+{
+    for _ in rt.forever() {
+        if let Some(note) = board.lock(rt).take(at) {
+            return note;
+        }
+        yield_now();
+    }
+    unreachable!()
 }
 
 impl Work {
@@ -64,31 +79,72 @@ impl Work {
         self.answers.add(reply, self.pass.rows_told());
     }
 
-    // Serves an item of the seat.
-    fn serve_item<R: Wait, G: Gate>(
+    // Lays the seat's notes for the mark at this place of the sheet.
+    fn mark<R: Wait, N: Naming>(&mut self, rt: &R, pool: &Pool, board: &Mutex<Board<N>>, at: usize)
+        requires of { IsOfPool pool.now self.old.pass }
+        requires rests { is_resting self.old.pass.client ≡ true }
+        requires laid { pool.now.laid ≡ N.laid }
+        requires mark { IsMark (slice_get N.items at) }
+        requires maker { IsMaker (want_at N.items at) self.old.pass }
+        ensures of { IsOfPool pool.now self.new.pass }
+        ensures stays { Stays self.old.pass self.new.pass }
+        ensures rest { KeepsRest self.old self.new }
+    {
+        board.lock(rt).lay(pool, &mut self.pass, at);
+    }
+
+    // Learns the note for the after at this place of the sheet.
+    fn heed<R: Wait, N: Naming>(&mut self, rt: &R, pool: &Pool, board: &Mutex<Board<N>>, at: usize)
+        requires of { IsOfPool pool.now self.old.pass }
+        requires rests { is_resting self.old.pass.client ≡ true }
+        requires laid { pool.now.laid ≡ N.laid }
+        requires after { IsAfter (slice_get N.items at) }
+        ensures of { IsOfPool pool.now self.new.pass }
+        ensures heeded { HasHeeded (want_at N.items at) self.old self.new }
+    {
+        let note = await_note(rt, board, at);
+        self.pass.learn(pool, note);
+    }
+
+    // Serves the item of the seat at a place of the sheet.
+    fn serve_item<R: Wait, N: Naming, G: Gate>(
         &mut self,
         rt: &R,
         pool: &Pool,
+        board: &Mutex<Board<N>>,
         gate: &G,
         seat: u32,
-        n: u32,
+        place: Place,
         item: &Item,
     )
+        requires laid { pool.now.laid ≡ N.laid }
+        requires here { slice_get N.items place.at ≡ Some item.now }
+        requires stands { StandsAt (want_at N.items place.at) item.now self.old.pass }
         requires ready { IsReady self.old.pass.client.setting pool.now.laid self.old.pass }
         requires lawful { IsLawfulItem self.old.pass.client.setting item.now }
         requires room { HasRoom self.old.pass.client.setting (item.now ∷ []) self.old.answers }
         requires rows { self.old.pass.client.setting.rows ≤ 4096 }
         ensures ready { IsOfPool pool.now self.new.pass }
-        ensures served { HasServedItem item.now self.old self.new }
+        ensures served { HasServedItem (want_at N.items place.at) item.now self.old self.new }
     {
         match item {
-            Item::Ask { call, .. } => self.ask(rt, pool, gate, seat, n, call),
-            Item::Mark { .. } | Item::After { .. } | Item::Turn { .. } => {}
+            Item::Ask { call, .. } => self.ask(rt, pool, gate, seat, place.n, call),
+            Item::Mark { .. } => self.mark(rt, pool, board, place.at),
+            Item::After { .. } => self.heed(rt, pool, board, place.at),
+            Item::Turn { .. } => {}
         }
     }
 
     // Serves the next item of the seat. Condition: there is one.
-    fn serve_next<R: Wait, G: Gate>(&mut self, rt: &R, floor: &Floor, gate: &G, seat: u32)
+    fn serve_next<R: Wait, N: Naming, G: Gate>(
+        &mut self,
+        rt: &R,
+        floor: &Floor,
+        board: &Mutex<Board<N>>,
+        gate: &G,
+        seat: u32,
+    )
+        requires named { (floor.now.pool.now.laid ≡ N.laid) × (floor.now.items.now ≡ N.items) }
         requires lawful { All (IsLawfulItem (parts_of floor.now.cfg.now)) floor.now.items.now }
         requires next { self.old.next < length self.old.places.items }
         requires work { IsWork (parts_of floor.now.cfg.now) floor.now.pool.now.laid floor.now.items.now seat self.old }
@@ -96,31 +152,48 @@ impl Work {
         ensures next { self.new.next ≡ suc self.old.next }
         ensures places { self.new.places.items ≡ self.old.places.items }
     {
-        let Place { at, n } = self.places[self.next];
+        let place = self.places[self.next];
         let _rows = floor.cfg.parts();
-        self.serve_item(rt, floor.pool, gate, seat, n, item_at(floor.items, at));
+        let item = item_at(floor.items, place.at);
+        self.serve_item(rt, floor.pool, board, gate, seat, place, item);
         self.next += 1;
     }
 
     // Serves the next item of the seat, where there is one.
-    pub(crate) fn step<R: Wait, G: Gate>(&mut self, rt: &R, floor: &Floor, gate: &G, seat: u32)
+    pub(crate) fn step<R: Wait, N: Naming, G: Gate>(
+        &mut self,
+        rt: &R,
+        floor: &Floor,
+        board: &Mutex<Board<N>>,
+        gate: &G,
+        seat: u32,
+    )
+        requires named { (floor.now.pool.now.laid ≡ N.laid) × (floor.now.items.now ≡ N.items) }
         requires lawful { All (IsLawfulItem (parts_of floor.now.cfg.now)) floor.now.items.now }
         requires work { IsWork (parts_of floor.now.cfg.now) floor.now.pool.now.laid floor.now.items.now seat self.old }
         ensures work { IsWork (parts_of floor.now.cfg.now) floor.now.pool.now.laid floor.now.items.now seat self.new }
     {
         if self.next < self.places.len() {
-            self.serve_next(rt, floor, gate, seat);
+            self.serve_next(rt, floor, board, gate, seat);
         }
     }
 
     // Serves all items of the seat that are left.
-    pub(crate) fn finish<R: Wait, G: Gate>(&mut self, rt: &R, floor: &Floor, gate: &G, seat: u32)
+    pub(crate) fn finish<R: Wait, N: Naming, G: Gate>(
+        &mut self,
+        rt: &R,
+        floor: &Floor,
+        board: &Mutex<Board<N>>,
+        gate: &G,
+        seat: u32,
+    )
+        requires named { (floor.now.pool.now.laid ≡ N.laid) × (floor.now.items.now ≡ N.items) }
         requires lawful { All (IsLawfulItem (parts_of floor.now.cfg.now)) floor.now.items.now }
         requires work { IsWork (parts_of floor.now.cfg.now) floor.now.pool.now.laid floor.now.items.now seat self.old }
         ensures done { IsDone (parts_of floor.now.cfg.now) floor.now.pool.now.laid floor.now.items.now seat self.new }
     {
         while self.next < self.places.len() {
-            self.serve_next(rt, floor, gate, seat);
+            self.serve_next(rt, floor, board, gate, seat);
         }
     }
 }

@@ -2,9 +2,9 @@
 ghost use Rattle.std.specs.Prelude.{◌≡◌, ◌<◌, ◌≤◌, All, IfOk, OnOk, [], length, map, vec_capacity, vec_len};
 ghost use Rattle.std.specs.List.{sum_by, AllByRecursion};
 ghost use Rattle.sh_base.specs.{Parts.{parts_of}, Setting.{all_seats}};
-ghost use Rattle.sh_sheet.specs.Sheet.{item_calls, rows_of, AreFew, IsLawfulItem};
+ghost use Rattle.sh_sheet.specs.Sheet.{item_calls, item_seat, rows_of, AreFew, IsLawfulItem};
 ghost use Rattle.sh_pool.specs.Pools.{AreLaidFor, AreReady};
-ghost use Rattle.sh_fleet.specs.Sharing.{item_seat, AreShares, AreWorks, IsBegun, IsGiven, IsNoShare};
+ghost use Rattle.sh_fleet.specs.Sharing.{AreShares, AreWorks, IsBegun, IsGiven, IsNoShare};
 
 use crate::answers::Answers;
 use crate::work::{Place, Work};

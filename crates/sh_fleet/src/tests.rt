@@ -83,8 +83,8 @@ fn words_and_rows_that_are_refused(rt: HostRuntime) -> Result<(), Fail> {
             &rt,
             alloc,
             none,
-            "get,0,5,\nmark,0,1,",
-            bad(2, RowCause::NotYet)
+            "mark,0,1,\nafter,0,2,",
+            bad(2, RowCause::BadMark)
         )?
     );
     Ok(())
@@ -124,5 +124,25 @@ fn a_sink_that_fails_at_each_write(rt: HostRuntime) -> Result<(), Fail> {
         let front = LINES.as_bytes().starts_with(ended.written.as_slice());
         assert!(rt; ended.status == Status::WriteFault && front && ended.words > 0);
     }
+    Ok(())
+}
+
+#[test]
+fn a_call_behind_an_after_sees_what_came_before_its_mark(rt: HostRuntime) -> Result<(), Fail> {
+    let sheet = "put,0,5,50\nmark,0,1,\nafter,1,1,\nget,1,5,\n";
+    let lines = "1,0,put,5,50,none,\n2,1,get,5,,some,50\nend,2,1,50\n";
+    let ended = run_in_pieces(&rt, rt.alloc(), &[], sheet, 4096, 0, 0)?;
+    assert!(rt; ended.status == Status::Ok && ended.written.as_slice() == lines.as_bytes());
+    Ok(())
+}
+
+#[test]
+fn seats_that_wait_for_one_mark_and_pass_it_on(rt: HostRuntime) -> Result<(), Fail> {
+    let sheet =
+        "put,7,5,50\nmark,7,1,\nafter,0,1,\nget,0,5,\nafter,1,1,\nput,1,6,60\nmark,1,2,\nafter,2,2,\nget,2,5,\nget,2,6,\n";
+    let lines =
+        "1,7,put,5,50,none,\n2,0,get,5,,some,50\n3,1,put,6,60,none,\n4,2,get,5,,some,50\n5,2,get,6,,some,60\nend,5,2,110\n";
+    let ended = run_in_pieces(&rt, rt.alloc(), &[], sheet, 4096, 0, 0)?;
+    assert!(rt; ended.status == Status::Ok && ended.written.as_slice() == lines.as_bytes());
     Ok(())
 }

@@ -1,5 +1,5 @@
 use Rattle.std.proofs.Common.{◌<◌, length, arith, subst}
-use Rattle.sh_fleet.specs.Sharing.{item_seat}
+use Rattle.sh_sheet.specs.Sheet.{item_seat}
 use Rattle.sh_fleet.proofs.OutputLemmas.{at_seat, at_set, rest_set, same_long}
 use Rattle.sh_fleet.proofs.output.write_item.Goals as goal
 

@@ -9,8 +9,8 @@ gather-requires g c =
     let long : length c.in_ok-works-2.works.items ≡ all_seats (parts_of c.args.cfg.now) = omega (arith, done.0, c.in_ok-works-2.works.ok.0) in
     done_passes _ _ _ _ done.1 long _ _ c.in_ok-passes.ensures.ok c.split-passes.ensures.passes
 
-pub returns : goal.returns
-returns g c =
+pub returns-clause-ok : goal.returns-clause-ok
+returns-clause-ok g c =
     let done = c.in_ok-works-2.ensures in
     let long : length c.in_ok-works-2.works.items ≡ all_seats (parts_of c.args.cfg.now) = omega (arith, done.0, c.in_ok-works-2.works.ok.0) in
     served _ _ _ _ c.requires.lawful c.requires.few done.1 long _ _ _ _ _ _ c.in_ok-passes.ensures.ok c.split-passes.ensures.passes c.split-passes.ensures.answers c.in-Ok.ensures.gathered c.words.ensures c.in_ok-rows.ensures

@@ -1,5 +1,5 @@
 -- How far the nodes of a pool are written.
-use Rattle.std.proofs.Common.{◌≡◌, ℕ, suc, ◌+◌, ◌-◌, ◌*◌, ◌^◌, ◌<◌, ◌≤◌, List, ◌++◌, length, take, drop, replicate, refl, sym, ap, subst, ◌∙◌, arith}
+use Rattle.std.proofs.Common.{rules, ◌≡◌, ℕ, suc, ◌+◌, ◌-◌, ◌*◌, ◌^◌, ◌<◌, ◌≤◌, List, ◌++◌, length, take, drop, replicate, refl, sym, ap, subst, ◌∙◌, arith}
 use Rattle.std.{specs.Prelude.{slice_index}, proofs.{Math.Nat.{mul-le-mul_right}, lemmas.{Nat.{mul-le}, List.{drop-drop, drop-replicate, drop_at, ext_get_or, length-replicate, replicate-append-replicate, take-append-drop, take-replicate, take_at}}}}
 use Rattle.std.proofs.lemmas.Slice.{take-put_mid, drop-put_mid}
 use borrow.Rule.Slice.PartMut.{put_mid}

@@ -94,15 +94,10 @@ module _ (p : ConfigParts) (lawful : IsSetting p) (rows : List Row) (good : AreG
   long_level level le j ge lt = words_long p lawful rows good values room level j le (omega arith)
 
   pub length-words_to : (level : ℕ) → level ≤ height_of p (length rows) → length (words_to p rows level) + node_size p ≡ first_in p (length rows) (suc level) * node_size p
-  length-words_to zero le =
-      let level = length-pieces (words_at p rows 0) (node_size p) 0 (count_in p (length rows) 0) (long_level 0 le) in
-      let step : (1 + count_in p (length rows) 0) * node_size p ≡ count_in p (length rows) 0 * node_size p + node_size p = grind arith in
-      omega (arith, level, step)
+  length-words_to zero le = search (rules, length-pieces, long_level, le)
   length-words_to (suc t) le =
       let before = length-words_to t (omega arith) in
-      let level = length-pieces (words_at p rows (suc t)) (node_size p) 0 (count_in p (length rows) (suc t)) (long_level (suc t) le) in
-      let step : (first_in p (length rows) (suc t) + count_in p (length rows) (suc t)) * node_size p ≡ first_in p (length rows) (suc t) * node_size p + count_in p (length rows) (suc t) * node_size p = grind arith in
-      omega (arith, before, level, step, length-append (words_to p rows t) (level_words p rows (suc t)))
+      search (rules, length-pieces, long_level, le, before, length-append)
 
   -- the nodes of a level have smaller numbers than those of the levels above
   up_to : (l s : ℕ) → l ≤ s → first_in p (length rows) l + count_in p (length rows) l ≤ first_in p (length rows) (suc s)
@@ -134,9 +129,7 @@ module _ (p : ConfigParts) (lawful : IsSetting p) (rows : List Row) (good : AreG
   -- a node's words among those of the levels up to t
   node_cut : (t level j at : ℕ) → t ≤ height_of p (length rows) → level ≤ t → j < count_in p (length rows) level → at + 1 ≡ first_in p (length rows) level + j
       → take (node_size p) (drop (at * node_size p) (words_to p rows t)) ≡ words_at p rows level j
-  node_cut zero zero j at le lt h e =
-      let same : at ≡ j = omega arith in
-      ap (λ i. take (node_size p) (drop (i * node_size p) (words_to p rows 0))) same ∙ piece_cut (words_at p rows 0) (node_size p) j (count_in p (length rows) 0) h (long_level 0 le)
+  node_cut zero zero j at le lt h e = search (rules, at, piece_cut, long_level, le)
   node_cut zero (suc level) j at le lt h e = absurd (omega arith)
   node_cut (suc t) level j at le lt h e = elim (cases_eq level (suc t)) [
     | inl same ↦ last t j at le (subst (λ l. j < count_in p (length rows) l) same h) (subst (λ l. at + 1 ≡ first_in p (length rows) l + j) same e) ∙ ap (λ l. words_at p rows l j) (sym same)
@@ -218,9 +211,6 @@ module _ (p : ConfigParts) (lawful : IsSetting p) (rows : List Row) (good : AreG
   unfolding words_at
   inner_is level j le h = ap inner_in (node_at (suc level) j le h) ∙ inner_in-inner_words p (inner_of p rows level j)
 
-  child_good : (level j i : ℕ) → suc level ≤ height_of p (length rows) → i < length (inner_of p rows level j).pairs → IsChildIn p words (range_with_len (first_in p (length rows) level) (count_in p (length rows) level)) (get_or (inner_of p rows level j).pairs i no_pair)
-  child_good level j i le lt = search (rules, pairs_many, pair_is, in_range, low_is)
-
   inner_good : (level : ℕ) → suc level ≤ height_of p (length rows) → (k : ℕ) → first_in p (length rows) (suc level) ≤ k → k < first_in p (length rows) (suc level) + count_in p (length rows) (suc level)
       → IsInnerOf p words (suc level) (range_with_len (first_in p (length rows) level) (count_in p (length rows) level)) k
   unfolding words_at
@@ -234,7 +224,7 @@ module _ (p : ConfigParts) (lawful : IsSetting p) (rows : List Row) (good : AreG
         spelled = subst (SpellsInner p (node_part p words (first_in p (length rows) (suc level) + j))) (sym is) spelled;
         level_is = ap (λ a. a.level) is;
         children = subst (λ a. AllByRecursion (IsChildIn p words (range_with_len (first_in p (length rows) level) (count_in p (length rows) level))) a.pairs) (sym is)
-            (from_each _ no_pair (inner_of p rows level j).pairs (λ i i_lt. child_good level j i le i_lt));
+            (from_each _ no_pair (inner_of p rows level j).pairs (λ i i_lt. search (rules, pairs_many, pair_is, in_range, low_is)));
       })
 
   inners : (level : ℕ) → suc level ≤ height_of p (length rows) → AllByRecursion (IsInnerOf p words (suc level) (range_with_len (first_in p (length rows) level) (count_in p (length rows) level))) (range_with_len (first_in p (length rows) (suc level)) (count_in p (length rows) (suc level)))
@@ -299,17 +289,7 @@ module _ (p : ConfigParts) (lawful : IsSetting p) (rows : List Row) (good : AreG
 
   pub holds : HoldRows p rows (bulk_words p rows)
   unfolding front_words
-  holds = record {
-    levels = levels_down p rows (height_of p (length rows));
-    tree = record {
-      root = root_named ∙ root_is (height_of p (length rows)) (some_node p lawful (length rows) (height_of p (length rows)));
-      lawful = are_levels (height_of p (length rows)) (omega arith);
-      apart = down_apart p rows (height_of p (length rows));
-    };
-    map_is = ap entries (ap from_entries all_rows ∙ map_sorted) ∙ sym (entries_are rows (are_rising rows good));
-    long = length-words;
-    idle = record { zero = refl; locks = locks_free p (need_of p (length rows)) _ };
-  }
+  holds = search (rules, root_named, root_is, some_node, are_levels, down_apart, all_rows, map_sorted, entries_are, are_rising, length-words, locks_free)
 
 -- so of what is built
 pub built_holds : {V E : Type 0} (items : V → List ℕ) (p : ConfigParts) (rows : List Row) (r : Result V E) → IsSetting p → AreGood rows → HaveValues p rows

@@ -1,4 +1,5 @@
 -- The order, by what the parse tells.
+use Rattle.std.proofs.Common.{rules}
 use Rattle.std.{proofs.Common.{◌≡◌, ℕ, Bool, List, [], ◌∷◌, None, true, refl, ap, ap₂, sym, subst, ◌∙◌}, specs.Prelude.{option_and_then, unwrap_or, codes}}
 use Rattle.clap.specs.{Words.{first_value, found_of, one_text}, declared.parser.matches.ArgMatches.{ArgMatches}}
 use Rattle.sh_base.specs.declared.config.ConfigParts.{ConfigParts}

@@ -21,8 +21,7 @@ module _ (f : ℕ → List ℕ) (w : ℕ) where
   length-pieces a zero long = omega arith
   length-pieces a (suc n) long =
       let rest = length-pieces (a + 1) n (λ j ge lt. long j (omega arith) (omega arith)) in
-      let step : suc n * w ≡ w + n * w = omega arith in
-      omega (arith, length-append (f a) (flat_map f (range_with_len (a + 1) n)), long a (omega arith) (omega arith), rest, step)
+      search (rules, length-append, long, rest)
 
   -- some of the pieces, cut out
   pub pieces_cut : (a i k n : ℕ) → i + k ≤ n → AreLong a n → take (k * w) (drop (i * w) (flat_map f (range_with_len a n))) ≡ flat_map f (range_with_len (a + i) k)
@@ -41,8 +40,7 @@ module _ (f : ℕ → List ℕ) (w : ℕ) where
   pub piece_cut : (i n : ℕ) → i < n → AreLong 0 n → take w (drop (i * w) (flat_map f (range_with_len 0 n))) ≡ f i
   piece_cut i n lt long =
       let one : 1 * w ≡ w = omega arith in
-      let start : 0 + i ≡ i = omega arith in
-      ap (λ k. take k (drop (i * w) (flat_map f (range_with_len 0 n)))) (sym one) ∙ (pieces_cut 0 i 1 n (omega arith) long ∙ (ap (λ k. f k ++ []) start ∙ append-nil (f i)))
+      search (rules, one, pieces_cut, long, append-nil)
 
   -- one piece more
   pub pieces_more : (a n : ℕ) → flat_map f (range_with_len a n) ++ f (a + n) ≡ flat_map f (range_with_len a (n + 1))

@@ -1,5 +1,5 @@
 -- Good rows rise, and so do the lows of a level.
-use Rattle.std.proofs.Common.{◌≡◌, ◌≢◌, ℕ, zero, suc, ◌+◌, ◌-◌, ◌*◌, ◌^◌, ◌<◌, ◌≤◌, true, List, length, get_or, refl, sym, ap, subst, ◌∙◌, inl, inr, arith}
+use Rattle.std.proofs.Common.{rules, ◌≡◌, ◌≢◌, ℕ, zero, suc, ◌+◌, ◌-◌, ◌*◌, ◌^◌, ◌<◌, ◌≤◌, true, List, length, get_or, refl, sym, ap, subst, ◌∙◌, inl, inr, arith}
 use Rattle.std.proofs.{lemmas.{Nat.{mul-le}, List.{get_or_default}, Bool.{cases_eq, Decides.{nat_tests}}}, Math.Nat.{mul-le-mul_right}}
 use Rattle.sh_logic.proofs.Tests.{differ_test, less_test, not_less_test}
 use Rattle.sh_base.specs.{declared.config.ConfigParts.{ConfigParts}, Setting.{IsSetting}}
@@ -8,12 +8,9 @@ use Rattle.sh_sheet.specs.Row.{is_key}
 use Rattle.sh_bulk.specs.{Shape.{leaf_fill, inner_fill, count_in, first_in, span_in}, Nodes.{high_in, low_in, next_in}, Fault.{AreGood}}
 use Rattle.sh_bulk.proofs.ShapeLemmas.{inner_fill_small, leaf_fill_small, node_begins}
 
-key_in_range : (n : ℕ) → is_key n ≡ true → (1 ≤ n) × (n < 2 ^ 64 - 1)
-key_in_range n h = grind (arith, nat_tests)
-
 module _ (rows : List Row) (good : AreGood rows) where
   pub key_range : (i : ℕ) → i < length rows → (1 ≤ row_key rows i) × (row_key rows i < 2 ^ 64 - 1)
-  key_range i h = let g = good i h in key_in_range (row_key rows i) g.key
+  key_range i h = let g = good i h in grind (arith, nat_tests)
 
   pub rise : (i j : ℕ) → i < j → j < length rows → row_key rows i < row_key rows j
   rise i zero lt h = absurd (omega arith)
@@ -26,10 +23,7 @@ module _ (rows : List Row) (good : AreGood rows) where
       ]
 
   pub are_rising : IsRising rows
-  are_rising = is_rising rows (λ i j d lt h.
-      let a : (get_or rows i d).key ≡ row_key rows i = ap (λ (r : Row). r.key) (get_or_default rows i d nothing (omega arith)) in
-      let b : (get_or rows j d).key ≡ row_key rows j = ap (λ (r : Row). r.key) (get_or_default rows j d nothing h) in
-      omega (arith, a, b, rise i j lt h))
+  are_rising = is_rising rows (λ i j d lt h. search (rules, get_or_default, rise, lt))
 
 module _ (p : ConfigParts) (rows : List Row) where
   pub low_first : (level : ℕ) → low_in p rows level 0 ≡ 0

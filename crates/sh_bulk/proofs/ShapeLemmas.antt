@@ -1,5 +1,5 @@
 -- What the counts of the levels come to: linear facts, so that proofs above never divide.
-use Rattle.std.proofs.Common.{◌≡◌, ◌≢◌, ℕ, zero, suc, ◌+◌, ◌-◌, ◌*◌, ◌<◌, ◌≤◌, Bool, refl, sym, ap, subst, ◌∙◌, inl, inr, arith}
+use Rattle.std.proofs.Common.{rules, ◌≡◌, ◌≢◌, ℕ, zero, suc, ◌+◌, ◌-◌, ◌*◌, ◌<◌, ◌≤◌, Bool, refl, sym, ap, subst, ◌∙◌, inl, inr, arith}
 use Rattle.std.{specs.Prelude.{if◌then◌else◌, min, ◌/◌, ◌%◌}, proofs.{lemmas.{Grind.{div_ceil_times}, Nat.{mul-le}, Bool.{cases_eq, cases_lt}}, Math.Nat.{mul-le-mul_right}}}
 use Rattle.sh_logic.proofs.Tests.{same_test, differ_test}
 use Rattle.sh_base.specs.{declared.config.ConfigParts.{ConfigParts}, Setting.{IsSetting}}
@@ -37,8 +37,7 @@ halves n d pos h = elim (cases_lt (div_up n d) 2) [
   | inl lt ↦ omega (arith)
   | inr le ↦
       let row : (div_up n d - 1) * 6 ≤ (div_up n d - 1) * d = mul-le (div_up n d - 1) 6 (div_up n d - 1) d (omega arith) pos in
-      let within = begins n d (div_up n d - 1) (omega arith) (omega arith) in
-      omega (arith, row, within)
+      search (rules, begins, row)
 ]
 
 module _ (p : ConfigParts) (lawful : IsSetting p) where
@@ -124,8 +123,7 @@ module _ (p : ConfigParts) (lawful : IsSetting p) where
     leaves_few = elim (cases_lt 0 (div_up n (leaf_fill p))) [
       | inl some ↦
           let last = begins n (leaf_fill p) (div_up n (leaf_fill p) - 1) (omega (arith, leaf_fill_small)) (omega arith) in
-          let row : (div_up n (leaf_fill p) - 1) * 1 ≤ (div_up n (leaf_fill p) - 1) * leaf_fill p = mul-le (div_up n (leaf_fill p) - 1) 1 (div_up n (leaf_fill p) - 1) (leaf_fill p) (omega arith) (omega (arith, leaf_fill_small)) in
-          grind arith
+          search (rules, mul-le, leaf_fill_small)
       | inr none ↦ grind arith
     ]
 
@@ -168,6 +166,4 @@ module _ (p : ConfigParts) (lawful : IsSetting p) where
     stops (suc turns) level e = ap (λ (t : Bool). if t then level else height_from p n turns (suc level)) (same_test _ 1 e)
 
     pub climb_end : (count need top : ℕ) → count ≤ 1 → IsClimb count need top → (need ≡ need_of p n) × (top ≡ height_of p n)
-    climb_end count need top few was =
-        let at : top ≡ height_of p n = sym (was.turns ∙ stops (count_in p n 0 - top) top (omega (arith, was.count_is, some_node n top))) in
-        (was.need_is ∙ ap (first_in p n) at, at)
+    climb_end count need top few was = search (rules, top, was.turns, stops, was.count_is, some_node, was.need_is)

@@ -23,12 +23,8 @@ not_two p fields h = search rules
 pub good_more : (found : List Row) (r : Row) → AreGood found → is_key r.key ≡ true → key_before found (length found) < r.key → AreGood (found ++ r ∷ [])
 good_more found r good key above i lt = search (rules, cases_eq, length_push, get_or_append_left, get_or_push)
 
--- a row that is read has a key, and a value of the setting's words
-row_given : (o : Option ℕ) (v : Option (List ℕ)) (r : Row) → Ok r ≡ or_cause o BadNumber (λ k. or_cause v BadNumber (λ w. if is_key k then Ok (pair_row k w) else Err BadKey)) → (is_key r.key ≡ true) × (v ≡ Some r.value)
-row_given o v r e = search rules
-
 pub row_good : (p : ConfigParts) (fields : List (List ℕ)) (r : Row) → Ok r ≡ row_in p fields → (is_key r.key ≡ true) × (length r.value ≡ p.value_words)
-row_good p fields r e = search (rules, row_given, length-value_in)
+row_good p fields r e = search (rules, length-value_in)
 
 -- a reader over the rows behind those that were found
 pub record IsGathering {R : Type 0} (left : R → Option (List ℕ)) (p : ConfigParts) (bytes : List ℕ) (found : List Row) (reader : Reader R) (turns : ℕ) : Type 0 where

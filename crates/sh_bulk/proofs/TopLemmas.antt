@@ -10,8 +10,3 @@ use Rattle.sh_bulk.{specs.{Fault.{AreGood}, Nodes.{HaveValues}, Shape.{need_of},
 pub has_built : {left rest : Option (List ℕ)} {before now : ℕ} {bytes lent : List ℕ} {rows given : List Row} (p : ConfigParts) → IsSetting p → TookAll left rest before now bytes → lent ≡ bytes → rows_of p lent ≡ Good rows
     → AreGood rows → HaveValues p rows → length rows ≤ most_rows → given ≡ rows → need_of p (length given) ≤ nodes p → HasBuilt p left rest before now rows
 has_built h0 = search (rules, holds)
-
--- how a building ends whose pool wasn't written whole
-pub ended_badly : (asked : Asked) (left rest : Option (List ℕ)) (before now : ℕ) (held after : Option (List ℕ)) (fell fallen : ℕ) (rows : List Row) (error : WriteError)
-    → HasBuilt asked.parts left rest before now rows → AppendsFront held after (built_text asked rows) → (error ≡ NoMemory → after ≡ held) → CauseOf fell fallen error → Built asked left rest before now held after fell fallen (unwritten error)
-ended_badly asked left rest before now held after fell fallen rows error built front none cause = search rules

@@ -38,36 +38,13 @@ module _ (p : ConfigParts) (lawful : IsSetting p) (rows : List Row) (good : AreG
   leaf_pair : (j : ℕ) → j < count_in p n 0 → (k : ℕ) → k < length (rows_at p rows j) → IsPair p (low_in p rows 0 j) (high_in p rows 0 j) (row_pair (get_or (rows_at p rows j) k nothing))
   leaf_pair j h k lt =
       let (below, inside, is) = row_of j k lt in
-      let at = j * leaf_fill p + k in
-      let key : (get_or (rows_at p rows j) k nothing).key ≡ row_key rows at = ap (λ (r : Row). r.key) is in
-      let range = key_range rows good at inside in
-      let from : low_in p rows 0 j ≤ row_key rows at = elim (cases_eq j 0) [
-        | inl first ↦ omega (arith, ap (low_in p rows 0) first, low_first p rows 0)
-        | inr other ↦ low_from j k other inside
-      ] in
-      let until : row_key rows at < high_in p rows 0 j = elim (cases_lt (j + 1) (count_in p n 0)) [
-        | inl more ↦ high_above j k below more
-        | inr last ↦ omega (arith, high_last p rows 0 j last, range.1)
-      ] in
-      record {
-        value = all_at (λ r. length r.value ≡ p.value_words) (rows_at p rows j) k nothing (all_take _ (leaf_fill p) _ (all_drop _ (j * leaf_fill p) rows values)) lt;
-        version = omega arith;
-        within = inr (omega (arith, key, from), omega (arith, key, range.0), omega (arith, key, until));
-      }
+      search (rules, key_range, cases_eq, low_first, low_at_row, rise, cases_lt, high_above, high_last, all_at, all_take, all_drop, lt)
     where
       low_at_row : (i : ℕ) → i ≢ 0 → low_in p rows 0 i ≡ row_key rows (i * leaf_fill p)
       low_at_row i nz = leaf_low p rows i nz
 
-      low_from : (i k : ℕ) → i ≢ 0 → i * leaf_fill p + k < n → low_in p rows 0 i ≤ row_key rows (i * leaf_fill p + k)
-      low_from i k nz inside = elim (cases_eq k 0) [
-        | inl none ↦ (let same : i * leaf_fill p + k ≡ i * leaf_fill p = omega arith in omega (arith, low_at_row i nz, ap (row_key rows) same))
-        | inr some ↦ omega (arith, low_at_row i nz, rise rows good (i * leaf_fill p) (i * leaf_fill p + k) (omega arith) inside)
-      ]
-
       high_above : (i k : ℕ) → k < leaf_fill p → i + 1 < count_in p n 0 → row_key rows (i * leaf_fill p + k) < high_in p rows 0 i
-      high_above i k below more =
-          let step : (i + 1) * leaf_fill p ≡ i * leaf_fill p + leaf_fill p = grind arith in
-          omega (arith, high_more p rows 0 i more, low_at_row (i + 1) (λ e. omega arith), rise rows good (i * leaf_fill p + k) ((i + 1) * leaf_fill p) (omega arith) (leaf_begins p lawful n (i + 1) more (λ e. omega arith)))
+      high_above i k below more = search (rules, high_more, more, low_at_row, rise, leaf_begins)
 
   leaf_pairs : (j : ℕ) → j < count_in p n 0 → AllByRecursion (IsPair p (low_in p rows 0 j) (high_in p rows 0 j)) (map row_pair (rows_at p rows j))
   leaf_pairs j h = from_each _ (0, []) (map row_pair (rows_at p rows j)) (λ k lt.
@@ -81,9 +58,6 @@ module _ (p : ConfigParts) (lawful : IsSetting p) (rows : List Row) (good : AreG
       let key = ap (λ (x : ℕ × List ℕ). x.0) (get_or-map row_pair (rows_at p rows j) k nothing (0, []) inside) ∙ ap (λ (r : Row). r.key) is in
       λ e. omega (arith, key, e, (key_range rows good (j * leaf_fill p + k) at).0))
 
-  leaf_few : (j : ℕ) → length (map row_pair (rows_at p rows j)) ≤ p.leaf
-  leaf_few j = omega (arith, length-map (rows_at p rows j) row_pair, length-take (leaf_fill p) (drop (j * leaf_fill p) rows), leaf_fill_small p lawful)
-
   pub leaf_lawful : (j : ℕ) → j < count_in p n 0 → IsLeaf p (leaf_of p rows j)
   leaf_lawful j h =
       let xs = map row_pair (rows_at p rows j) in
@@ -92,7 +66,7 @@ module _ (p : ConfigParts) (lawful : IsSetting p) (rows : List Row) (good : AreG
         fences = fences 0 j h;
         next = next_node 0 j (omega arith) h;
         end = ends 0 j h;
-        count = length-entries_from p.leaf (empty_entry p) xs (leaf_few j);
+        count = length-entries_from p.leaf (empty_entry p) xs (omega (arith, length-map (rows_at p rows j) row_pair, length-take (leaf_fill p) (drop (j * leaf_fill p) rows), leaf_fill_small p lawful));
         entries = subst (λ (e : LeafEntry). AllByRecursion (IsEntry p (low_in p rows 0 j) (high_in p rows 0 j)) (map entry_with xs ++ replicate (p.leaf - length xs) e)) (like p)
             (filled_lawful p (low_in p rows 0 j) (high_in p rows 0 j) (p.leaf - length xs) (replicate p.value_words 0) xs (length-replicate {A = ℕ} p.value_words 0) (leaf_pairs j h));
       }

@@ -1,9 +1,9 @@
 -- The tree and the book at rest, and how many nodes aren't posted.
 use Rattle.std.proofs.Common.{rules, ◌≡◌, ◌≢◌, ℕ, suc, ◌+◌, ◌<◌, Bool, true, false, List, [], ◌∷◌, length, get_or, refl, ap, sym, ◌∙◌, ⊎_elim, arith, zero, ◌++◌, None, subst, inl, inr, length-append}
-use Rattle.std.{proofs.lemmas.Bool.{cases_eq}, specs.{List.{concat, AllByRecursion}, Prelude.{◌↔◌, if◌then◌else◌, drop}}}
+use Rattle.std.{proofs.lemmas.Bool.{cases_eq}, specs.{List.{concat, AllByRecursion}, Prelude.{◌↔◌, if◌then◌else◌}}}
 use Rattle.sh_base.specs.{declared.config.ConfigParts.{ConfigParts}, Setting.{all_locks, all_seats, IsSetting}, Layout.{lock_of, lock_word}, Places.{Lock}}
 use Rattle.sh_tree.{proofs.{ChainLemmas.{trees_are_one}, ListLemmas.{outside_all, in_front, outside_none}}, specs.Lists.{is_in, outside, AreDifferent}}
-use Rattle.sh_tree.specs.Tree.{IsTree, unposted_in, IsChain, AreLevels, top_of}
+use Rattle.sh_tree.specs.Tree.{IsTree, unposted_in, AreLevels, top_of}
 use Rattle.sh_state.specs.{TreeState.{Linked, ParentLink, Posted, Pending, Skipped, Nobody, hold_word, TreeState, writing_of, Grant, LockState, Seat, Held, Writes, Owns}, Ground.{Ground}}
 use Rattle.sh_core_says.{proofs.{Books.{books_are_lawful}, Trees.{all_from, different_join, in_behind, in_joined, holds_tree, only}}, specs.Quiescent.{IsAtRest, is_posted, unposted}}
 use Rattle.sh_core_says.specs.Rest.{sum_below, HasSkipped, AreAtRest, AtRest}
@@ -56,11 +56,8 @@ module _ (p : ConfigParts) (words : List ℕ) (s : TreeState) (g : Ground p word
 
 -- ---- where all nodes are posted the top level has one node
 
-chain_of_one : (p : ConfigParts) (words chain : List ℕ) → IsChain p words 0 chain → outside [] (drop 1 chain) ≡ 0 → length chain ≡ 1
-chain_of_one p words chain h e = search (rules, outside_none)
-
 top_of_one : (p : ConfigParts) (words : List ℕ) (levels : List (List ℕ)) → AreLevels p words levels → unposted_in p words levels ≡ 0 → length (top_of levels) ≡ 1
-top_of_one p words levels h e = search (rules, chain_of_one)
+top_of_one p words levels h e = search (rules, outside_none)
 
 module _ (p : ConfigParts) (words : List ℕ) (log : List LogEntry) (Has : ℕ → Actor → Type 0) (Out : ℕ → ℕ → ℕ → Type 0) (inv : Inv p words log Has Out) where
   abbrev post : ℕ → ParentLink

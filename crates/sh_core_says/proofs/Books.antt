@@ -3,14 +3,14 @@ use Rattle.std.proofs.Common.{rules, ◌≡◌, ◌⊎◌, ℕ, List, [], Option
 use Rattle.std.{proofs.{Common.{eq-eqb, eqb-true, append-nil}, lemmas.{List.{Elements.{All-cons, All-weaker}, Kept.{AllPairs-cons}}, Option.{slice_get-get_or}}}, specs.List.{AllByRecursion}}
 use Rattle.std.specs.Prelude.{◌==◌, ◌↔◌, map, slice_get, All, AllPairs, Any}
 use Rattle.sh_base.specs.{declared.config.ConfigParts.{ConfigParts}, Places.{Counter}}
-use Rattle.sh_map.specs.{Book.{Answers, AnswersAt, IsLastOfSeat, IsLater, IsOwn, made_entry, made}, Laws.{places_of}, Made.{entries_by}, declared.{book.Done.{Done}, call.{Call.{Call}, Reply.{Reply}}}}
+use Rattle.sh_map.specs.{Book.{Answers, IsLastOfSeat, IsLater, IsOwn, made_entry, made}, Laws.{places_of}, Made.{entries_by}, declared.{book.Done.{Done}, call.{Call.{Call}, Reply.{Reply}}}}
 use Rattle.sh_map.specs.declared.log.Entry.{Entry as LogEntry, Entry}
 use Rattle.sh_state.specs.TreeState.{TreeState}
 use Rattle.sh_decide.specs.declared.state.{Posting.{Posting}, Aim.{Aim}}
 use Rattle.sh_client.specs.{Machine.{Registers}, Rests.{is_resting}, declared.state.{Phase.{Phase}, Then.{Then}}}
 use Rattle.sh_client.specs.declared.state.Write.{Write}
 use Rattle.sh_core.{proofs.{Causes.{causes_on}, Frame.{nothing_left}}, specs.{Actors.{Actor, AreAnswered, AreInOrder}, Causes.{HasCause, HaveCauses}, Core.{Inv}}}
-use Rattle.sh_core.specs.{Fits.{HasEntry, IsDecided, Owes, duty_of, PlansHalf, Plans, Follows, Fits}, Keeps.{pending_aim, pending_then, pending_write, pending, KeepsActor}}
+use Rattle.sh_core.specs.{Fits.{HasEntry, Owes, duty_of, Plans, Follows, Fits}, Keeps.{pending_aim, pending_then, pending_write, pending, KeepsActor}}
 use Rattle.sh_logic.proofs.Lists.{all_join}
 use Rattle.sh_tree.{specs.Lists.{is_in, AreDifferent}, proofs.ListLemmas.{in_cases, outside_all}}
 use Rattle.sh_core_says.proofs.Points.{points, points_numbered, points_long, points_in, points_differ, places_differ, places_long, place_in, points_stand, all_named, any_own}
@@ -23,9 +23,6 @@ module _ (p : ConfigParts) (s : TreeState) (i f q e : ℕ) (c : Call) (r : Reply
   abbrev pub MayStand : List LogEntry → Type 0
   MayStand es = (es ≡ []) ⊎ ((es ≡ entries_by i c r) × HasEntry s.log i f q e c r)
 
-decided : (p : ConfigParts) (s : TreeState) (i f q e : ℕ) (c : Call) (r : Reply) → IsDecided p s i f q e c r → MayStand p s i f q e c r (entries_by i c r)
-decided p s i f q e c r h = search rules
-
 module _ (p : ConfigParts) (s : TreeState) (i f q e : ℕ) (r : Registers) (duty : Option Posting) (o : Owes s i f q e r.call r.reply duty) where
   abbrev May : List LogEntry → Type 0
   May es = MayStand p s i f q e r.call r.reply es
@@ -37,16 +34,13 @@ module _ (p : ConfigParts) (s : TreeState) (i f q e : ℕ) (r : Registers) (duty
   aimed aim is = search (rules, posted)
 
   followed : (after : Then) → Follows p s i f q e r.call r.reply duty after → May (pending_then i r.call r.reply after)
-  followed after h = search (rules, decided, aimed)
-
-  halves : (n fresh : ℕ) (write : Write) (after : Then) → PlansHalf p s i r fresh n write after duty → May (pending_write i r.call r.reply write after)
-  halves n fresh write after h = search (rules, posted)
+  followed after h = search (rules, aimed)
 
   plans : (n : ℕ) (write : Write) (after : Then) → Plans p s i f q e r n write after duty → May (pending_write i r.call r.reply write after)
   plans n write after h = search (rules, followed, posted)
 
   pub pending_stands : (ph : Phase) → Fits p s i f q e r duty ph → May (pending i r ph)
-  pending_stands ph h = search (rules, aimed, posted, halves, plans, followed)
+  pending_stands ph h = search (rules, aimed, posted, plans, followed)
 
 -- ---- the book of the actors' calls is lawful
 
@@ -65,11 +59,8 @@ all_numbered P keeps (x ∷ xs) (y ∷ ys) e h =
     (keeps y.n (numbered 0 y) (subst P same (keeps 0 x h.0)), all_numbered P keeps xs ys more h.1)
 
 module _ (log : List Entry) where
-  row_numbered : (n : ℕ) (d : Done) (c : Call) (r : Reply) → AnswersAt log d c r → AnswersAt log (numbered n d) c r
-  row_numbered n d c r h = search rules
-
   answers_numbered : (n : ℕ) (d : Done) → Answers log d → Answers log (numbered n d)
-  answers_numbered n d h = record { within = h.within; row = row_numbered n d d.call d.reply h.row }
+  answers_numbered n d h = record { within = h.within; row = (search rules) }
 
   all_answer : (seat : ℕ) (ds : List Done) → AreAnswered log seat ds → AllByRecursion (Answers log) ds
   all_answer seat [] h = tt
@@ -128,9 +119,6 @@ abbrev first_seat : List Entry → ℕ
 first_seat [] = 0
 first_seat (e ∷ es) = e.seat
 
-made_seat : (i : ℕ) (c : Call) (r : Reply) (e : Entry) → entries_by i c r ≡ e ∷ [] → e.seat ≡ i
-made_seat i c r e q = search rules
-
 -- the entry at place j is that of the call under way
 pub record IsPendingAt (p : ConfigParts) (s : TreeState) (i : ℕ) (a : Actor) (j : ℕ) : Type 0 where
   pub at : j ≡ a.point
@@ -152,7 +140,7 @@ module _ (p : ConfigParts) (s : TreeState) (i : ℕ) (a : Actor) (k : KeepsActor
 
   with_own : (j : ℕ) → Here j → pending i a.client.registers a.client.phase ≡ entries_by i a.client.registers.call a.client.registers.reply → HasEntry s.log i a.first a.point a.seen a.client.registers.call a.client.registers.reply → (is_in (points a.dones) j ≡ true) ⊎ IsPendingAt p s i a j
   with_own j w made h =
-      let at : Here a.point = place_in i 0 s.log a.point a.point h.entry h.stands (made_seat i a.client.registers.call a.client.registers.reply h.entry h.is) (omega arith) in
+      let at : Here a.point = place_in i 0 s.log a.point a.point h.entry h.stands (search rules) (omega arith) in
       let ks : List ℕ = points a.dones ++ a.point ∷ [] in
       let apart : AreDifferent ks = different_join (points a.dones) (a.point ∷ []) differ (refl, tt) (λ n x y. elim (in_cases a.point n [] y) [
         | inl e ↦ let u = points_in 0 a.dones a.first k.ordered n x in omega (arith, u.1, e, h.from)

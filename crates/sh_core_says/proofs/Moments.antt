@@ -7,11 +7,11 @@ use Rattle.sh_read.specs.Moments.{Writing, Idle}
 use Rattle.sh_state.{proofs.Scenes.{is_linked, writes_else}, specs.{Ground.{Ground}, Nodes.{Orderly, IsLinked}}}
 use Rattle.sh_state.specs.TreeState.{Seat, LockState, Held, Writes, Owns, TreeState, Owner, Grant, Nobody, owner_word, hold_word, writing, writing_of, shown}
 use Rattle.sh_decide.specs.declared.state.Posting.{Posting}
-use Rattle.sh_client.specs.{Machine.{Registers}, declared.state.{Filling.TheVariants.{RightHalf}, Need.TheVariants.{ToSplit}, Phase.{Phase}, Write.{Write}}}
+use Rattle.sh_client.specs.{Machine.{Registers}, declared.state.{Filling.TheVariants.{RightHalf}, Need.TheVariants.{ToSplit}, Phase.{Phase}}}
 use Rattle.sh_client.specs.declared.state.Phase.TheVariants.{ReadLocked, Seek, Fill, Waiting, Body, Leave}
 use Rattle.sh_acts.proofs.Holds.{held_ground}
-use Rattle.sh_core.specs.{Actors.{Actor}, Fits.{Carries, Fits, storing_hold}, Keeps.{holding, Hands, KeepsActor}, Core.{Inv}}
-use Rattle.sh_core_says.{specs.{Moments.{handed_to, writes_from, written_node, IsWritten, IsStill, HoldsLock, IsStanding, AreLocks, EachMoment}, Quiescent.{IsAtRest}}, proofs.Trees.{holds_tree}}
+use Rattle.sh_core.specs.{Actors.{Actor}, Fits.{Carries, Fits}, Keeps.{holding, KeepsActor}, Core.{Inv}}
+use Rattle.sh_core_says.{specs.{Moments.{handed_to, written_node, IsWritten, IsStill, HoldsLock, IsStanding, AreLocks, EachMoment}}, proofs.Trees.{holds_tree}}
 use Rattle.sh_map.specs.{declared.log.Entry.{Entry as LogEntry}, Log.{map_of}}
 
 -- the hold of a lock by a seat that writes this node, or none
@@ -30,18 +30,11 @@ IsBounded p None = Unit {0}
 IsBounded p (Some d) = d ≤ p.bound
 
 module _ (p : ConfigParts) (s : TreeState) (i f q e : ℕ) (r : Registers) (duty : Option Posting) where
-  storing : (d n done : ℕ) (write : Write) → s.hold (lock_of p n) ≡ storing_hold i d n write r.body done → HeldBy s i (lock_of p n) (writes_from n done)
-  storing d n done write h = search rules
-
   holds_so : (ph : Phase) → Fits p s i f q e r duty ph → HoldsSo s i (holding p r ph) (written_node ph)
-  holds_so ph h = search (rules, storing)
-
-  -- a client that writes a node holds its lock
-  writes_held : (n k done : ℕ) → writes_from n done ≡ Some k → Some (lock_of p n) ≡ Some (lock_of p k)
-  writes_held n k done at = search rules
+  holds_so ph h = search rules
 
   pub written_held : (ph : Phase) (k : ℕ) → written_node ph ≡ Some k → holding p r ph ≡ Some (lock_of p k)
-  written_held ph k at = search (rules, writes_held)
+  written_held ph k at = search rules
 
   -- a lock is handed over within the bound
   module _ (orderly : (lock : ℕ) → Orderly p s lock (s.hold lock)) where
@@ -61,22 +54,15 @@ module _ (p : ConfigParts) (s : TreeState) (i f q e : ℕ) (r : Registers) (duty
     within_bound (Leave n (Some d) after) h = h.leaving.carries.within
     within_bound ph h = tt
 
--- a seat holds the lock of its client, and no other
-held_is : (s : TreeState) (i : ℕ) (h : Option ℕ) → Hands s i h → (l : ℕ) → Owns (s.hold l) (Seat i) → h ≡ Some l
-held_is s i h hands l o = search rules
-
-owns_by : (s : TreeState) (i l : ℕ) (o : Option ℕ) → HeldBy s i l o → Owns (s.hold l) (Seat i)
-owns_by s i l o h = search rules
-
 module _ (p : ConfigParts) (s : TreeState) (i : ℕ) (a : Actor) (k : KeepsActor p s i a) where
   pub by_client : (l : ℕ) → holding p a.client.registers a.client.phase ≡ Some l → HeldBy s i l (written_node a.client.phase)
   by_client l at = subst (λ (o : Option ℕ). HoldsSo s i o (written_node a.client.phase)) at (holds_so p s i a.first a.point a.seen a.client.registers k.work.duty a.client.phase k.work.fits)
 
   pub owns : (l : ℕ) → holding p a.client.registers a.client.phase ≡ Some l → Owns (s.hold l) (Seat i)
-  owns l at = owns_by s i l (written_node a.client.phase) (by_client l at)
+  owns l at = search rules
 
   pub holds : (l : ℕ) → Owns (s.hold l) (Seat i) → holding p a.client.registers a.client.phase ≡ Some l
-  holds l o = held_is s i (holding p a.client.registers a.client.phase) k.work.hands l o
+  holds l o = search rules
 
   -- the node of a client's WRITE under way is the scene's
   pub written_is : (n : ℕ) → written_node a.client.phase ≡ Some n → (d : ℕ) × (w : Writing) × (s.hold (lock_of p n) ≡ Writes i d n w)
@@ -137,30 +123,21 @@ calm_hold (Writes i d n w) = Held (Seat i) d
 abbrev pub calm : TreeState → TreeState
 calm s = record s { hold = λ l. calm_hold (s.hold l) }
 
-calm_word : (p : ConfigParts) (h : LockState) → hold_word p h ≡ hold_word p (calm_hold h)
-calm_word p h = search rules
-
 calm_idle : (n : ℕ) (h : LockState) → writing_of n (calm_hold h) ≡ Idle
 calm_idle n h = search rules
-
-calm_orderly : (p : ConfigParts) (s : TreeState) (l : ℕ) (h : LockState) → Orderly p s l h → Orderly p (calm s) l (calm_hold h)
-calm_orderly p s l h o = search rules
 
 module _ (p : ConfigParts) (words : List ℕ) (s : TreeState) (g : Ground p words s) where
   abbrev pub W : List ℕ
   W = filled p (calm s) words (nodes p)
 
   before : (a : Site) → IsSite p a → ((n o : ℕ) → IsNode p n → n ≤ nodes p → o < node_size p → Node n o ≢ a) → Shown p (calm s) words a
-  before a ia away = search (rules, calm_word)
+  before a ia away = search rules
 
   places : (a : Site) → IsSite p a → Shown p (calm s) W a
   places a ia = filled_shows p (calm s) words (nodes p) g.shows.size (omega arith) a ia (before a ia)
 
   pub calm_ground : Ground p W (calm s)
-  calm_ground = held_ground p words s g W (calm s).hold (record { size = filled_long p (calm s) words (nodes p) ∙ g.shows.size; each = places }) (λ l. calm_orderly p s l (s.hold l) (g.orderly l))
-
-  pub calm_rest : IsAtRest p (calm s)
-  calm_rest n l a e = calm_idle n (s.hold (lock_of p n))
+  calm_ground = held_ground p words s g W (calm s).hold (record { size = filled_long p (calm s) words (nodes p) ∙ g.shows.size; each = places }) (λ l. search rules)
 
 -- ---- each moment
 module _ (p : ConfigParts) (words : List ℕ) (log : List LogEntry) (Has : ℕ → Actor → Type 0) (Out : ℕ → ℕ → ℕ → Type 0) (inv : Inv p words log Has Out) where
@@ -182,7 +159,7 @@ module _ (p : ConfigParts) (words : List ℕ) (log : List LogEntry) (Has : ℕ �
       ]
 
   still : (a : Site) → IsStill Has a → shown p (calm S) a ≡ shown p S a
-  still a off = search (rules, calm_idle, idle, calm_word)
+  still a off = search (rules, calm_idle, idle)
 
   linked : (n : ℕ) → IsWritten Has n → IsLinked (S.class n)
   linked n w =
@@ -193,7 +170,7 @@ module _ (p : ConfigParts) (words : List ℕ) (log : List LogEntry) (Has : ℕ �
 
   stands : IsStanding p words log Has
   stands =
-      let h = holds_tree p (W p words S inv.ground) (calm S) (calm_ground p words S inv.ground) (calm_rest p words S inv.ground) in
+      let h = holds_tree p (W p words S inv.ground) (calm S) (calm_ground p words S inv.ground) (λ n l a e. calm_idle n (S.hold (lock_of p n))) in
       record {
         standing = W p words S inv.ground;
         long = filled_long p (calm S) words (nodes p) ∙ inv.ground.shows.size;
@@ -203,10 +180,6 @@ module _ (p : ConfigParts) (words : List ℕ) (log : List LogEntry) (Has : ℕ �
         map = h.map ∙ ap map_of inv.log_is;
         within = λ n w. (h.linked n).1 (linked n w);
       }
-
-  -- a holder has the lock in the scene
-  pub owner : (l : ℕ) (o : Owner) → HoldsLock p Has Out l o → Owns (S.hold l) o
-  owner l o h = search (rules, owns)
 
   one_owner : (h : LockState) (o u : Owner) → Owns h o → Owns h u → o ≡ u
   one_owner h o u a b = search rules
@@ -225,8 +198,8 @@ module _ (p : ConfigParts) (words : List ℕ) (log : List LogEntry) (Has : ℕ �
 
   locks : AreLocks p words Has Out
   locks = record {
-    one = λ l o u a b. one_owner (S.hold l) o u (owner l o a) (owner l u b);
-    held = λ l o lt h. inv.ground.shows.each (Lock l) lt ∙ word_of (S.hold l) o (owner l o h);
+    one = λ l o u a b. one_owner (S.hold l) o u (search (rules, owns)) (search (rules, owns));
+    held = λ l o lt h. inv.ground.shows.each (Lock l) lt ∙ word_of (S.hold l) o (search (rules, owns));
     free = λ l lt. elim (some_holder l (S.hold l) refl) [ inl h ↦ inl h | inr e ↦ inr (inv.ground.shows.each (Lock l) lt ∙ e) ];
     writers = λ n w. let k = inv.kept w.seat w.actor w.has in (w.actor, w.has, written_held p S w.seat w.actor.first w.actor.point w.actor.seen w.actor.client.registers k.work.duty w.actor.client.phase n w.node);
     rights = λ l c d o. subst (Orderly p S l) (inv.out l c d o) (inv.ground.orderly l);

@@ -166,14 +166,11 @@ module _ (p : ConfigParts) (words : List ℕ) (s : TreeState) (g : Ground p word
     (λ q. ⊎_elim (λ (z : b ≡ 0). absurd (nz z)) (λ (u : HasParent s l n). named l ns u.parent n u.low u.linked (h.all u.parent u.low u.linked (omega arith)) u.leads) (g.posted n l b e q)),
   )
 
-  posted_test : (x : ParentLink) (b : Bool) → ((b ≡ true) ↔ (x ≡ Posted)) → b ≡ is_posted x
-  posted_test x b h = search rules
-
   pub counted : (l : ℕ) (names ns : List ℕ) → NamesLevel l names → ((n : ℕ) → is_in ns n ≡ true → (b : ℕ) × (s.class n ≡ Linked l b) × (b ≢ 0)) → outside names ns ≡ unposted s ns
   counted l names [] h members = refl
   counted l names (n ∷ ns) h members =
       let u = members n (in_head n ns) in
-      let test : is_in names n ≡ is_posted (s.post n) = posted_test (s.post n) (is_in names n) (h n u.0 u.1 u.2) in
+      let test : is_in names n ≡ is_posted (s.post n) = search rules in
       let more : outside names ns ≡ unposted s ns = counted l names ns h (λ m k. members m (in_more n m ns k)) in
       (λ t. if test t then more t else more t + 1)
 
@@ -190,9 +187,6 @@ unposted_join s (x ∷ xs) ys = go (is_posted (s.post x)) (unposted_join s xs ys
     go : (b : Bool) → unposted s (xs ++ ys) ≡ unposted s xs + unposted s ys → (if b then unposted s (xs ++ ys) else unposted s (xs ++ ys) + 1) ≡ (if b then unposted s xs else unposted s xs + 1) + unposted s ys
     go true e = e
     go false e = omega (arith, e)
-
-posted_first : (s : TreeState) (n : ℕ) (ns : List ℕ) → s.post n ≡ Posted → unposted s (n ∷ ns) ≡ unposted s ns
-posted_first s n ns e = ap (λ (x : ParentLink). if is_posted x then unposted s ns else unposted s ns + 1) e
 
 module _ (p : ConfigParts) (words : List ℕ) (s : TreeState) (g : Ground p words s) where
   -- a level and a low fence name one node
@@ -217,7 +211,7 @@ module _ (p : ConfigParts) (words : List ℕ) (s : TreeState) (g : Ground p word
 
   count_level : (l n : ℕ) (ns : List ℕ) (below : List (List ℕ)) (names : List ℕ) → IsLevel p words s g rest l 0 (n ∷ ns) → NamesLevel p words s g rest l names → unnamed_from p words (children_of p words (n ∷ ns)) below ≡ unposted s (concat below) → unnamed_from p words names ((n ∷ ns) ∷ below) ≡ unposted s (concat ((n ∷ ns) ∷ below))
   count_level l n ns below names h named more =
-      let first : unposted s (n ∷ ns) ≡ unposted s ns = posted_first s n ns (g.firsts n l h.first) in
+      let first : unposted s (n ∷ ns) ≡ unposted s ns = ap (λ (x : ParentLink). if is_posted x then unposted s ns else unposted s ns + 1) (g.firsts n l h.first) in
       let here : outside names ns ≡ unposted s ns = counted p words s g rest l names ns named (later l n ns h) in
       let joined = unposted_join s (n ∷ ns) (concat below) in
       omega (arith, first, here, joined, more)
@@ -269,9 +263,6 @@ module _ (p : ConfigParts) (words : List ℕ) (s : TreeState) (g : Ground p word
       )
 
   -- ---- the map
-  leaf_none : (n b q : ℕ) → s.class n ≡ Linked 0 b → q ≢ 0 → (q < b) ⊎ (high_in (s.node n) ≤ q) → find nat_cmp q (pairs_of (standing_entries p (s.node n))) ≡ None
-  leaf_none n b q e nz out = search (rules, find-pairs_of, held_outside, within)
-
   along : (q : ℕ) → q ≢ 0 → (a : ℕ) (ns : List ℕ) → IsChain p words a ns → ((m : ℕ) → is_in ns m ≡ true → (b : ℕ) × (s.class m ≡ Linked 0 b))
       → ((q < a) ⊎ (2 ^ 64 - 1 ≤ q) → find nat_cmp q (pairs_along p words ns) ≡ None) × (a ≤ q → q < 2 ^ 64 - 1 → find nat_cmp q (pairs_along p words ns) ≡ get (map_of s.log) q)
   along q nz a [] chain members = ((λ out. refl), λ lo hi. absurd (omega (arith, lo, hi, chain)))
@@ -285,7 +276,7 @@ module _ (p : ConfigParts) (words : List ℕ) (s : TreeState) (g : Ground p word
       let more = along q nz (high_at p words n) ns chain.3 (λ m k. members m (in_more n m ns k)) in
       let left : List (ℕ × List ℕ) = pairs_of (leaf_at p words n).entries in
       let right : List (ℕ × List ℕ) = pairs_along p words ns in
-      let none : (q < u.0) ⊎ (high_in (s.node n) ≤ q) → find nat_cmp q left ≡ None = λ out. ap (find nat_cmp q) same ∙ leaf_none n u.0 q u.1 nz out in (
+      let none : (q < u.0) ⊎ (high_in (s.node n) ≤ q) → find nat_cmp q left ≡ None = λ out. ap (find nat_cmp q) same ∙ (search (rules, find-pairs_of, held_outside, within)) in (
         (λ out. elim out [
           | inl lt ↦ find_past left right q (none (inl (omega (arith, lt, low)))) ∙ more.0 (inl (omega (arith, lt, low, z.fences, high)))
           | inr le ↦ find_past left right q (none (inr (omega (arith, le, z.past)))) ∙ more.0 (inr le)

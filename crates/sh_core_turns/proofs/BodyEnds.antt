@@ -18,7 +18,7 @@ use Rattle.sh_decide.specs.{declared.state.{Posting.{Posting}, Aim.TheVariants.{
 use Rattle.sh_client.specs.{Giving.{released, counted, entries_of as entries_made}, Machine.{Registers, Machine, to}, Splitting.{giving_of}, Wants.{offset_of}, declared.state.Giving.{Giving}}
 use Rattle.sh_client.specs.declared.state.{Phase.{TheVariants.{Body, Unlock, Leave}, Phase}, Tally.{Tally}, Then.{TheVariants.{Ends, Starts}, Then}, Write.{Write}}
 use Rattle.sh_client.specs.declared.state.Write.TheVariants.{Nothing, Entry, Leaf as WholeLeaf, LeftLeaf, Inner as WholeInner, LeftInner}
-use Rattle.sh_core.proofs.{Causes.{causes_on}, Frame.{next, actor_in, at, advance, hands_keep, same_call, same_grows, same_hold, Before, goes_on, same_here, skips_on, IsCalm, moves_to, Claim}}
+use Rattle.sh_core.proofs.{Causes.{causes_on}, Frame.{next, actor_in, at, advance, hands_keep, same_call, same_grows, same_hold, Before, goes_on, same_here, skips_on, moves_to, Claim}}
 use Rattle.sh_core.{proofs.{Logs.{made_by-append, made_by_here, answered_longer}, Others.{StaysUnder, plans_on, entry_on}}, specs.{Actors.{Actor, becomes, made_by, updates}, Core.{Inv, Moves}}}
 use Rattle.sh_core.specs.Fits.{Plans, PlansInner, PlansLeftInner, PlansLeftLeaf, storing_hold, write_of, AreSpares, Fits, Follows, HasEntry, FillsFresh, IsHolding, IsStoring, Owes}
 use Rattle.sh_core.specs.Keeps.{holding, pending, pending_then, skips_counted, Hands, Waits, Skips, IsAtWork, KeepsActor}
@@ -198,9 +198,6 @@ release_holding p r n carry after = search rules
 release_pending : (seat : ℕ) (r : Registers) (n : ℕ) (carry : Option ℕ) (after : Then) → pending seat r (release n carry after) ≡ pending_then seat r.call r.reply after
 release_pending seat r n carry after = search rules
 
-release_calm : (n : ℕ) (carry : Option ℕ) (after : Then) → IsCalm (release n carry after)
-release_calm n carry after = search rules
-
 release_fits : (p : ConfigParts) (t : TreeState) (seat f q e : ℕ) (r : Registers) (duty : Option Posting) (n : ℕ) (carry : Option ℕ) (after : Then) → IsHolding p t seat n carry → Follows p t seat f q e r.call r.reply duty after → Fits p t seat f q e r duty (release n carry after)
 release_fits p t seat f q e r duty n carry after h w = search rules
 
@@ -293,7 +290,7 @@ module _ (p : ConfigParts) (ok : IsSetting p) (words : List ℕ) (Has Now : ℕ 
           causes = causes_on p s.counter s.counter (λ server lt. omega arith) s.log (entry ∷ []) z.log refl seat a.dones K.answered K.causes;
           ordered = K.ordered;
           mine = made_by-append seat s.log (entry ∷ []) ∙ ap (λ (es : List LogEntry). made_by seat s.log ++ es) (made_by_here seat entry by) ∙ ap (λ (es : List LogEntry). es ++ entry ∷ []) (K.mine ∙ ap (λ (es : List LogEntry). updates a.dones ++ es) was ∙ append-nil (updates a.dones)) ∙ ap (λ (es : List LogEntry). updates a.dones ++ es) (sym here);
-        } (λ server. refl) (release_calm giving.node carry giving.after) mv)
+        } (λ server. refl) (search rules) mv)
 
     -- a leaf was written over, by one entry or whole
     over_work : (tally : Tally) (image : List ℕ) (entry : LogEntry) → entries_by seat r.call r.reply ≡ entry ∷ [] → skips_counted tally ≡ skips_counted r.tally → giving.after ≡ Ends → K.work.duty ≡ None → IsAtWork p (t image s.class s.post (entry ∷ [])) seat a.first N (N + 1) (x tally)
@@ -317,7 +314,7 @@ module _ (p : ConfigParts) (ok : IsSetting p) (words : List ℕ) (Has Now : ℕ 
         let z : TreeState = t image class post [] in
         moves_to p ok words Has Now Out seat s b now z (next a N (x tally)) ch
         (goes_on p s z seat N (actor_in p seat a r ph) (x tally) K (append-nil s.log) (λ server. omega arith) K.seen (omega arith) work (release_pending seat (record r { tally = tally }) giving.node carry giving.after ∙ follow))
-        (λ server. refl) (release_calm giving.node carry giving.after) mv
+        (λ server. refl) (search rules) mv
 
     -- ---- a left half: its right one is hung in, and the seat is to post it
     half_work : (tally : Tally) (image : List ℕ) (links : ℕ → ParentLink) (below separator fresh : ℕ) (es : List LogEntry) (q e : ℕ) → let z : TreeState = t image (put s.class fresh (Linked below separator)) (put links fresh (Pending seat)) es in
@@ -460,12 +457,6 @@ module _ (p : ConfigParts) (ok : IsSetting p) (words : List ℕ) (Has Now : ℕ 
 
   -- ---- each store of a body
 
-  made_moves : (write : Write) (ph : Phase) (n : ℕ) (carry : Option ℕ) (after : Then) (entry : LogEntry) (es : List LogEntry) → let m : Machine = counted (at p seat r ph) write in es ≡ entry ∷ [] → Moves Has seat (becomes seat (actor_in p seat a r ph) s.log es (released m n carry after)) Now → Moves Has seat (maker (to m (release n carry after))) Now
-  made_moves write ph n carry after entry es is mv = search (rules, actor_in)
-
-  next_moves : (write : Write) (ph : Phase) (n : ℕ) (carry : Option ℕ) (after : Then) → let m : Machine = counted (at p seat r ph) write in Moves Has seat (becomes seat (actor_in p seat a r ph) s.log [] (released m n carry after)) Now → Moves Has seat (next a N (to m (release n carry after))) Now
-  next_moves write ph n carry after mv = search rules
-
   bodies : (n : ℕ) (carry : Option ℕ) (done : ℕ) (write : Write) (after : Then) (t : Bool) → (done + 1 == length r.body) ≡ t → let ph : Phase = Body carry done (giving_of n write after) in let m : Machine = at p seat r ph in Has seat (actor_in p seat a r ph)
       → Moves Has seat (becomes seat (actor_in p seat a r ph) s.log (if t then entries_made m write else []) (if t then released (counted m write) n carry after else to m (Body carry (done + 1) (giving_of n write after)))) Now
       → Inv p (set words (node_word p n + (offset_of p write + done)) (get_or r.body done 0)) (s.log ++ (if t then entries_made m write else [])) Now Out
@@ -473,11 +464,11 @@ module _ (p : ConfigParts) (ok : IsSetting p) (words : List ℕ) (Has Now : ℕ 
       let off : done + 1 ≢ length r.body = grind (arith, nat_tests) in
       store_more p ok words Has Now Out seat s b a r carry done (giving_of n write after) off h mv
   bodies n carry done Nothing after true e h mv = absurd ((K carry done (giving_of n Nothing after) h).work.fits.storing.some refl)
-  bodies n carry done (Entry index) after true e h mv = entry_last n carry done (eqb-true (done + 1) (length r.body) e) after index h (made_moves (Entry index) (Body carry done (giving_of n (Entry index) after)) n carry after _ _ (K carry done (giving_of n (Entry index) after) h).work.fits.plans.update.made_is mv)
-  bodies n carry done WholeLeaf after true e h mv = leaf_last n carry done (eqb-true (done + 1) (length r.body) e) after h (made_moves WholeLeaf (Body carry done (giving_of n WholeLeaf after)) n carry after _ _ (K carry done (giving_of n WholeLeaf after) h).work.fits.plans.update.made_is mv)
-  bodies n carry done LeftLeaf after true e h mv = left_leaf_last n carry done (eqb-true (done + 1) (length r.body) e) after h (made_moves LeftLeaf (Body carry done (giving_of n LeftLeaf after)) n carry after _ _ (K carry done (giving_of n LeftLeaf after) h).work.fits.plans.half.update.made_is mv)
-  bodies n carry done WholeInner after true e h mv = inner_last n carry done (eqb-true (done + 1) (length r.body) e) after h (next_moves WholeInner (Body carry done (giving_of n WholeInner after)) n carry after mv)
-  bodies n carry done LeftInner after true e h mv = left_inner_last n carry done (eqb-true (done + 1) (length r.body) e) after h (next_moves LeftInner (Body carry done (giving_of n LeftInner after)) n carry after mv)
+  bodies n carry done (Entry index) after true e h mv = entry_last n carry done (eqb-true (done + 1) (length r.body) e) after index h (search (rules, actor_in))
+  bodies n carry done WholeLeaf after true e h mv = leaf_last n carry done (eqb-true (done + 1) (length r.body) e) after h (search (rules, actor_in))
+  bodies n carry done LeftLeaf after true e h mv = left_leaf_last n carry done (eqb-true (done + 1) (length r.body) e) after h (search (rules, actor_in))
+  bodies n carry done WholeInner after true e h mv = inner_last n carry done (eqb-true (done + 1) (length r.body) e) after h (search rules)
+  bodies n carry done LeftInner after true e h mv = left_inner_last n carry done (eqb-true (done + 1) (length r.body) e) after h (search rules)
 
   pub body : (carry : Option ℕ) (done : ℕ) (giving : Giving) → Claim p ok words Has Now Out seat s b a r (Body carry done giving) (Store (node_word p giving.node + (offset_of p giving.write + done)) (get_or r.body done 0))
   body carry done giving h mv = bodies giving.node carry done giving.write giving.after (done + 1 == length r.body) refl h mv

@@ -1,17 +1,17 @@
 -- A call begins, or is taken away when it has ended.
-use Rattle.std.{proofs.Common.{rules, ◌≡◌, ◌≢◌, ℕ, ◌<◌, ◌≤◌, true, List, [], ◌++◌, length, Some, None, refl, sym, ap, ◌∙◌, subst, arith}}
+use Rattle.std.{proofs.Common.{rules, ◌≡◌, ◌≢◌, ℕ, true, List, [], ◌++◌, length, Some, None, refl, sym, ap, ◌∙◌, subst, arith}}
 use Rattle.std.{proofs.lemmas.Bool.Decides.{nat_tests}}
 use Rattle.sh_base.{specs.{declared.config.ConfigParts.{ConfigParts}, Setting.{IsSetting}}, proofs.LayoutLemmas.{node_size_is}}
 use Rattle.sh_map.specs.{declared.{call.{Call.{Call}, Reply.{Reply}}, log.Entry.{Entry as LogEntry}}, Calls.{IsInRange}}
 use Rattle.sh_image.specs.{Inner.{Inner}, declared.inner.Image.TheVariants.{Inner as InnerImage}}
-use Rattle.sh_descend.specs.{Descent.{child_of, hop_of}, declared.Hop.TheVariants.{Down}}
+use Rattle.sh_descend.specs.{Descent.{child_of}}
 use Rattle.sh_cache.{specs.Cached.{found, FoundBy}, proofs.FindLemmas.{found_by}}
 use Rattle.sh_state.{specs.TreeState.{Seat, TreeState}, proofs.Joins.{nothing_done}}
 use Rattle.sh_readers.{specs.Hand.{AreRowsOf, IsNamed}, proofs.{HandLemmas.{down_named}, RowLemmas.{row_found}, Gathering.{gathered_begin}}}
 use Rattle.sh_decide.specs.{declared.state.Aim.TheVariants.{Own}, Aims.{aim_of, aimed_key, call_key, takes_lock, target}}
 use Rattle.sh_client.specs.{Machine.{Machine}}
-use Rattle.sh_client.specs.{Feeds.{begun, rows_before}, Rests.{rests}}
-use Rattle.sh_core.specs.{Actors.{actor_begun, made_by, rested, updates}, Fits.{AreSpares, Fits, Gathered, duty_of}, Keeps.{Hands, IsAtWork, Skips, Waits, holding, pending, pending_aim, skips_counted}}
+use Rattle.sh_client.specs.{Feeds.{begun}, Rests.{rests}}
+use Rattle.sh_core.specs.{Actors.{actor_begun, made_by, rested, updates}, Fits.{AreSpares, Fits}, Keeps.{Hands, IsAtWork, Skips, Waits, holding, pending, pending_aim, skips_counted}}
 use Rattle.sh_core.{specs.Core.{Inv, BeginKeeps, RestKeeps}, proofs.{Logs.{in_order_later}, Frame.{IsCalm, nothing_left, before, moves_to}}}
 
 -- What a client is that has begun a call: at the root, or at the child of a cached node.
@@ -27,13 +27,6 @@ record Begun (p : ConfigParts) (s : TreeState) (i n : ℕ) (old m : Machine) (ca
   pub calm : IsCalm m.phase
 
 module _ (p : ConfigParts) (ok : IsSetting p) (s : TreeState) (i n : ℕ) (old : Machine) where
-  -- a range has gathered nothing
-  gathers_none : (call : Call) → IsInRange p call → Gathered p s.log n call (rows_before call old.registers.rows) (aim_of call)
-  gathers_none call h = search (rules, gathered_begin)
-
-  no_duty : (call : Call) → None ≡ duty_of (aim_of call)
-  no_duty call = search rules
-
   none_made : (call : Call) (r : Reply) → pending_aim i call r (aim_of call) ≡ []
   none_made call r = search rules
 
@@ -46,19 +39,16 @@ module _ (p : ConfigParts) (ok : IsSetting p) (s : TreeState) (i n : ℕ) (old :
   takes_own : (call : Call) → takes_lock call Own ≡ true → takes_lock call (aim_of call) ≡ true
   takes_own call e = search rules
 
-  goes_down : (row : Inner) (key : ℕ) → row.level ≡ 1 → row.low ≤ key → key < row.high → hop_of (InnerImage row) key 0 ≡ Down (child_of row.pairs key)
-  goes_down row key level from below = grind (arith, nat_tests, level, from, below)
-
   -- the child of a cached node is a leaf that begins no later than the key
   named_child : (call : Call) (row : Inner) → AreRowsOf s old.registers.cached → found old.registers.cached (call_key call) ≡ Some row → IsNamed s (target (aim_of call)) (child_of row.pairs (call_key call)) (aimed_key call (aim_of call))
   named_child call row h e =
       let key : ℕ = call_key call in
       let f = row_found s key old.registers.cached row h (subst (FoundBy old.registers.cached key) e (found_by old.registers.cached key)) in
-      let named = (down_named s 1 row.low key 0 (InnerImage row) f.0 f.1 0 (child_of row.pairs key) refl (goes_down row key f.0.level_is f.1 f.2)).0 in
+      let named = (down_named s 1 row.low key 0 (InnerImage row) f.0 f.1 0 (child_of row.pairs key) refl (grind (arith, nat_tests, f.0.level_is, f.1, f.2))).0 in
       subst (λ (z : ℕ × ℕ). IsNamed s z.0 (child_of row.pairs (call_key call)) z.1) (λ j. (sym (at_leaf call) j, sym (for_key call) j)) named
 
   begins : (call : Call) → IsInRange p call → AreRowsOf s old.registers.cached → Begun p s i n old (begun old call) call
-  begins call lawful rows = search (rules, no_duty, takes_own, none_made, gathers_none, node_size_is, named_child)
+  begins call lawful rows = search (rules, takes_own, none_made, gathered_begin, node_size_is, named_child)
 
 module _ (p : ConfigParts) (ok : IsSetting p) where
   pub begin_keeps : BeginKeeps p

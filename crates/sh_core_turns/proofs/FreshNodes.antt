@@ -41,12 +41,9 @@ pub record IsTaken (s : TreeState) (seat fresh : ℕ) (rest : NodeRange) : Type 
   pub follows : fresh + 1 ≡ rest.first
   pub spares : AreSpares s seat rest
 
-some_is : (x y : ℕ) → Some x ≡ Some y → x ≡ y
-some_is x y e = cc
-
 module _ (s : TreeState) (seat : ℕ) (r : NodeRange) (all : AreSpares s seat r) where
   pub takes_lowest : (fresh : ℕ) → lowest r ≡ Some fresh → IsTaken s seat fresh (without_lowest r)
-  takes_lowest fresh e = search (rules, some_is)
+  takes_lowest fresh e = search rules
 
   pub none_spare : lowest r ≡ None → r.count ≡ 0
   none_spare e = search rules
@@ -127,12 +124,8 @@ module _ (p : ConfigParts) (ok : IsSetting p) (words : List ℕ) (s : TreeState)
         };
       }
 
-  -- what the decision to split it says
-  inner_splits : decision_of p call (Posts post) (InnerImage inner_node) ≡ decision.Split → (post.separator < inner_node.high) × IsFor p inner_node decision.Split
-  inner_splits d = search (rules, split_here, post_below, decides)
-
   pub inner_to_split : (reads : Reads) → reads.node ≡ n → (h : IsToSplit p s call reads (Posts post)) → (accepted p reads ≡ Some (InnerImage inner_node)) × (post.separator < inner_node.high) × IsFor p inner_node decision.Split
-  inner_to_split reads at h = search (rules, standing_accepted, inner_stands, some_image, inner_splits)
+  inner_to_split reads at h = search (rules, standing_accepted, inner_stands, some_image, split_here, post_below, decides)
 
 -- ---- what the decision on a standing leaf says, where the leaf covers the key of its update, and the leaf's halves
 
@@ -168,9 +161,6 @@ found es key = elim (first_or_none es key) [
 ]
 
 -- ---- the entry that an update makes
-
-put_made : (seat key : ℕ) (value : List ℕ) (o : Option (List ℕ)) → entries_by seat (Put key value) (reply_with o) ≡ made_entry seat (change.Put key value) o ∷ []
-put_made seat key value o = search rules
 
 -- ---- the decision
 
@@ -327,7 +317,7 @@ module _ (p : ConfigParts) (ok : IsSetting p) (words : List ℕ) (s : TreeState)
       put_change : (value : List ℕ) (index : ℕ) → length value ≡ p.value_words → IsPlaceFor es key index → IsChange p s seat n first point (Put key value) index
       put_change value index long place = record {
         change = change.Put key value;
-        made = put_made seat key value (held es key);
+        made = search rules;
         key = refl;
         old = tt;
         here = elim place [ inl h ↦ h.in_range | inr h ↦ h.1.in_range ];
@@ -538,10 +528,6 @@ needs_on p s t seat r v duty gr nodes holds (ToSplit aim depth) h =
     }
 needs_on p s t seat r v duty gr nodes holds (ToGrow post root) h = below_on p s t seat 0 0 0 0 gr post root duty h
 
--- so do the locks that a seat holds
-pub hands_same : (s t : TreeState) (seat : ℕ) → t.hold ≡ s.hold → (held : Option ℕ) → Hands s seat held → Hands t seat held
-hands_same s t seat is held h = search rules
-
 pub need_lock_is : (p : ConfigParts) (r : Registers) (v : Walk) (need : Need) → need_lock p (record r { walk = v }) need ≡ need_lock p r need
 need_lock_is p r v need = search rules
 
@@ -572,10 +558,6 @@ module _ (p : ConfigParts) (ok : IsSetting p) (words : List ℕ) (Has Now : ℕ 
 filling_in : (p : ConfigParts) (s : TreeState) (seat : ℕ) (r : Registers) (fresh done : ℕ) (duty : Option Posting) (filling : Filling) → FillsWith p s seat r fresh done duty filling → FillsFresh s seat r.spare r.fresh_words fresh done
 filling_in p s seat r fresh done duty filling h = search rules
 
--- one word more
-fills_more : (s : TreeState) (seat : ℕ) (spare : NodeRange) (ready : List ℕ) (fresh done : ℕ) → done < length (s.node fresh) → FillsFresh s seat spare ready fresh done → FillsFresh (filled s fresh done (get_or ready done 0)) seat spare ready fresh (done + 1)
-fills_more s seat spare ready fresh done lt f = search (rules, put_here, get_or-set_same, get_or-set_other)
-
 -- the right half is stored, and the left one is planned
 half_planned : (p : ConfigParts) (s : TreeState) (seat f q e : ℕ) (r : Registers) (fresh n : ℕ) (write : Write) (after : Then) (duty : Option Posting) → PlansHalf p s seat r fresh n write after duty → FillsFresh s seat r.spare r.fresh_words fresh (node_size p) → Plans p s seat f q e r n write after duty
 half_planned p s seat f q e r fresh n write after duty h full = search rules
@@ -599,12 +581,12 @@ module _ (p : ConfigParts) (ok : IsSetting p) (words : List ℕ) (Has Now : ℕ 
     real = h.real;
     held = h.held;
     half = half_on p s T seat giving.node (stays giving.node h.filling) r fresh giving.write giving.after duty h.half;
-    filling = fills_more s seat r.spare r.fresh_words fresh done (omega (arith, b.ground.long fresh, lt)) h.filling;
+    filling = search (rules, put_here, get_or-set_same, get_or-set_other);
   }
   fills_next duty (NewRoot post root) lt h = record {
     below = below_on p s T seat 0 0 0 0 (same_grows s T seat 0 0 same (omega arith)) post root duty h.below;
     ready_is = h.ready_is;
-    filling = fills_more s seat r.spare r.fresh_words fresh done (omega (arith, b.ground.long fresh, lt)) h.filling;
+    filling = search (rules, put_here, get_or-set_same, get_or-set_other);
     last = h.last;
   }
 
@@ -616,7 +598,7 @@ module _ (p : ConfigParts) (ok : IsSetting p) (words : List ℕ) (Has Now : ℕ 
     stores ph fits held pend calm mv =
         let f = K.work.fits in
         advance p ok words Has Now Out seat s b a r now T (Fill fresh done filling) ph r K same (fresh_act p words s b.ground seat fresh done (get_or r.fresh_words done 0) (filling_in p s seat r fresh done K.work.duty filling f.fills).own f.left) (λ server. refl) (same_call r) fits
-        (hands_same s T seat refl (holding p r ph) (subst (Hands s seat) (sym held) K.work.hands)) pend calm mv
+        (search rules) pend calm mv
 
   stored : (filling : Filling) (t : Bool) → (done + 1 == node_size p) ≡ t → Has seat (actor_in p seat a r (Fill fresh done filling))
       → Moves Has seat (becomes seat (actor_in p seat a r (Fill fresh done filling)) s.log [] (if t then fill_done (at p seat r (Fill fresh done filling)) fresh filling else at p seat r (Fill fresh (done + 1) filling))) Now → Inv p now (s.log ++ []) Now Out

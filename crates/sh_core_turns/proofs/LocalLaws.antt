@@ -1,12 +1,12 @@
 -- Turns without an event: they change no word, and rights go from one to another.
-use Rattle.std.proofs.Common.{rules, ◌≡◌, ◌≢◌, ℕ, ◌+◌, ◌<◌, ◌≤◌, Bool, true, false, List, [], ◌++◌, length, Option, Some, None, refl, sym, ap, subst, arith, length-append, ◌⊎◌, ◌-◌, ◌∙◌, inl, inr}
+use Rattle.std.proofs.Common.{rules, ◌≡◌, ◌≢◌, ℕ, ◌+◌, ◌≤◌, Bool, true, false, List, [], ◌++◌, length, Option, Some, None, refl, sym, ap, subst, arith, length-append, ◌⊎◌, ◌-◌, ◌∙◌, inl, inr}
 use Rattle.std.{proofs.{Common.{drop_of_length-le}}, specs.Prelude.{if◌then◌else◌}}
 use Rattle.sh_base.{specs.{declared.config.ConfigParts.{ConfigParts}, Setting.{IsSetting, all_seats, node_size}, Layout.{lock_of, compute_of}}, proofs.LayoutLemmas.{node_size_is}}
 use Rattle.sh_map.specs.declared.log.Entry.{Entry as LogEntry}
 use Rattle.sh_lock.specs.{declared.state.Release.{TheVariants.{Hand, Free}, Release}, Locks.{release_of}}
 use Rattle.sh_state.{specs.{TreeState.{Seat, LockState, Held, TreeState, Owner, Grant}, Nodes.{Orderly}, Ground.{Ground}, Change.{ChangeFor}}, proofs.Puts.{put_here, put_else, put_case}}
 use Rattle.sh_decide.specs.declared.state.{Posting.{Posting}, Aim.{Aim}}
-use Rattle.sh_client.specs.{Giving.{carried, released, writes_nothing}, Machine.{Machine, Registers, handed_over}, Rests.{rows_for}, Wants.{count_of, load_of, want_in, want_of}}
+use Rattle.sh_client.specs.{Giving.{carried, released, writes_nothing}, Machine.{Machine, Registers, handed_over}, Rests.{rows_for}, Wants.{want_in, want_of}}
 use Rattle.sh_client.specs.declared.state.{Giving.{Giving}, Phase.{TheVariants.{Root, Draw, Look, Grab, Waiting, Body, Unlock, Leave, Ended, ReadLocked, Read, Seek}, Phase}, Then.{Then}}
 use Rattle.sh_client.specs.declared.state.{Then.TheVariants.{Ends, Starts, Takes}, Write.{TheVariants.{Nothing}, Write}}
 use Rattle.sh_core.{proofs.{Causes.{decided_cause}, Others.{follows_on, at_on, seat_apart, adds_before, bounded_less, step_to}}, specs.Actors.{Actor, becomes, ending, actor_stepped, actor_turned}}
@@ -14,16 +14,11 @@ use Rattle.sh_core.proofs.Frame.{next, actor_in, at, goes_on, ends_now, decided_
 use Rattle.sh_core.{proofs.Frame.{hands_drop, actor_is, before}, specs.Core.{Inv, Moves, SomeAdds, IsLocal, HasSeen, LocalKeeps, LookKeeps, TakeKeeps, PartKeeps}}
 use Rattle.sh_core.specs.{Fits.{Carries, Fits, Follows, Plans}, Keeps.{holding, Hands, pending, pending_then, pending_write, KeepsActor}}
 use Rattle.sh_core_turns.proofs.Standing.{to_root}
-use Rattle.sh_read.specs.Reads.{reads_start, wanted}
+use Rattle.sh_read.specs.Reads.{reads_start}
 use Rattle.sh_acts.{specs.Acts.{with_hold}, proofs.Holds.{hand_act}}
-use Rattle.sh_alloc.specs.{declared.state.ChunkWant.{ChunkWant}, Walks.{walk_wants}}
-
--- a lock that is handed over isn't at the bound
-hand_below : (count depth bound : ℕ) → release_of count depth bound ≡ Hand → depth ≤ bound → depth + 1 ≤ bound
-hand_below count depth bound e le = search rules
 
 carries_on : (p : ConfigParts) (count depth : ℕ) (r : Release) → release_of count depth p.bound ≡ r → depth ≤ p.bound → Carries p depth (carried depth r)
-carries_on p count depth r e le = search (rules, hand_below)
+carries_on p count depth r e le = search rules
 
 writes_some : (write : Write) → writes_nothing write ≡ false → write ≢ Nothing
 writes_some write e = search rules
@@ -66,13 +61,6 @@ module _ (p : ConfigParts) (ok : IsSetting p) (words : List ℕ) (Has Now : ℕ 
   bound_is : (n d : ℕ) → s.hold (lock_of p n) ≡ Held (Seat i) d → d ≤ p.bound
   bound_is n d e = subst (λ (x : LockState). Orderly p s (lock_of p n) x) e (b.ground.orderly (lock_of p n))
 
-  some_body : (write : Write) (duty : Option Posting) (after : Then) (n : ℕ) → write ≢ Nothing → Plans p s i a.first a.point a.seen r n write after duty → 0 < length r.body
-  some_body write duty after n ne h = search rules
-
-  -- what is planned to be stored doesn't lean on what was seen
-  plans_later : (write : Write) (duty : Option Posting) (after : Then) (n : ℕ) → a.seen ≤ length s.log → Plans p s i a.first a.point a.seen r n write after duty → Plans p s i a.first a.point N r n write after duty
-  plans_later write duty after n le h = search (rules, later)
-
   -- nothing is written: what follows is known, and so are the entries of the call
   unwritten : (d : ℕ) (giving : Giving) (k : KeepsActor p s i (actor_in p i a r (Waiting d giving))) → writes_nothing giving.write ≡ true → Follows p s i a.first a.point N r.call r.reply k.work.duty giving.after
   unwritten d giving k t = later k.work.duty giving.after k.seen (subst (λ (x : Write). Plans p s i a.first a.point a.seen r giving.node x giving.after k.work.duty) (writes_none giving.write t) k.work.fits.plans)
@@ -87,8 +75,8 @@ module _ (p : ConfigParts) (ok : IsSetting p) (words : List ℕ) (Has Now : ℕ 
       let f = k.work.fits in
       let some = writes_some giving.write t in
       goes (Waiting d giving) (Body (carried d x) 0 giving) k record {
-        storing = record { real = f.real; some = some; depth = d; held = f.held; carries = carries_on p word d x e (bound_is giving.node d f.held); left = some_body giving.write k.work.duty giving.after giving.node some f.plans };
-        plans = plans_later giving.write k.work.duty giving.after giving.node k.seen f.plans;
+        storing = record { real = f.real; some = some; depth = d; held = f.held; carries = carries_on p word d x e (bound_is giving.node d f.held); left = (search rules) };
+        plans = search (rules, later);
       } k.work.hands refl tt mv
   waits d word giving Free e true t h mv =
       let k = b.kept i (actor_in p i a r (Waiting d giving)) h in
@@ -210,12 +198,6 @@ module _ (p : ConfigParts) (ok : IsSetting p) (words : List ℕ) (Has Now : ℕ 
 
 -- ---- the laws of the turns that a compute server answers, and of rights
 
-not_local_load : (o : Option ℕ) → IsLocal (load_of o) → ⊥
-not_local_load o h = search rules
-
-not_local_count : (w : ChunkWant) → IsLocal (count_of w) → ⊥
-not_local_count w h = search rules
-
 module _ (p : ConfigParts) (ok : IsSetting p) (words : List ℕ) (log seen : List LogEntry) (Has Now : ℕ → Actor → Type 0) (Out : ℕ → ℕ → ℕ → Type 0) (i : ℕ) (a : Actor) (inv : Inv p words log Has Out) (h : Has i a) (saw : HasSeen log seen a) where
   abbrev R : Registers
   R = a.client.registers
@@ -240,9 +222,9 @@ module _ (p : ConfigParts) (ok : IsSetting p) (words : List ℕ) (log seen : Lis
   locals (Look aim n) word l = look p ok words Has Now Out i inv.scene B a R seen saw.rest whole saw.more aim n word
   locals (Waiting d giving) word l = waiting p ok words Has Now Out i inv.scene B a R seen saw.rest whole saw.more d word giving
   locals (Leave n None after) word l = leave p ok words Has Now Out i inv.scene B a R seen saw.rest whole saw.more n word after
-  locals (Read aim top) word l = absurd (not_local_load (wanted p R.reads) l)
-  locals (ReadLocked aim d) word l = absurd (not_local_load (wanted p R.reads) l)
-  locals (Seek need) word l = absurd (not_local_count (walk_wants p R.walk) l)
+  locals (Read aim top) word l = absurd (search rules)
+  locals (ReadLocked aim d) word l = absurd (search rules)
+  locals (Seek need) word l = absurd (search rules)
   locals ph word l = absurd l
 
   pub local_turn : (word : ℕ) → IsLocal (want_of a.client) → Moves Has i (actor_stepped i a seen word) Now → Inv p words log Now Out

@@ -1,11 +1,11 @@
 -- A walk over the counters for a fresh node, by what it comes to: it goes on, it got a chunk, or all chunks are spent.
-use Rattle.std.proofs.{Common.{rules, ◌≡◌, ℕ, ◌+◌, ◌≤◌, List, [], length, Some, refl, sym, ap, ◌∙◌, subst, arith, append-nil}, lemmas.Bool.Decides.{nat_tests}}
+use Rattle.std.proofs.{Common.{rules, ◌≡◌, ℕ, ◌+◌, ◌≤◌, List, [], length, refl, sym, ap, ◌∙◌, subst, arith, append-nil}, lemmas.Bool.Decides.{nat_tests}}
 use Rattle.sh_base.specs.{declared.{config.ConfigParts.{ConfigParts}, event.Event.{Event, TheVariants.{Add}}}, Setting.{IsSetting}, Layout.{counter_word, first_node}}
 use Rattle.sh_base.proofs.LayoutLemmas.{node_size_is}
 use Rattle.sh_readers.{specs.Hand.{AreRowsOf}, proofs.RowLemmas.{rows_linked}}
 use Rattle.sh_map.specs.{declared.call.Call.{Call}, Made.{entries_by}}
 use Rattle.sh_map.specs.declared.call.Reply.TheVariants as reply
-use Rattle.sh_alloc.specs.{declared.state.{NodeRange.{NodeRange}, Walk.{Walk}, ChunkWant.{ChunkWant}}, Spares.{lowest, nodes_from, without_lowest}, Walks.{walk_wants}}
+use Rattle.sh_alloc.specs.{declared.state.{NodeRange.{NodeRange}, Walk.{Walk}, ChunkWant.{ChunkWant}}, Spares.{nodes_from, without_lowest}, Walks.{walk_wants}}
 use Rattle.sh_alloc.specs.declared.state.ChunkWant.TheVariants as chunk
 use Rattle.sh_state.{specs.{TreeState.{Linked, TreeState, put}, Ground.{Ground}, Change.{Change}}, proofs.Puts.{put_case}}
 use Rattle.sh_acts.{specs.Acts.{drawn, skipped}, proofs.Own.{drawn_mine}}
@@ -13,9 +13,9 @@ use Rattle.sh_decide.specs.declared.state.Aim.TheVariants.{Own, Gathers, Posts}
 use Rattle.sh_client.specs.declared.state.{Need.{Need, TheVariants.{ToSplit, ToGrow}}, Then.TheVariants.{Ends}, Write.TheVariants.{Nothing}, Phase.{Phase, TheVariants.{Fill, Seek, Waiting}}}
 use Rattle.sh_client.specs.{declared.state.Tally.{Tally}, Machine.{Machine, Registers, up}, Splitting.{giving_of, sought_by}, Wants.{count_of}}
 use Rattle.sh_client.specs.declared.state.Want.TheVariants as want
-use Rattle.sh_core.specs.{Actors.{Actor, becomes}, Fits.{AreSpares, AreSpent, IsDecided, IsSeeking, Owes}, Keeps.{need_lock, pending, Hands, IsAtWork, KeepsActor}, Core.{WantsAdd}}
+use Rattle.sh_core.specs.{Actors.{Actor, becomes}, Fits.{AreSpares, AreSpent, IsDecided, IsSeeking, Owes}, Keeps.{pending, Hands, IsAtWork, KeepsActor}, Core.{WantsAdd}}
 use Rattle.sh_core.proofs.{Others.{Grows, owes_on}, Frame.{next, actor_in, at, goes_on, same_grows, work_anew, work_with, Before, SameNodes}}
-use Rattle.sh_core_turns.proofs.FreshNodes.{IsTaken, takes_lowest, SplitsFor, leaf_to_split, put_misses, begins, hands_same, need_lock_is, needs_on}
+use Rattle.sh_core_turns.proofs.FreshNodes.{IsTaken, takes_lowest, SplitsFor, leaf_to_split, put_misses, begins, need_lock_is, needs_on}
 use Rattle.sh_core_turns.proofs.Posts.{spent_more, skips_act, keeps_ended, keeps_skipped}
 
 pub event_is : (x y : Event) → want.Event x ≡ want.Event y → x ≡ y
@@ -56,12 +56,9 @@ counts_alone p seat s now f c = record { log = refl; class = λ n. refl; post = 
 drawn_on : (p : ConfigParts) (seat : ℕ) (s : TreeState) (server e n : ℕ) → Change p seat s (drawn p s server seat) → e ≤ n → Grows s (drawn p s server seat) seat e n
 drawn_on p seat s server e n ch le = record { more = []; longer = sym (append-nil s.log); linked = ch.linked; pending = λ m q. q; counts = counted_rise s server; later = le }
 
-some_lowest : (first count : ℕ) → 1 ≤ count → lowest (nodes_from first count) ≡ Some first
-some_lowest first count le = grind (arith, nat_tests)
-
 -- its lowest node is taken, and the others are spare
 takes_chunk : (p : ConfigParts) (ok : IsSetting p) (s : TreeState) (seat server : ℕ) → let fresh : ℕ = first_node p server (s.counter server) in IsTaken (drawn p s server seat) seat fresh (without_lowest (nodes_from fresh p.chunk_nodes))
-takes_chunk p ok s seat server = search (rules, takes_lowest, drawn_mine, some_lowest)
+takes_chunk p ok s seat server = search (rules, takes_lowest, drawn_mine, nat_tests)
 
 module _ (p : ConfigParts) (ok : IsSetting p) (words : List ℕ) (Has : ℕ → Actor → Type 0) (Out : ℕ → ℕ → ℕ → Type 0) (seat : ℕ) (s : TreeState) (b : Before p words Has Out s) (a : Actor) (r : Registers) where
   abbrev N : ℕ
@@ -91,7 +88,7 @@ module _ (p : ConfigParts) (ok : IsSetting p) (words : List ℕ) (Has : ℕ → 
           let x : Registers = record r { walk = v } in
           counts_to f x ph (chunk.Event e) c
           (work_with p s t seat a.first a.point a.seen N r ph K.work same K.seen x ph record { call_is = refl; reply_is = refl; spare_is = refl; skips_are = refl; cached_is = refl }
-          record { needs = needs_on p s t seat r v K.work.duty (same_grows s t seat 0 0 same (omega arith)) refl refl need K.work.fits.needs; seeking = here } (subst (Hands t seat) (sym (need_lock_is p r v need)) (hands_same s t seat refl (need_lock p r need) K.work.hands)))
+          record { needs = needs_on p s t seat r v K.work.duty (same_grows s t seat 0 0 same (omega arith)) refl refl need K.work.fits.needs; seeking = here } (subst (Hands t seat) (sym (need_lock_is p r v need)) (search rules)))
           refl (λ server q. ap chunk.Event (event_is e (Add (counter_word p server)) (sym (ap count_of at) ∙ q)))
 
       pub got : (server : ℕ) → Change p seat s (drawn p s server seat) × Ground p now (drawn p s server seat) → let w : ChunkWant = chunk.Got server (s.counter server) in Reached p seat s now (counted_on s server) w (walked_to v w)
@@ -106,7 +103,7 @@ module _ (p : ConfigParts) (ok : IsSetting p) (words : List ℕ) (Has : ℕ → 
           let z = begins p ok now t act.1 seat a.first a.point N (record r { walk = v }) K.work.seated.in_range K.work.duty owes fresh rest taken ph need needs in
           let x : Machine = at p seat z.registers (Fill fresh 0 z.filling) in
           let spares = subst (AreSpares t seat) (sym z.spare_is) taken.spares in
-          let hands = subst (Hands t seat) (sym (z.lock_is ∙ need_lock_is p r v need)) (hands_same s t seat refl (need_lock p r need) K.work.hands) in
+          let hands = subst (Hands t seat) (sym (z.lock_is ∙ need_lock_is p r v need)) (search rules) in
           let work = work_anew p s t seat a.first a.point a.seen N r ph K.work (λ n. refl) z.registers (Fill fresh 0 z.filling) z.call_is z.skips_are record { fills = z.fills; left = omega (arith, node_size_is p) } z.owes spares (subst (AreRowsOf t) (sym z.cached_is) (rows_linked p s t act.0.linked r.cached K.work.cached)) hands in
           subst (λ (m : Machine). Reached p seat s now (counted_on s server) w (becomes seat (actor_in p seat a r ph) s.log [] m)) (sym z.machine_is)
           record { scene = t; act = act; log = refl; counts = λ u. refl; keeps = goes_on p s t seat N (actor_in p seat a r ph) x K refl (counted_rise s server) K.seen (omega arith) work z.pending_is; adds = λ u q. absurd (cc) }

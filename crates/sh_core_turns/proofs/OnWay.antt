@@ -23,14 +23,7 @@ use Rattle.sh_client.specs.{Cached.{image_kept, settled}, Ranges.{is_whole, pass
 use Rattle.sh_core.specs.{Actors.{Actor, becomes, ending}, Fits.{Gathered, HasGathered, IsBelow, IsOnWay, IsThere, HasRead, Reaches, duty_of}, Causes.{HasCause}, Keeps.{pending_aim, KeepsActor}}
 use Rattle.sh_core.{specs.Core.{Inv, Moves}, proofs.{Causes.{ends_by_rows}, Frame.{Before, Claim, IsEnding, SameCall, actor_in, at, ends_now, one_log, quiet, same_here, stays, work_ended}}}
 use Rattle.sh_core_turns.{proofs.FreshNodes.{needs_land}, specs.Senses.{is_range, lacks_answer, of_image, of_read, strays, strays_beyond, strays_by}}
-use Rattle.sh_core_turns.proofs.Standing.{learns, aim_key, gathered_as, hop_leads, is_lt, names_node, not_lt, place_key, whole_accepted, IsSeenLeaf, more_known, seen_leaf, seen_inner}
-
-differ : (a b : ℕ) → (a == b) ≡ false → a ≢ b
-differ a b e = grind (arith, nat_tests)
-
--- where no new root goes over it, a node isn't below the wanted level
-not_below : (top : Bool) (aim : Aim) (image : Image) (level : ℕ) → Reaches top (target aim) level → level_of image ≡ level → (top && is_below aim image) ≡ false → target aim ≤ level
-not_below top aim image level r e q = search (rules, differ)
+use Rattle.sh_core_turns.proofs.Standing.{learns, aim_key, gathered_as, hop_leads, is_lt, names_node, not_lt, whole_accepted, IsSeenLeaf, more_known, seen_leaf, seen_inner}
 
 module _ (p : ConfigParts) (ok : IsSetting p) (words : List ℕ) (Has Now : ℕ → Actor → Type 0) (Out : ℕ → ℕ → ℕ → Type 0) (i : ℕ) (s : TreeState) (b : Before p words Has Out s) (a : Actor) (r : Registers) (aim : Aim) (top : Bool)
     (k : KeepsActor p s i (actor_in p i a r (Read aim top))) where
@@ -47,7 +40,7 @@ module _ (p : ConfigParts) (ok : IsSetting p) (words : List ℕ) (Has Now : ℕ 
   key = aimed_key r.call aim
 
   is_key : IsKey key
-  is_key = aim_key p s i a.first a.point a.seen r.call r.reply aim k.work.duty k.work.seated.in_range k.work.fits.duty_is k.work.owes (place_key p s.log a.first r.call r.rows aim k.work.fits.rows)
+  is_key = aim_key p s i a.first a.point a.seen r.call r.reply aim k.work.duty k.work.seated.in_range k.work.fits.duty_is k.work.owes (search rules)
 
   -- to a READ of a node
   reads_on : (x : Registers) (t : Bool) → SameCall r x → x.rows ≡ r.rows → pending_aim i x.call x.reply aim ≡ pending_aim i r.call r.reply aim → IsOnWay p s a.first x.call x.reads aim t → Lands (at p i x (Read aim t))
@@ -259,7 +252,7 @@ module _ (p : ConfigParts) (ok : IsSetting p) (words : List ℕ) (Has Now : ℕ 
 
         by : (t : Bool) → (top && is_below aim image) ≡ t → LandsWell (if t then false else strays_by p r.call r.rows aim image (hop_of image key (target aim))) (went M aim image (if t then way.Grow else way_by p r.call aim reads.node image (hop_of image key (target aim))))
         by true e = (refl, goes_up image aim refl img (both top (is_below aim image) e))
-        by false e = by_hop image (hop_of image key (target aim)) refl img seen (not_below top aim image level reach img.level_is e)
+        by false e = by_hop image (hop_of image key (target aim)) refl img seen (search (rules, nat_tests))
 
 -- ---- a word is loaded
 module _ (p : ConfigParts) (ok : IsSetting p) (words : List ℕ) (Has Now : ℕ → Actor → Type 0) (Out : ℕ → ℕ → ℕ → Type 0) (i : ℕ) (s : TreeState) (b : Before p words Has Out s) (a : Actor) (r : Registers) (aim : Aim) (top : Bool)

@@ -33,14 +33,11 @@ decided_by_entry p s seat f q e c r h = search (rules, no_entry)
 pub skips_kept : (s t : TreeState) (seat count c : ℕ) (x : ParentLink) → ((n : ℕ) → t.post n ≡ put s.post c x n) → s.post c ≢ Skipped seat → x ≢ Skipped seat → Skips s seat count → Skips t seat count
 skips_kept s t seat count c x is was now h = search (rules, put_else, put_case)
 
-off_list : (ns : List ℕ) (n : ℕ) (b : Bool) → is_in ns n ≡ b → (is_in ns n ≡ true → ⊥) → is_in ns n ≡ false
-off_list ns n b e off = search rules
-
 -- one more is skipped
 pub skips_more : (s : TreeState) (seat count c : ℕ) → s.post c ≢ Skipped seat → Skips s seat count → Skips (skipped s c seat) seat (count + 1)
 skips_more s seat count c off h = record {
   nodes = c ∷ h.nodes;
-  once = (off_list h.nodes c (is_in h.nodes c) refl (λ e. off ((h.are c).0 e)), h.once);
+  once = (search rules, h.once);
   are = λ n. (
     λ e. put_case (λ z. z ≡ Skipped seat) s.post c (Skipped seat) n (λ q. refl) (λ ne. elim (in_cases c n h.nodes e) [ inl q ↦ absurd (ne (sym q)) | inr rest ↦ (h.are n).0 rest ]),
     put_case (λ z. z ≡ Skipped seat → is_in (c ∷ h.nodes) n ≡ true) s.post c (Skipped seat) n (λ q e. subst (λ (m : ℕ). is_in (c ∷ h.nodes) m ≡ true) (sym q) (in_head c h.nodes)) (λ ne e. in_more c n h.nodes ((h.are n).1 e)),

@@ -1,34 +1,27 @@
 -- No client comes to a senseless case.
-use Rattle.std.{proofs.Common.{rules, ◌≡◌, ℕ, Bool, false, List, Option, refl, sym, ap, ◌∙◌, subst, true, ◌∷◌, length, Some, None}, specs.Prelude.{not, ◌&&◌, if◌then◌else◌, nat_lt}}
-use Rattle.sh_base.specs.{declared.{config.ConfigParts.{ConfigParts}, event.Event.{Event}}, Setting.{IsSetting, node_size, last_version, last_entry_version}, Memory.{found_by}}
+use Rattle.std.{proofs.Common.{rules, ◌≡◌, ℕ, Bool, false, List, Option, refl, sym, ap, ◌∙◌, subst, true, ◌∷◌, Some, None}, specs.Prelude.{not, if◌then◌else◌, nat_lt}}
+use Rattle.sh_base.specs.{declared.{config.ConfigParts.{ConfigParts}, event.Event.{Event}}, Setting.{IsSetting, last_version, last_entry_version}, Memory.{found_by}}
 use Rattle.sh_map.specs.declared.call.Call.{Call}
-use Rattle.sh_image.specs.{Inner.{Inner}, Leaf.{Leaf}, declared.{inner.Image.{Image}, read.Seen.{Seen}}}
+use Rattle.sh_image.specs.{Leaf.{Leaf}, declared.{inner.Image.{Image}}}
 use Rattle.sh_alloc.specs.{declared.state.ChunkWant.{ChunkWant}, Walks.{walk_fed, walk_wants}}
 use Rattle.sh_descend.specs.{declared.Hop.{Hop}, Descent.{hop_of}}
 use Rattle.sh_state.specs.TreeState.{TreeState}
-use Rattle.sh_decide.specs.{Aims.{aimed_key, target, is_node, takes_lock}, Leaves.{version_at}, Ways.{is_below, way_by, way_here, way_of}, declared.state.Aim.{Aim}}
-use Rattle.sh_decide.specs.Deciding.{decided_by, decided_here, change_at, post_in, put_in, put_into, del_in, unless_worn, update_in}
-use Rattle.sh_decide.specs.declared.state.{Aim.TheVariants.{Own, Gathers}, Decision.{Decision}, Posting.{Posting}, Way.{Way}}
-use Rattle.sh_client.specs.{Cached.{learning, settling}, Feeds.{arrived, did, fed_in, from_root, held_by, hold_by, loaded, read_by, went}, Machine.{Registers, Machine, reading, to}}
-use Rattle.sh_client.specs.{Ranges.{range_ended}, Splitting.{root_grown, halved_by, needing, sought_by, walked}, Wants.{want_in, want_of}, declared.state.Edge.{Edge}}
-use Rattle.sh_client.specs.declared.state.{Need.{TheVariants.{ToSplit, ToGrow}, Need}, Phase.{TheVariants.{Root, Read, ReadLocked, Seek}, Phase}}
-use Rattle.sh_core.{specs.{Actors.{Actor}, Fits.{Needs}}, proofs.Frame.{actor_is, Before, actor_in, at, before}}
+use Rattle.sh_decide.specs.{Aims.{aimed_key, target, takes_lock}, Leaves.{version_at}, Ways.{way_by, way_here, way_of}, declared.state.Aim.{Aim}}
+use Rattle.sh_decide.specs.Deciding.{decided_by, change_at, unless_worn, update_in}
+use Rattle.sh_decide.specs.declared.state.{Aim.TheVariants.{Own}, Decision.{Decision}, Way.{Way}}
+use Rattle.sh_client.specs.{Cached.{learning, settling}, Feeds.{arrived, did, fed_in, held_by, hold_by, loaded, read_by, went}, Machine.{Registers, Machine}}
+use Rattle.sh_client.specs.{Wants.{want_in, want_of}}
+use Rattle.sh_client.specs.declared.state.{Phase.{TheVariants.{Root, Read, ReadLocked, Seek}, Phase}}
+use Rattle.sh_core.{specs.{Actors.{Actor}}, proofs.Frame.{actor_is, Before, actor_in, at, before}}
 use Rattle.sh_core_turns.proofs.{InnerDecisions.{locked_reads}, Needs.{event_is}, OnWay.{way_read}, Standing.{root_named, load_is, split_here}}
-use Rattle.sh_core_turns.specs.Senses.{NeverSenseless, is_other_kind, is_senseless, is_senseless_in, of_image, of_walk, splits_other_kind, is_wrong, is_wrong_by, is_wrong_here, lacks_answer, of_read}
-use Rattle.sh_core_turns.specs.Senses.{strays, strays_by, is_at_root, gives_back, leaves_off, starts_again, IsMade, AreAllCases}
-use Rattle.sh_read.specs.{declared.state.Progress.{TheVariants.{More, Accepted, Again, Odd}, Progress}, Judging.{seen_of}, Reads.{Reads, accepted, answer_to, reads_left, progress_of, reads_with}}
+use Rattle.sh_core_turns.specs.Senses.{NeverSenseless, is_other_kind, is_senseless, is_senseless_in, of_image, of_walk, splits_other_kind, is_wrong, is_wrong_by, lacks_answer, of_read}
+use Rattle.sh_core_turns.specs.Senses.{strays, strays_by, is_at_root, leaves_off, starts_again, IsMade, AreAllCases}
+use Rattle.sh_read.specs.{declared.state.Progress.{TheVariants.{More, Accepted, Again, Odd}, Progress}, Reads.{Reads, accepted, progress_of, reads_with}}
 use Rattle.sh_decide.specs.declared.state.Decision.TheVariants as decision
 use Rattle.sh_client.specs.declared.state.Want.TheVariants as want
 use Rattle.sh_decide.specs.declared.state.Way.TheVariants as way
 
 -- ---- a chunk is found
-
--- no node of the other kind is to be split
-pub split_kind : (p : ConfigParts) (c : Call) (aim : Aim) (image : Image) (hop : Hop) → decided_by p c aim image hop ≡ decision.Split → is_other_kind aim image ≡ false
-split_kind p c aim image hop e = search (rules, split_here)
-
-no_other_kind : (p : ConfigParts) (s : TreeState) (i : ℕ) (r : Registers) (duty : Option Posting) (ph : Phase) (need : Need) → Needs p s i r duty need → splits_other_kind (at p i r ph) need ≡ false
-no_other_kind p s i r duty ph need h = search (rules, split_kind)
 
 walks_well : (split : Bool) (wants : ChunkWant) → split ≡ false → of_walk split wants ≡ false
 walks_well split wants h = search rules
@@ -44,7 +37,7 @@ module _ (p : ConfigParts) (ok : IsSetting p) (words : List ℕ) (Has : ℕ → 
   sound (ReadLocked aim depth) e q h = subst (Sound (ReadLocked aim depth)) (load_is p r.reads e q) (λ h. (locked_reads p ok words Has Has Out i s b a r aim depth (b.kept i (actor_in p i a r (ReadLocked aim depth)) h)).0) h
   sound (Seek need) e q h =
       let k = b.kept i (actor_in p i a r (Seek need)) h in
-      walks_well (splits_other_kind (at p i r (Seek need)) need) (walk_wants p (walk_fed p r.walk (found_by words e))) (no_other_kind p s i r k.work.duty (Seek need) need k.work.fits.needs)
+      walks_well (splits_other_kind (at p i r (Seek need)) need) (walk_wants p (walk_fed p r.walk (found_by words e))) (search (rules, split_here))
   sound ph e q h = refl
 
 pub never_senseless : (p : ConfigParts) → IsSetting p → NeverSenseless p
@@ -57,17 +50,8 @@ never_senseless p ok words log Has Out i a e inv h q =
 
 -- ---- READs without a lock
 module _ (m : Machine) where
-  grows : (post : Posting) (root : ℕ) (o : Option ℕ) → false ≡ is_at_root (needing m (ToGrow post root) o).phase
-  grows post root o = search rules
-
-  grows_over : (top : Bool) (aim : Aim) (image : Image) → (top && is_below aim image) ≡ true → false ≡ is_at_root (root_grown m aim m.registers.reads.node).phase
-  grows_over top aim image e = search (rules, grows)
-
-  ranges : (place : ℕ) (a : Leaf) (whole real : Bool) (edge : Edge) (x : Machine) → (if whole then false else not real) ≡ is_at_root (if whole then range_ended x else (if real then reading x edge.next (Read (Gathers edge.high) false) else to x (Root (Gathers edge.high)))).phase
-  ranges place a whole real edge x = search rules
-
   covers : (aim : Aim) (image : Image) → let c : Call = m.registers.call in lacks_answer m.setting c m.registers.rows aim image ≡ is_at_root (went m aim image (way_here c aim m.registers.reads.node image)).phase
-  covers aim image = search (rules, ranges)
+  covers aim image = search rules
 
   off_root : (aim : Aim) (image : Image) (n t : Bool) (v w : Way) → is_at_root (went m aim image v).phase ≡ false → is_at_root (went m aim image w).phase ≡ false → not n ≡ is_at_root (went m aim image (if n then (if t then v else w) else way.Root)).phase
   off_root aim image n t v w h k = search rules
@@ -76,7 +60,7 @@ module _ (m : Machine) where
   leads aim image hop = search (rules, covers, off_root)
 
   goes : (aim : Aim) (top : Bool) (image : Image) → strays m.setting m.registers.call m.registers.rows aim top image ≡ is_at_root (went m aim image (way_of m.setting m.registers.call aim top m.registers.reads.node image)).phase
-  goes aim top image = search (rules, grows_over, leads)
+  goes aim top image = search (rules, leads)
 
 -- what was learnt of the image is nothing to that
 module _ (m : Machine) where
@@ -102,44 +86,21 @@ chosen t d other h k = search rules
 changes : (p : ConfigParts) (a : Leaf) (i : ℕ) → is_restart (change_at p a i) ≡ false
 changes p a i = chosen (nat_lt (version_at a.entries i) last_entry_version) (decision.Entry i) (unless_worn p a.version (decision.Rewrite i)) refl (chosen (nat_lt a.version (last_version p)) (decision.Rewrite i) (decision.Worn a.version) refl refl)
 
-puts_into : (p : ConfigParts) (a : Leaf) (o : Option ℕ) → is_restart (put_into p a o) ≡ false
-puts_into p a o = search (rules, changes, chosen)
-
-puts : (p : ConfigParts) (a : Leaf) (o : Option ℕ) → is_restart (put_in p a o) ≡ false
-puts p a o = search (rules, changes, puts_into)
-
-deletes : (p : ConfigParts) (a : Leaf) (o : Option ℕ) → is_restart (del_in p a o) ≡ false
-deletes p a o = search (rules, changes)
-
 updates : (p : ConfigParts) (a : Leaf) (c : Call) → takes_lock c Own ≡ true → is_restart (update_in p a c) ≡ false
-updates p a c h = search (rules, puts, deletes)
-
-posts : (p : ConfigParts) (a : Inner) → is_restart (post_in p a) ≡ false
-posts p a = search (rules, chosen)
-
--- the decision to start again is the senseless one
-decides_here : (p : ConfigParts) (c : Call) (aim : Aim) (image : Image) → takes_lock c aim ≡ true → is_wrong_here aim image ≡ is_restart (decided_here p c aim image)
-decides_here p c aim image h = search (rules, updates, posts)
+updates p a c h = search (rules, chosen, changes)
 
 decides : (p : ConfigParts) (c : Call) (aim : Aim) (image : Image) (hop : Hop) → takes_lock c aim ≡ true → is_wrong_by p aim image hop ≡ is_restart (decided_by p c aim image hop)
-decides p c aim image hop h = search (rules, decides_here)
+decides p c aim image hop h = search (rules, updates, chosen)
 
 abbrev is_off : Machine → Bool
 is_off m = leaves_off m.phase m.registers.reads.loaded
 
 module _ (m : Machine) where
-  -- a split never gives the lock back, where the image that was accepted is of the kind
-  halves : (x : Machine) (aim : Aim) (depth fresh : ℕ) (o : Option Image) → (of_image (λ (image : Image). is_other_kind aim image) o ≡ gives_back (halved_by x aim depth fresh o).phase) × ((loaded : List ℕ) → of_image (λ (image : Image). is_other_kind aim image) o ≡ leaves_off (halved_by x aim depth fresh o).phase loaded)
-  halves x aim depth fresh o = search rules
-
   abbrev seen : Option Image
   seen = accepted m.setting m.registers.reads
 
-  splits : (aim : Aim) (depth : ℕ) (o : Option ℕ) → of_image (λ (image : Image). is_other_kind aim image) seen ≡ false → false ≡ is_off (needing m (ToSplit aim depth) o)
-  splits aim depth o e = search (rules, halves, reads)
-
   does : (aim : Aim) (depth : ℕ) (image : Image) (d : Decision) → (d ≡ decision.Split → of_image (λ (x : Image). is_other_kind aim x) seen ≡ false) → is_restart d ≡ is_off (did m aim depth image d)
-  does aim depth image d h = search (rules, splits)
+  does aim depth image d h = search (rules, reads)
 
 module _ (m : Machine) where
   abbrev read : Option Image
@@ -149,10 +110,7 @@ module _ (m : Machine) where
   holds aim depth None is h = refl
   holds aim depth (Some image) is h =
       let hop : Hop = hop_of image (aimed_key m.registers.call aim) (target aim) in
-      decides m.setting m.registers.call aim image hop h ∙ does (settling m aim image) aim depth image (decided_by m.setting m.registers.call aim image hop) (λ d. ap (of_image (λ (x : Image). is_other_kind aim x)) is ∙ split_kind m.setting m.registers.call aim image hop d)
-
-  seeks : (need : Need) (w : ChunkWant) → of_walk (splits_other_kind m need) w ≡ gives_back (sought_by m need w).phase
-  seeks need w = search (rules, halves)
+      decides m.setting m.registers.call aim image hop h ∙ does (settling m aim image) aim depth image (decided_by m.setting m.registers.call aim image hop) (λ d. ap (of_image (λ (x : Image). is_other_kind aim x)) is ∙ (search (rules, split_here)))
 
 -- the READ under the lock is fed the word
 module _ (m : Machine) (word : ℕ) where
@@ -165,20 +123,11 @@ module _ (m : Machine) (word : ℕ) where
   abbrev Case : (aim : Aim) (depth : ℕ) (left : Reads) (v : Progress) → Type 0
   Case aim depth left v = of_read true (of_image (λ (x : Image). is_wrong m.setting m.registers.call aim x) (accepted m.setting left)) v ≡ is_off (hold_by (with left) aim depth v)
 
-  sees : (aim : Aim) (depth : ℕ) (v : Seen) → takes_lock m.registers.call aim ≡ true → Case aim depth (reads_left v r) (answer_to v)
-  sees aim depth v h = search (rules, holds)
-
-  feeds : (aim : Aim) (depth : ℕ) (t : Bool) → takes_lock m.registers.call aim ≡ true → Case aim depth (if t then r else reads_left (seen_of m.setting (word ∷ m.registers.reads.loaded)) r) (if t then More else answer_to (seen_of m.setting (word ∷ m.registers.reads.loaded)))
-  feeds aim depth t h = search (rules, sees, reads)
-
-  roots : (aim : Aim) (t : Bool) → not t ≡ is_at_root (if t then reading (from_root m) word (Read aim true) else to m (Root aim)).phase
-  roots aim t = search rules
-
   in_phase : (ph : Phase) → IsMade m.registers.call ph → is_senseless_in m word ph ≡ starts_again ph (fed_in m word ph)
-  in_phase (Root aim) h = roots aim (is_node m.setting word)
+  in_phase (Root aim) h = search rules
   in_phase (Read aim top) h = reads (loaded m word) aim top (progress_of m.setting m.registers.reads word)
-  in_phase (ReadLocked aim depth) h = feeds aim depth (nat_lt (length (word ∷ m.registers.reads.loaded)) (node_size m.setting)) h
-  in_phase (Seek need) h = seeks (walked m word) need (walk_wants m.setting (walk_fed m.setting m.registers.walk word))
+  in_phase (ReadLocked aim depth) h = search (rules, holds, reads)
+  in_phase (Seek need) h = search rules
   in_phase ph h = refl
 
 pub are_all_cases : AreAllCases

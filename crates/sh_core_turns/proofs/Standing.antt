@@ -1,8 +1,8 @@
 -- What the standing words of nodes are seen as, and what a client learns of them; and its turns on a lock.
 use Rattle.std.proofs.Common.{rules, ◌≡◌, ℕ, Bool, true, false, List, Option, Some, None, refl, sym, subst, ◌∙◌, eqb-true, ◌≢◌, zero, suc, ◌+◌, ◌-◌, ◌<◌, ◌≤◌, [], ◌∷◌, length, get_or, ap, arith, ◌++◌, set}
-use Rattle.std.{proofs.{Common.{drop_of_length-le}, lemmas.Bool.Decides.{nat_tests}}, specs.Prelude.{◌==◌, ◌&&◌, if◌then◌else◌, ◌^◌, not, nat_le, nat_lt}}
+use Rattle.std.{proofs.{Common.{drop_of_length-le}, lemmas.Bool.Decides.{nat_tests}}, specs.Prelude.{◌==◌, if◌then◌else◌, ◌^◌, not, nat_lt}}
 use Rattle.sh_base.{proofs.{LayoutLemmas.{node_size_is}, PlanLemmas.{lock_below}}, specs.{Layout.{node_word, rear_at, lock_of, lock_word, root_word, compute_of}, Places.{Root as RootSite}}}
-use Rattle.sh_base.specs.{Setting.{node_size, IsSetting, nodes, IsNode}, declared.{config.ConfigParts.{ConfigParts}, event.Event.{TheVariants.{Load, Store, Exchange}, Event}}}
+use Rattle.sh_base.specs.{Setting.{node_size, IsSetting}, declared.{config.ConfigParts.{ConfigParts}, event.Event.{TheVariants.{Load, Store, Exchange}, Event}}}
 use Rattle.sh_image.{proofs.UntornLemmas.{untorn_spelled, untorn_inner}, specs.{Inner.{Inner, inner_in, SpellsInner}, Leaf.{Leaf, leaf_in, Spells}, Node.{seen_as}, Seen.{SeenBy}}}
 use Rattle.sh_image.specs.declared.{inner.{Image.{TheVariants.{Leaf as LeafImage, Inner as InnerImage}, Image}, Pair.{Pair}}, read.Seen.{TheVariants.{Leaf as LeafSeen, Inner as InnerSeen}, Seen}}
 use Rattle.sh_cache.{proofs.RowLemmas.{forgotten_all, kept_all}}
@@ -14,7 +14,7 @@ use Rattle.sh_decide.specs.declared.state.{Aim.TheVariants.{Own, Gathers, Posts}
 use Rattle.sh_client.specs.{Cached.{image_kept, keeping, settled, without_origin}, Machine.{Registers}, Wants.{load_of}}
 use Rattle.sh_client.specs.declared.state.{Phase.TheVariants.{Read, ReadLocked, Root, Grab, Unlock, Leave}, Then.{Then}}
 use Rattle.sh_core.proofs.{Frame.{actor_in, Before, Claim, advance, at, hands_drop, hands_take, quiet, same_call, same_grows, same_hold}, Others.{named_on, follows_on}}
-use Rattle.sh_core.specs.{Actors.{Actor, becomes}, Core.{Inv, Moves}, Fits.{Fits, HasRead, Gathered, IsAtRoot, IsThere, IsToStart, Owes, duty_of, Reaches}, Keeps.{KeepsActor, IsAtWork}}
+use Rattle.sh_core.specs.{Actors.{Actor, becomes}, Core.{Inv, Moves}, Fits.{Fits, HasRead, Gathered, IsAtRoot, IsThere, IsToStart, Owes, duty_of}, Keeps.{KeepsActor, IsAtWork}}
 use Rattle.sh_edit.specs.{Held.{held}, Pairing.{IsNewSeparator}}
 use Rattle.sh_read.{proofs.JudgingLemmas.{seen_once, judged_by}, specs.{Judging.{seen_of}, Reads.{Reads, accepted, image_in, reads_with, wanted, reads_start}}}
 use Rattle.sh_map.specs.{declared.{call.{Call.{Call}, Reply.{Reply}}, book.Row.{Row}, log.Entry.{Entry as LogEntry}}, Calls.{IsInRange, IsKey}}
@@ -25,9 +25,6 @@ use Rattle.sh_decide.specs.declared.state.Decision.TheVariants as decision
 use Rattle.sh_client.specs.declared.state.Want.TheVariants as want
 
 module _ (s : TreeState) where
-  rows_settled : (origin : Option ℕ) (right : Bool) (cached : List Inner) → AreRowsOf s cached → AreRowsOf s (without_origin origin right cached)
-  rows_settled origin right cached h = search (rules, forgotten_all)
-
   rows_kept : (room : ℕ) (aim : Aim) (image : Image) (level low : ℕ) → IsImageOf s level low image → (cached : List Inner) → AreRowsOf s cached → AreRowsOf s (keeping room aim image cached)
   rows_kept room aim image level low img cached h = search (rules, eqb-true, kept_all, own_low)
 
@@ -36,14 +33,14 @@ module _ (p : ConfigParts) (s : TreeState) (i : ℕ) (a : Actor) (r : Registers)
   pub learns : (top : Bool) → KeepsActor p s i (actor_in p i a r (Read aim top)) → (level low : ℕ) (image : Image) → IsImageOf s level low image → KeepsActor p s i (actor_in p i a (image_kept p.cached aim image (settled aim image r)) (Read aim top))
   learns top k level low image img =
       let w = k.work in
-      let rows = rows_kept s p.cached aim image level low img (without_origin r.origin (leads_right r.call aim image) r.cached) (rows_settled s r.origin (leads_right r.call aim image) r.cached w.cached) in
+      let rows = rows_kept s p.cached aim image level low img (without_origin r.origin (leads_right r.call aim image) r.cached) (search (rules, forgotten_all)) in
       let fits : Fits p s i a.first a.point a.seen (image_kept p.cached aim image (settled aim image r)) w.duty (Read aim top) = record { duty_is = w.fits.duty_is; rows = w.fits.rows; on_way = w.fits.on_way } in
       let work : IsAtWork p s i a.first a.point a.seen (at p i (image_kept p.cached aim image (settled aim image r)) (Read aim top)) = record { seated = w.seated; duty = w.duty; fits = fits; owes = w.owes; hands = w.hands; waits = w.waits; spares = w.spares; cached = rows; skips = w.skips } in
       assumption (work, k)
 
   -- and one under the lock
   pub settles : (depth : ℕ) → KeepsActor p s i (actor_in p i a r (ReadLocked aim depth)) → (image : Image) → KeepsActor p s i (actor_in p i a (settled aim image r) (ReadLocked aim depth))
-  settles depth k image = search (rules, rows_settled)
+  settles depth k image = search (rules, forgotten_all)
 
 -- ---- the images of accepted READs, and where hops from them lead
 
@@ -109,23 +106,13 @@ not_lt a b e = grind (arith, nat_tests)
 differ_test : (a b : ℕ) → a ≢ b → (a == b) ≡ false
 differ_test a b h = grind (arith, nat_tests)
 
-between : (n last : ℕ) → 1 ≤ n → n ≤ last → (nat_le 1 n && nat_le n last) ≡ true
-between n last a b = grind (arith, nat_tests)
-
--- the number of a linked node is a node's
-pub is_number : (p : ConfigParts) (n : ℕ) → IsNode p n → is_node p n ≡ true
-is_number p n h = between n (nodes p) h.first h.last
-
 pub names_node : (p : ConfigParts) (words : List ℕ) (s : TreeState) → Ground p words s → (level n key : ℕ) → IsNamed s level n key → is_node p n ≡ true
-names_node p words s g level n key h = is_number p n (g.sits n level h.low h.linked).real
+names_node p words s g level n key h = grind (arith, nat_tests)
 
 -- the place that a range has reached is a key
 abbrev pub IsPlaceKey : Aim → Type 0
 IsPlaceKey (Gathers place) = IsKey place
 IsPlaceKey aim = Unit {0}
-
-pub place_key : (p : ConfigParts) (log : List LogEntry) (first : ℕ) (c : Call) (rows : List Row) (aim : Aim) → Gathered p log first c rows aim → IsPlaceKey aim
-place_key p log first c rows aim h = search rules
 
 -- a range takes no lock
 abbrev pub CanLock : Aim → Type 0
@@ -146,13 +133,9 @@ aim_key p s seat first point seen c r aim duty h is o q = search rules
 pub gathered_as : (p : ConfigParts) (log : List LogEntry) (first : ℕ) (r x : Registers) (aim : Aim) → x.call ≡ r.call → x.rows ≡ r.rows → Gathered p log first r.call r.rows aim → Gathered p log first x.call x.rows aim
 gathered_as p log first r x aim call rows h = subst (λ (z : Call × List Row). Gathered p log first z.0 z.1 aim) (λ j. (sym call j, sym rows j)) h
 
--- a descent that takes a lock gathers nothing
-pub takes_gathered : (p : ConfigParts) (log : List LogEntry) (first : ℕ) (c : Call) (rows : List Row) (aim : Aim) → takes_lock c aim ≡ true → Gathered p log first c rows aim
-takes_gathered p log first c rows aim h = search rules
-
 -- a descent that takes a lock starts again at the root
 pub to_root : (p : ConfigParts) (s : TreeState) (seat first : ℕ) (r : Registers) (aim : Aim) (duty : Option Posting) → IsToStart r.call aim duty → IsAtRoot p s first r aim duty
-to_root p s seat first r aim duty h = record { duty_is = h.duty_is; rows = takes_gathered p s.log first r.call r.rows aim h.takes }
+to_root p s seat first r aim duty h = record { duty_is = h.duty_is; rows = (search rules) }
 
 -- all words of a READ are loaded: their image is accepted
 pub whole_accepted : (p : ConfigParts) (node : ℕ) (ws : List ℕ) (image : Image) → nat_lt (length ws) (node_size p) ≡ false → image_in (seen_of p ws) ≡ Some image → accepted p (reads_with node ws) ≡ Some image
@@ -208,15 +191,12 @@ module _ (p : ConfigParts) (ok : IsSetting p) (words : List ℕ) (s : TreeState)
   spelled_seen : (n : ℕ) (v : Seen) → SeenBy p (s.node n) v → seen_of p (s.node n) ≡ v
   spelled_seen n v h = let some = ok.ranged.value_words.0 in seen_once p (s.node n) some (seen_of p (s.node n)) v (judged_by p (s.node n) some (g.long n)) h
 
-  leaf_stands : (n low : ℕ) → s.class n ≡ Linked 0 low → IsImageOf s 0 low (LeafImage (leaf_in p (s.node n)))
-  leaf_stands n low linked = search rules
-
   pub stands_well : (seat first point seen n : ℕ) (c : Call) (reply : Reply) (aim : Aim) (duty : Option Posting) → duty ≡ duty_of aim → CanLock aim → Owes s seat first point seen c reply duty → (there : IsThere s c aim n) → StandsWell p s (s.node n) there.low aim
   stands_well seat first point seen n c r (Gathers place) duty is takes owes there = absurd takes
   stands_well seat first point seen n c r Own duty is takes owes there =
       let z = (g.sits n 0 there.low there.linked).body in
       let a : Leaf = leaf_in p (s.node n) in
-      record { image = leaf_stands n there.low there.linked; seen = spelled_seen n (seen_as (LeafImage a)) z.spells; right = ap not (sym (once_is a.entries true ((λ t. z.once), (λ t. refl)))) }
+      record { image = search rules; seen = spelled_seen n (seen_as (LeafImage a)) z.spells; right = ap not (sym (once_is a.entries true ((λ t. z.once), (λ t. refl)))) }
   stands_well seat first point seen n c r (Posts post) duty is takes owes there =
       let w = subst (Owes s seat first point seen c r) is owes in
       let linked : s.class n ≡ Linked (suc w.below) there.low = there.linked ∙ ap (λ (l : ℕ). Linked l there.low) w.level in
@@ -278,10 +258,7 @@ module _ (p : ConfigParts) (ok : IsSetting p) (words : List ℕ) (Has Now : ℕ 
   root_is = b.ground.shows.each RootSite tt
 
   pub root_named : is_node p (get_or words root_word 0) ≡ true
-  root_named = ap (is_node p) root_is ∙ is_number p s.root (b.ground.sits s.root s.height 0 b.ground.root).real
-
-  reaches : (aim : Aim) (duty : Option Posting) → duty ≡ duty_of aim → Owes s i a.first a.point a.seen r.call r.reply duty → Reaches true (target aim) s.height
-  reaches aim duty e o = search rules
+  root_named = ap (is_node p) root_is ∙ (grind (arith, nat_tests))
 
   pub root : (aim : Aim) → Claim p ok words Has Now Out i s b a r (Root aim) (Load root_word)
   root aim h =
@@ -290,5 +267,5 @@ module _ (p : ConfigParts) (ok : IsSetting p) (words : List ℕ) (Has Now : ℕ 
       let named : IsNamed s s.height n (aimed_key r.call aim) = record { low = 0; linked = ap s.class root_is ∙ b.ground.root; below = omega arith } in
       subst (λ (t : Bool). Moves Has i (becomes i (actor_in p i a r (Root aim)) s.log [] (if t then at p i (record r { reads = reads_start n; origin = None }) (Read aim true) else at p i r (Root aim))) Now → Inv p words (s.log ++ []) Now Out) (sym root_named)
       (λ mv. quiet p ok words Has Now Out i s b a r (Root aim) (Read aim true) (record r { reads = reads_start n; origin = None }) k record { call_is = refl; reply_is = refl; spare_is = refl; skips_are = refl; cached_is = refl }
-      record { duty_is = k.work.fits.duty_is; rows = k.work.fits.rows; on_way = record { level = s.height; named = named; reach = reaches aim k.work.duty k.work.fits.duty_is k.work.owes; left = omega (arith, node_size_is p); known = tt } }
+      record { duty_is = k.work.fits.duty_is; rows = k.work.fits.rows; on_way = record { level = s.height; named = named; reach = search rules; left = omega (arith, node_size_is p); known = tt } }
       k.work.hands refl tt mv)

@@ -1,19 +1,19 @@
 -- What the course of a call shows.
-use Rattle.std.{proofs.{Common.{rules, ◌≡◌, ℕ, Bool, Option, Some, None, List, refl, sym, ap, subst, ◌∙◌, false, [], ◌∷◌, true, ◌++◌}, lemmas.List.{append_assoc}}, specs.List.{AllByRecursion}}
+use Rattle.std.{proofs.{Common.{rules, ◌≡◌, ℕ, Option, Some, None, List, refl, sym, ap, subst, ◌∙◌, false, [], ◌∷◌, true, ◌++◌}, lemmas.List.{append_assoc}}, specs.List.{AllByRecursion}}
 use Rattle.sh_base.specs.{Setting.{IsSetting}, declared.config.ConfigParts.{ConfigParts}}
 use Rattle.sh_alloc.specs.declared.state.NodeRange.{NodeRange}
 use Rattle.sh_image.specs.{Inner.{Inner, IsInner}, declared.inner.Image.{Image, TheVariants.{Inner as InnerImage}}}
 use Rattle.sh_cache.proofs.RowLemmas.{forgotten_all, kept_all}
 use Rattle.sh_read.specs.{Reads.{progress_of}, declared.state.Progress.{Progress, TheVariants.{Accepted}}}
-use Rattle.sh_decide.specs.{Aims.{aim_of, call_key}, Ways.{leads_right}, declared.state.Aim.{Aim}}
-use Rattle.sh_client.{proofs.CachedLemmas.{fed_learns, turned_learns, fed_keeps, turned_keeps}, specs.Feeds.{loaded, at_child, began_at, begun, calling, from_cached, rows_before}}
-use Rattle.sh_client.specs.{Cached.{keeping, without_origin, origin_of}, CachedTurns.{image_by, learnt, learnt_in, settles}, Rests.{reply_in, reply_of, has_ended, is_resting, rests}}
+use Rattle.sh_decide.specs.{Aims.{call_key}, declared.state.Aim.{Aim}}
+use Rattle.sh_client.{proofs.CachedLemmas.{fed_learns, turned_learns, fed_keeps, turned_keeps}, specs.Feeds.{loaded, began_at, begun, calling}}
+use Rattle.sh_client.specs.{Cached.{keeping, origin_of}, CachedTurns.{image_by, learnt, learnt_in}, Rests.{reply_in, reply_of, has_ended, is_resting}}
 use Rattle.sh_client.specs.{Courses.{KeepsCall}, declared.state.Origin.{Origin}}
-use Rattle.sh_client.specs.{InLine.{stand_in, HasTurn}, Machine.{Machine, began_cached}, Wants.{want_of, want_in}, declared.state.Phase.{Phase, TheVariants.{Read, ReadLocked, Ended as EndedPhase}}}
-use Rattle.sh_course.proofs.{Decided.{chosen, begun_names, fed_names, turned_names, AllNamed}, Reading.{read_on, spelled_inner, Comes, run_begins}, Steps.{fed_shows, turned_shows}}
+use Rattle.sh_client.specs.{InLine.{stand_in, HasTurn}, Machine.{Machine}, Wants.{want_of}, declared.state.Phase.{Phase, TheVariants.{Read, ReadLocked, Ended as EndedPhase}}}
+use Rattle.sh_course.proofs.{Decided.{chosen, begun_names, fed_names, AllNamed}, Reading.{read_on, spelled_inner, Comes, run_begins}, Steps.{fed_shows, turned_shows}}
 use Rattle.sh_course.{proofs.Locks.{HoldsOwn, turn_holds}, specs.Life.{call_begun, course_in, end_of_call, ends_in, lived, start_in, turns_in, SeatAct, AreActs, Begins, Ended, IsBegun, Rests, Takes}}
 use Rattle.sh_course.{proofs.Rising.{turn_rises, CountsTurn, spent_counted}, specs.Turns.{machine_behind, Found, Taken, reached, turn_found, turns_taken, AreFound, IsCallCourse, MayFind}}
-use Rattle.sh_course.{proofs.Showing.{Shows, AimOf, Goes}, specs.{Answers.{Caused}, Causes.{IsReady}, Counts.{CountsReads}, Ends.{AreEnds, EndsAt}, Ranges.{FoundRows}, Skips.{CountsSkips}}}
+use Rattle.sh_course.{proofs.Showing.{Shows, Goes}, specs.{Answers.{Caused}, Causes.{IsReady}, Counts.{CountsReads}, Ends.{AreEnds, EndsAt}, Ranges.{FoundRows}, Skips.{CountsSkips}}}
 use Rattle.sh_course.specs.Found.{holds}
 use Rattle.sh_map.specs.declared.{book.Row.{Row}, call.{Call.{Call, TheVariants.{Range}}, Reply.{Reply}}}
 use Rattle.sh_map.specs.declared.call.Reply.TheVariants as reply
@@ -22,9 +22,6 @@ use Rattle.sh_map.specs.declared.call.Reply.TheVariants as reply
 module _ (p : ConfigParts) where
   abbrev Lawful : List Inner → Type 0
   Lawful rows = AllByRecursion (IsInner p) rows
-
-  without : (origin : Option ℕ) (right : Bool) (rows : List Inner) → Lawful rows → Lawful (without_origin origin right rows)
-  without origin right rows h = search (rules, forgotten_all)
 
   keeps : (room : ℕ) (aim : Aim) (image : Image) (rows : List Inner) → ((a : Inner) → image ≡ InnerImage a → IsInner p a) → Lawful rows → Lawful (keeping room aim image rows)
   keeps room aim image rows new h = search (rules, chosen, kept_all)
@@ -35,40 +32,25 @@ module _ (m : Machine) (t : List Taken) (lawful : IsSetting m.setting) (h : AllB
 
   shown : (word : ℕ) (aim : Aim) (answer : Progress) (now : List Taken) → Comes m.setting now (loaded m word).registers.reads answer → (o : Option Image) → image_by (loaded m word) answer ≡ o → Stays (learnt (loaded m word) aim o)
   shown word aim answer now comes None is = h
-  shown word aim Accepted now comes (Some image) is = keeps m.setting m.setting.cached aim image _ (λ a e. let s = spelled_inner m.setting now (loaded m word).registers.reads comes a lawful.ranged.value_words.0 (is ∙ ap Some e) in s.lawful) (without m.setting m.registers.origin (leads_right m.registers.call aim image) m.registers.cached h)
+  shown word aim Accepted now comes (Some image) is = keeps m.setting m.setting.cached aim image _ (λ a e. let s = spelled_inner m.setting now (loaded m word).registers.reads comes a lawful.ranged.value_words.0 (is ∙ ap Some e) in s.lawful) (search (rules, forgotten_all))
   shown word aim answer now comes (Some image) is = absurd (cc)
-
-  settled : (word : ℕ) (aim : Aim) (o : Option Image) → Stays (settles (loaded m word) aim o)
-  settled word aim o = search (rules, without)
 
   learnt_stays : (s : NodeRange) (word : ℕ) (phase : Phase) → Shows s t m phase → Stays (learnt_in m word phase)
   learnt_stays s word (Read aim top) shows = shown word aim (progress_of m.setting m.registers.reads word) _ (read_on m.setting t m.registers.reads word shows.1) _ refl
-  learnt_stays s word (ReadLocked aim depth) shows = settled word aim _
+  learnt_stays s word (ReadLocked aim depth) shows = search (rules, forgotten_all)
   learnt_stays s word phase shows = h
-
-  pub cached_more : (s : NodeRange) (x : Found) → Shows s t m m.phase → Stays (machine_behind m x)
-  cached_more s x shows = search (rules, fed_learns, learnt_stays, turned_learns)
 
 -- ---- what is shown where a call begins: nothing yet
 module _ (m : Machine) (call : Call) where
-  aim_begins : (x : Machine) → x.registers.call ≡ call → x.registers.spare ≡ m.registers.spare → x.registers.rows ≡ rows_before call m.registers.rows → AimOf m.registers.spare [] x (aim_of call)
-  aim_begins x is spare rows = search rules
-
-  child_shows : (x : Machine) (child : ℕ) → AimOf m.registers.spare [] x (aim_of call) → Goes m.registers.spare [] (at_child x call child)
-  child_shows x child h = search (rules, run_begins)
-
   at_shows : (o : Option Origin) → Goes m.registers.spare [] (began_at (calling m call) call o)
-  at_shows None = aim_begins (calling m call) refl refl refl
-  at_shows (Some origin) = child_shows (began_cached (from_cached (calling m call) origin.low)) origin.child (aim_begins (began_cached (from_cached (calling m call) origin.low)) refl refl refl)
+  at_shows None = search rules
+  at_shows (Some origin) = search (rules, run_begins)
 
   pub begun_shows : Goes m.registers.spare [] (begun m call)
   begun_shows = at_shows (origin_of m.registers.cached (call_key call))
 
-  keeps_at : (o : Option Origin) → (let x = began_at (calling m call) call o in (x.setting ≡ m.setting) × (x.registers.call ≡ call) × (x.registers.cached ≡ m.registers.cached))
-  keeps_at o = search rules
-
   pub begun_keeps : (let x = begun m call in (x.setting ≡ m.setting) × (x.registers.call ≡ call) × (x.registers.cached ≡ m.registers.cached))
-  begun_keeps = keeps_at (origin_of m.registers.cached (call_key call))
+  begun_keeps = search rules
 
   pub begun_holds : HoldsOwn m.setting [] (begun m call)
   begun_holds lock depth h = absurd (cc)
@@ -76,12 +58,6 @@ module _ (m : Machine) (call : Call) where
 -- each turn keeps the setting and the call
 pub turn_keeps : (m : Machine) (x : Found) → KeepsCall m (machine_behind m x)
 turn_keeps m x = search (rules, fed_keeps, turned_keeps)
-
-names_more : (m : Machine) (x : Found) → AllNamed m → AllNamed (machine_behind m x)
-names_more m x h1 = search (rules, fed_names, turned_names)
-
-shows_more : (s : NodeRange) (turns : List Taken) (m : Machine) (x : Found) → IsSetting m.setting → MayFind (want_of m) x → AllNamed m → Goes s turns m → Goes s (turn_found (want_of m) x ∷ turns) (machine_behind m x)
-shows_more s turns m x h1 h2 h3 h4 = search (rules, fed_shows, turned_shows)
 
 -- of a client behind turns of its call: what they show, the nodes that it has in hand, and the lock that is held
 pub record Known (m : Machine) (call : Call) (turns : List Taken) (n : Machine) : Type 0 where
@@ -104,9 +80,9 @@ module _ (m : Machine) (call : Call) (ready : IsReady m) where
       record {
         setting = keeps.0 ∙ k.setting;
         call_is = keeps.2 ∙ k.call_is;
-        named = names_more n x k.named;
-        shows = shows_more m.registers.spare (turns_taken (begun m call) xs) n x (subst IsSetting (sym k.setting) ready.setting) may.0 k.named k.shows;
-        cached = subst (λ (p : ConfigParts). AllByRecursion (IsInner p) (machine_behind n x).registers.cached) k.setting (cached_more n (turns_taken (begun m call) xs) (subst IsSetting (sym k.setting) ready.setting) (subst (λ (p : ConfigParts). AllByRecursion (IsInner p) n.registers.cached) (sym k.setting) k.cached) m.registers.spare x k.shows);
+        named = search (rules, fed_names);
+        shows = search (rules, fed_shows, turned_shows);
+        cached = subst (λ (p : ConfigParts). AllByRecursion (IsInner p) (machine_behind n x).registers.cached) k.setting (search (rules, fed_learns, learnt_stays, turned_learns));
         holds_own = turn_holds m.setting (turns_taken (begun m call) xs) n k.setting k.holds_own x may.0;
       }
 
@@ -183,14 +159,10 @@ life_turns m (Begins call ∷ life) = (turns_in m life, refl)
 life_turns m (Takes x ∷ life) = let r = life_turns m life in (r.0, ap (λ (l : List Taken). turn_found (want_of (lived m life)) x ∷ l) r.1)
 life_turns m (Rests ∷ life) = life_turns m life
 
--- a client that takes a turn has a call
-busy : (k : Machine) (x : Found) (phase : Phase) → MayFind (want_in k phase) x → rests phase ≡ false
-busy k x phase may = search rules
-
 is_begun : (m : Machine) (life : List SeatAct) → is_resting m ≡ true → AreActs m life → is_resting (lived m life) ≡ false → IsBegun life
 is_begun m [] rest may now = absurd (cc)
 is_begun m (Begins call ∷ life) rest may now = tt
-is_begun m (Takes x ∷ life) rest may now = is_begun m life rest may.1 (let k = lived m life in busy k x k.phase may.0)
+is_begun m (Takes x ∷ life) rest may now = is_begun m life rest may.1 (let k = lived m life in search rules)
 is_begun m (Rests ∷ life) rest may now = absurd (cc)
 
 module _ (m : Machine) (ready : IsReady m) (rest : is_resting m ≡ true) where
@@ -209,7 +181,7 @@ module _ (m : Machine) (ready : IsReady m) (rest : is_resting m ≡ true) where
       ((keeps.0 ∙ r.0, subst (λ (rows : List Inner). AllByRecursion (IsInner m.setting) rows) (sym keeps.2) r.1), λ is. r)
   stays (Takes x ∷ life) may =
       let k = lived m life in
-      let begun = is_begun m life rest may.1 (busy k x k.phase may.0) in
+      let begun = is_begun m life rest may.1 (search rules) in
       let s = (stays life may.1).1 begun in
       let kn = course_known (start_in m life) (call_begun m (Takes x ∷ life)) (fits_ready (start_in m life) s) (machine_behind k x) (course_in m (Takes x ∷ life)) (life_course m (Takes x ∷ life) may begun) in
       ((kn.setting ∙ s.0, subst (λ (p : ConfigParts). AllByRecursion (IsInner p) (machine_behind k x).registers.cached) s.0 kn.cached), λ is. s)
@@ -238,7 +210,7 @@ module _ (m : Machine) (ready : IsReady m) (rest : is_resting m ≡ true) where
       let k = lived m life in
       let n = machine_behind k x in
       let before = ends_in_whole whole (later ++ Takes x ∷ []) life (is ∙ sym (append_assoc later (Takes x ∷ []) life)) may.1 in
-      let begun = is_begun m life rest may.1 (busy k x k.phase may.0) in
+      let begun = is_begun m life rest may.1 (search rules) in
       chosen (AreEnds m whole) (has_ended n.phase) (ends_in m life ++ end_of_call n ∷ []) (ends_in m life)
       (λ e.
       let replied : reply_of n ≡ Some n.registers.reply = ap (reply_in n) (ended_phase n.phase e) in

@@ -1,31 +1,27 @@
 -- What a decision under the lock says of its image; and the nodes that a client has in hand are nodes of the setting, since each
 -- number was tested when it was found, and a lock is taken for an update or a post alone.
-use Rattle.std.{proofs.Common.{rules, ◌≡◌, ℕ, ◌<◌, ◌≤◌, Bool, true, false, cond, Option, Some, None, List, refl, sym, subst, ap, ◌∙◌, arith, ◌+◌}, specs.List.{AllByRecursion}}
+use Rattle.std.{proofs.Common.{rules, ◌≡◌, ℕ, ◌<◌, ◌≤◌, Bool, true, false, cond, Option, Some, None, List, refl, sym, ap, ◌∙◌, arith, ◌+◌}, specs.List.{AllByRecursion}}
 use Rattle.std.{proofs.lemmas.Bool.Decides.{nat_tests}, specs.{Option.{option_map}, Prelude.{nat_lt, nat_le, ◌==◌, ◌||◌, ◌&&◌}}}
 use Rattle.sh_logic.proofs.Tests.{is_lt, less_test, not_less_test, not_lt, at_most_test, true_and}
 use Rattle.sh_base.specs.{Setting.{last_version, last_entry_version, IsNode}, declared.config.ConfigParts.{ConfigParts}}
 use Rattle.sh_map.specs.declared.call.Call.{Call, TheVariants.{Put, Del}}
-use Rattle.sh_image.specs.{Inner.{Inner, Inner as InnerOf, IsInner}, Leaf.{Leaf}, declared.{inner.Image.{Image, TheVariants.{Leaf as LeafImage, Inner as InnerImage}}, read.Seen.{Seen}}}
+use Rattle.sh_image.specs.{Inner.{Inner, Inner as InnerOf, IsInner}, Leaf.{Leaf}, declared.{inner.Image.{Image, TheVariants.{Leaf as LeafImage, Inner as InnerImage}}}}
 use Rattle.sh_descend.{proofs.ChildLemmas.{child_is_node}, specs.{Descent.{child_of, hop_of, level_of}, declared.Hop.{Hop, TheVariants.{Here, Right as HopRight, Down, Restart as HopRestart}}}}
 use Rattle.sh_decide.specs.{Aims.{call_key, is_node, target, aim_of, takes_lock}, declared.state.Decision.TheVariants.{Absent, Restart, Right, Entry, Rewrite, Worn, Split, Skip, Add}}
-use Rattle.sh_decide.specs.{Deciding.{change_at, decided_by, decided_here, decision_of, put_in, put_into, del_in, unless_worn, update_in}, Leaves.{version_at}}
-use Rattle.sh_decide.specs.{Ways.{way_by, way_here, way_of}, declared.state.{Aim.{Aim, TheVariants.{Own, Posts}}, Decision.{Decision}, Posting.{Posting}, Way.{Way}}}
+use Rattle.sh_decide.specs.{Deciding.{change_at, decided_by, decided_here, decision_of, put_in, unless_worn, update_in}, Leaves.{version_at}}
+use Rattle.sh_decide.specs.{Ways.{way_by}, declared.state.{Aim.{Aim, TheVariants.{Own, Posts}}, Decision.{Decision}, Posting.{Posting}, Way.{Way}}}
 use Rattle.sh_course.specs.{Causes.{put_slot, slot_of, IsFull, IsLeafFor, IsWorn, NeedsNode}, Skips.{IsWornAt}}
-use Rattle.sh_alloc.specs.{Walks.{walk_fed, walk_wants}, declared.state.ChunkWant.{ChunkWant}}
 use Rattle.sh_cache.{proofs.FindLemmas.{covers_fences, found_covers, found_has}, specs.Cached.{found}}
-use Rattle.sh_read.specs.{Reads.{progress_of, read_fed, reads_left, Reads}, declared.state.Progress.{Progress}}
-use Rattle.sh_client.specs.{Cached.{origin_in, settling}, Ranges.{gathered}, declared.state.Phase.{Phase, TheVariants.{Read, Draw, Look, Grab, ReadLocked, Seek, Fill, Waiting, Body, Unlock, Leave}}}
-use Rattle.sh_client.specs.{Feeds.{arrived, began_at, begun, calling, did, fed_in, from_cached, held_by, hold_by, loaded, read_by, turned_in, went}, Machine.{Machine, began_cached, reading, to}}
-use Rattle.sh_client.specs.{Splitting.{halved_by, needing, sought_by, walked, with_fresh}, declared.state.{Filling.{Filling, TheVariants.{RightHalf, NewRoot}}, Then.TheVariants.{Ends, Starts, Takes}}}
+use Rattle.sh_read.specs.{Reads.{read_fed, Reads}}
+use Rattle.sh_client.specs.{Cached.{origin_in}, Ranges.{gathered}, declared.state.Phase.{Phase, TheVariants.{Read, Draw, Look, Grab, ReadLocked, Seek, Fill, Waiting, Body, Unlock, Leave}}}
+use Rattle.sh_client.specs.{Feeds.{began_at, begun, calling, fed_in, from_cached, held_by, went}, Machine.{Machine, began_cached, reading, to}}
+use Rattle.sh_client.specs.{Splitting.{halved_by, needing, with_fresh}, declared.state.{Filling.{Filling, TheVariants.{RightHalf, NewRoot}}, Then.TheVariants.{Ends, Starts, Takes}}}
 use Rattle.sh_client.specs.declared.state.{Edge.{Edge}, Giving.{Giving}, Need.{Need, TheVariants.{ToSplit, ToGrow}}, Then.{Then}}
 use Rattle.sh_decide.specs.declared.state.Way.TheVariants as way
 
 -- ---- what a decision under the lock says of the image that it is taken by
 pub chosen : {X : Type 0} (P : X → Type 0) (b : Bool) (x y : X) → (b ≡ true → P x) → (b ≡ false → P y) → P (cond b x y)
 chosen P b x y f g = search rules
-
-same_number : (a b : ℕ) → (a == b) ≡ true → a ≡ b
-same_number a b h = grind (arith, nat_tests)
 
 abbrev pub IsNamed : ConfigParts → Decision → Type 0
 IsNamed p (Right node) = is_node p node ≡ true
@@ -67,30 +63,18 @@ with_slot p a (Put key value) None = unless_worn p a.version Split
 with_slot p a (Del key) None = Absent
 with_slot p a call None = Restart
 
-del_slots : (p : ConfigParts) (a : Leaf) (key : ℕ) (o : Option ℕ) → del_in p a o ≡ with_slot p a (Del key) o
-del_slots p a key o = search rules
-
-empty_slots : (p : ConfigParts) (a : Leaf) (key : ℕ) (value : List ℕ) (o : Option ℕ) → put_into p a o ≡ with_slot p a (Put key value) o
-empty_slots p a key value o = search rules
-
 put_slots : (p : ConfigParts) (a : Leaf) (key : ℕ) (value : List ℕ) (o : Option ℕ) → put_in p a o ≡ with_slot p a (Put key value) (put_slot a o)
-put_slots p a key value o = search (rules, empty_slots)
+put_slots p a key value o = search rules
 
 slots : (p : ConfigParts) (a : Leaf) (call : Call) → update_in p a call ≡ with_slot p a call (slot_of a call)
-slots p a call = search (rules, del_slots, put_slots)
+slots p a call = search (rules, put_slots)
 
 module _ (p : ConfigParts) (call : Call) (a : Leaf) (leaf : IsLeafFor a (call_key call)) where
   unless : (d : Decision) → NeedsNode a call (slot_of a call) → (a.version < last_version p → LeafGives p call a d) → LeafGives p call a (unless_worn p a.version d)
   unless d needs otherwise = chosen (LeafGives p call a) (nat_lt a.version (last_version p)) d (Worn a.version) (λ e. otherwise (is_lt a.version (last_version p) e)) (λ e. record { leaf = leaf; version_is = refl; last = not_lt a.version (last_version p) e; needs = needs })
 
-  change : (index : ℕ) → slot_of a call ≡ Some index → LeafGives p call a (change_at p a index)
-  change index is = chosen (LeafGives p call a) (nat_lt (version_at a.entries index) last_entry_version) (Entry index) (unless_worn p a.version (Rewrite index)) (λ e. tt) (λ e. unless (Rewrite index) (subst (NeedsNode a call) (sym is) (not_lt (version_at a.entries index) last_entry_version e)) (λ v. tt))
-
 by_slot : (p : ConfigParts) (call : Call) (a : Leaf) → IsLeafFor a (call_key call) → (o : Option ℕ) → slot_of a call ≡ o → LeafGives p call a (with_slot p a call o)
-by_slot p call a h1 o h2 = search (rules, change, unless)
-
-updates : (p : ConfigParts) (call : Call) (a : Leaf) → IsLeafFor a (call_key call) → LeafGives p call a (update_in p a call)
-updates p call a leaf = subst (LeafGives p call a) (sym (slots p a call)) (by_slot p call a leaf (slot_of a call) refl)
+by_slot p call a h1 o h2 = search (rules, nat_lt, version_at, last_entry_version, unless_worn, not_lt, unless)
 
 -- what a hop Here says of an image's level and fences
 pub record IsHere (level low high key aimed : ℕ) : Type 0 where
@@ -101,21 +85,11 @@ pub record IsHere (level low high key aimed : ℕ) : Type 0 where
 pub hop_here : (level low high next child key aimed : ℕ) → cond (nat_lt level aimed || nat_lt key low) HopRestart (cond (nat_le high key) (HopRight next) (cond (level == aimed) Here (Down child))) ≡ Here → IsHere level low high key aimed
 hop_here level low high next child key aimed is = record { level_is = grind (arith, nat_tests, is); low_is = grind (arith, nat_tests, is); high_is = grind (arith, nat_tests, is) }
 
-leaf_hop : (p : ConfigParts) (call : Call) (a : Leaf) (h : Hop) → (h ≡ Here → IsHere 0 a.low a.high (call_key call) 0) → LeafGives p call a (decided_by p call Own (LeafImage a) h)
-leaf_hop p call a h h1 = search (rules, chosen, updates)
-
-post_hop : (p : ConfigParts) (call : Call) (post : Posting) (a : Inner) (h : Hop) → (h ≡ Here → IsHere a.level a.low a.high post.separator post.level) → InnerGives p post a (decided_by p call (Posts post) (InnerImage a) h)
-post_hop p call post a h h1 = search (rules, chosen)
-
 back_hop : (p : ConfigParts) (call : Call) (aim : Aim) (image : Image) (h : Hop) → decided_here p call aim image ≡ Restart → OnlyBack p (decided_by p call aim image h)
 back_hop p call aim image h is = search rules
 
 pub gives : (p : ConfigParts) (call : Call) (aim : Aim) (image : Image) → Gives p call aim image (decision_of p call aim image)
-gives p call aim image = search (rules, leaf_hop, hop_of, hop_here, child_of, back_hop, post_hop)
-
--- where it goes to the right, it goes to a node of the setting
-pub right_named : (p : ConfigParts) (call : Call) (aim : Aim) (image : Image) (d : Decision) → Gives p call aim image d → IsNamed p d
-right_named p call aim image d h = search rules
+gives p call aim image = search (rules, by_slot, slot_of, hop_of, hop_here, child_of, back_hop, chosen)
 
 -- ---- the converse: what must be decided of a leaf
 module _ (p : ConfigParts) (call : Call) (a : Leaf) (leaf : IsLeafFor a (call_key call)) where
@@ -128,23 +102,14 @@ module _ (p : ConfigParts) (call : Call) (a : Leaf) (leaf : IsLeafFor a (call_ke
   pub entry_is : (index : ℕ) → version_at a.entries index < last_entry_version → change_at p a index ≡ Entry index
   entry_is index below = rw (less_test (version_at a.entries index) last_entry_version below) refl
 
-  worn_is : (d : Decision) → last_version p ≤ a.version → unless_worn p a.version d ≡ Worn a.version
-  worn_is d last = rw (not_less_test a.version (last_version p) last) refl
-
   pub left_is : (d : Decision) → a.version < last_version p → unless_worn p a.version d ≡ d
   left_is d below = rw (less_test a.version (last_version p) below) refl
 
-worn_slot : (p : ConfigParts) (a : Leaf) (call : Call) (slot : Option ℕ) → NeedsNode a call slot → last_version p ≤ a.version → IsLeafFor a (call_key call) → with_slot p a call slot ≡ Worn a.version
-worn_slot p a call slot h1 h2 h3 = search (rules, change_is, worn_is)
-
 pub worn_decides : (p : ConfigParts) (call : Call) (a : Leaf) (version : ℕ) → IsWorn p call a version → decision_of p call Own (LeafImage a) ≡ Worn version
-worn_decides p call a version h = slot_decides p call a h.leaf (slot_of a call) refl ∙ worn_slot p a call (slot_of a call) h.needs h.last h.leaf ∙ ap Worn (sym h.version_is)
-
-full_slot : (p : ConfigParts) (a : Leaf) (call : Call) → NeedsNode a call None → IsLeafFor a (call_key call) → a.version < last_version p → with_slot p a call None ≡ Split
-full_slot p a call h1 h2 h3 = search (rules, left_is)
+worn_decides p call a version h = slot_decides p call a h.leaf (slot_of a call) refl ∙ (search (rules, change_is, not_less_test, last_version)) ∙ ap Worn (sym h.version_is)
 
 pub full_decides : (p : ConfigParts) (call : Call) (a : Leaf) → IsFull p call a → decision_of p call Own (LeafImage a) ≡ Split
-full_decides p call a h = slot_decides p call a h.leaf None h.none ∙ full_slot p a call h.put h.leaf h.version
+full_decides p call a h = slot_decides p call a h.leaf None h.none ∙ (search (rules, left_is))
 
 abbrev pub Named : ConfigParts → (node : ℕ) → Type 0
 Named p node = is_node p node ≡ true
@@ -202,24 +167,14 @@ NamesWay p call aim w = Unit {0}
 either_way : (p : ConfigParts) (call : Call) (aim : Aim) (next : ℕ) (t b : Bool) → takes_lock call aim ≡ t → Named p next → NamesWay p call aim (cond (t && b) (way.LockRight next) (way.Right next)) × NamesWay p call aim (cond (t && b) (way.Lock next) (way.Read next))
 either_way p call aim next t b e h = search rules
 
-here_names : (p : ConfigParts) (call : Call) (aim : Aim) (node : ℕ) (image : Image) → Named p node → NamesWay p call aim (way_here call aim node image)
-here_names p call aim node image h = search rules
-
 by_names : (p : ConfigParts) (call : Call) (aim : Aim) (node : ℕ) (image : Image) (hop : Hop) → Named p node → NamesWay p call aim (way_by p call aim node image hop)
-by_names p call aim node image Here h = here_names p call aim node image h
+by_names p call aim node image Here h = search rules
 by_names p call aim node image (HopRight next) h = chosen (NamesWay p call aim) (is_node p next) (cond (takes_lock call aim && (level_of image == target aim)) (way.LockRight next) (way.Right next)) way.Root (λ e. (either_way p call aim next _ _ refl e).0) (λ e. tt)
 by_names p call aim node image (Down child) h = chosen (NamesWay p call aim) (is_node p child) (cond (takes_lock call aim && (level_of image == target aim + 1)) (way.Lock child) (way.Read child)) way.Root (λ e. (either_way p call aim child _ _ refl e).1) (λ e. tt)
 by_names p call aim node image HopRestart h = tt
 
-way_names : (p : ConfigParts) (call : Call) (aim : Aim) (top : Bool) (node : ℕ) (image : Image) → Named p node → NamesWay p call aim (way_of p call aim top node image)
-way_names p call aim top node image h = search (rules, by_names)
-
--- a READ stays at its node
-left_node : (seen : Seen) (r : Reads) → (reads_left seen r).node ≡ r.node
-left_node seen r = search rules
-
 pub read_node : (p : ConfigParts) (r : Reads) (word : ℕ) → (read_fed p r word).node ≡ r.node
-read_node p r word = search (rules, left_node)
+read_node p r word = search rules
 
 -- ---- behind each part of a turn
 halves : (m : Machine) (aim : Aim) (depth fresh : ℕ) (image : Option Image) → Named m.setting m.registers.reads.node × Locks m.registers.call aim → AllNamed (halved_by m aim depth fresh image)
@@ -231,46 +186,25 @@ goes_fresh m fresh need h = search (rules, halves)
 takes : (m : Machine) (need : Need) (fresh : Option ℕ) → NamesNeed m.setting m.registers.call m.registers.reads need → AllNamed (needing m need fresh)
 takes m need fresh h = search (rules, goes_fresh)
 
-seeks : (m : Machine) (need : Need) (w : ChunkWant) → NamesNeed m.setting m.registers.call m.registers.reads need → AllNamed (sought_by m need w)
-seeks m need w h = search (rules, goes_fresh)
-
 gathers : (m : Machine) (aim : Aim) (edge : Option Edge) → AllNamed (gathered m aim edge)
 gathers m aim edge = search rules
 
 goes : (m : Machine) (aim : Aim) (image : Image) (w : Way) → NamesWay m.setting m.registers.call aim w → AllNamed (went m aim image w)
 goes m aim image w h = search (rules, takes, gathers)
 
-arrives : (m : Machine) (aim : Aim) (top : Bool) (image : Option Image) → Named m.setting m.registers.reads.node → AllNamed (arrived m aim top image)
-arrives m aim top image h = search (rules, goes, way_names)
-
-reads_on : (m : Machine) (aim : Aim) (top : Bool) (answer : Progress) → Named m.setting m.registers.reads.node → AllNamed (read_by m aim top answer)
-reads_on m aim top answer h = search (rules, arrives)
-
-does : (m : Machine) (aim : Aim) (depth : ℕ) (image : Image) (d : Decision) → Named m.setting m.registers.reads.node × Locks m.registers.call aim → IsNamed m.setting d → AllNamed (did m aim depth image d)
-does m aim depth image d h k = search (rules, takes)
-
 decides : (m : Machine) (aim : Aim) (depth : ℕ) (image : Option Image) → Named m.setting m.registers.reads.node × Locks m.registers.call aim → AllNamed (held_by m aim depth image)
-decides m aim depth (Some image) h = does (settling m aim image) aim depth image (decision_of m.setting m.registers.call aim image) h (right_named m.setting m.registers.call aim image _ (gives m.setting m.registers.call aim image))
+decides m aim depth (Some image) h = search (rules, takes)
 decides m aim depth None h = h
 
-holds_on : (m : Machine) (aim : Aim) (depth : ℕ) (answer : Progress) → Named m.setting m.registers.reads.node × Locks m.registers.call aim → AllNamed (hold_by m aim depth answer)
-holds_on m aim depth answer h = search (rules, decides)
-
 pub fed_names : (m : Machine) (word : ℕ) (phase : Phase) → AllNamed m → Names m.setting m.registers.call m.registers.reads phase → AllNamed (fed_in m word phase)
-fed_names m word (Read aim top) now h = reads_on (loaded m word) aim top (progress_of m.setting m.registers.reads word) (ap (is_node m.setting) (read_node m.setting m.registers.reads word) ∙ h)
-fed_names m word (ReadLocked aim depth) now h = holds_on (loaded m word) aim depth (progress_of m.setting m.registers.reads word) (ap (is_node m.setting) (read_node m.setting m.registers.reads word) ∙ h.0, h.1)
-fed_names m word (Seek need) now h = seeks (walked m word) need (walk_wants m.setting (walk_fed m.setting m.registers.walk word)) h
+fed_names m word (Read aim top) now h = search (rules, goes, by_names)
+fed_names m word (ReadLocked aim depth) now h = search (rules, decides)
+fed_names m word (Seek need) now h = search (rules, goes_fresh)
 fed_names m word phase now h = search rules
 
-pub turned_names : (m : Machine) (depth : Option ℕ) (phase : Phase) → AllNamed m → Names m.setting m.registers.call m.registers.reads phase → AllNamed (turned_in m depth phase)
-turned_names m depth phase now h = search rules
-
 -- ---- a call begins at the root word, or at the child of a cached node
-own_lock : (call : Call) → takes_lock call Own ≡ true → takes_lock call (aim_of call) ≡ true
-own_lock call e = search rules
-
 begins : (m : Machine) (call : Call) (child : ℕ) (b : Bool) → takes_lock call Own ≡ b → Named m.setting child → m.registers.call ≡ call → AllNamed (cond b (to m (Draw (aim_of call) child)) (reading m child (Read (aim_of call) false)))
-begins m call child b h1 h2 h3 = search (rules, own_lock)
+begins m call child b h1 h2 h3 = search rules
 
 pub begun_names : (m : Machine) (call : Call) → AllByRecursion (IsInner m.setting) m.registers.cached → AllNamed (begun m call)
 begun_names m call inners = by (found m.registers.cached (call_key call)) refl

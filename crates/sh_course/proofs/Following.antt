@@ -4,8 +4,8 @@ use Rattle.std.specs.Prelude.{◌==◌, if◌then◌else◌}
 use Rattle.sh_logic.proofs.Tests.{is_eq}
 use Rattle.sh_base.specs.{declared.{config.ConfigParts.{ConfigParts}, event.Event.TheVariants.{Store}}, Layout.{lock_of, node_word}}
 use Rattle.sh_lock.specs.Locks.{release_of}
-use Rattle.sh_client.specs.{declared.state.{Giving.{Giving}, Phase.{Phase, TheVariants.{Body, Ended, Leave, Unlock, Waiting}}, Then.{Then, TheVariants.{Ends}}, Want.{Want}}, Feeds.{fed_by}}
-use Rattle.sh_client.specs.{declared.state.Write.{Write}, Giving.{carried, counted, followed, queue_left, released, write_begun, writes_nothing}, Machine.{handed_over, Machine, to}}
+use Rattle.sh_client.specs.{declared.state.{Giving.{Giving}, Phase.{TheVariants.{Body, Ended, Leave, Unlock, Waiting}}, Then.{Then, TheVariants.{Ends}}, Want.{Want}}, Feeds.{fed_by}}
+use Rattle.sh_client.specs.{Giving.{carried, counted, followed, queue_left, released, write_begun, writes_nothing}, Machine.{handed_over, Machine, to}}
 use Rattle.sh_client.specs.Wants.{lock_word_of, offset_of, want_of}
 use Rattle.sh_client.specs.declared.state.Want.TheVariants as want
 use Rattle.sh_course.specs.{Turns.{machine_behind, reached, turn_found, turns_taken, AreFound, Found, MayFind, Taken, Turn, Word}, Stores.{frees, stores_to, wants_in, GaveBack}}
@@ -46,9 +46,6 @@ module _ (m : Machine) (depth : ℕ) (giving : Giving) where
   alike : IsAlike m m
   alike = record { setting = refl; call_is = refl; reply_is = refl }
 
-  counts_alike : (phase : Phase) (write : Write) → IsAlike m (counted (to m phase) write)
-  counts_alike phase write = search (rules)
-
   -- behind the stores
   gives : (count : ℕ) (more : List Taken) (y : Machine) (carry : Option ℕ) → carry_for count ≡ carry → wants_in more ≡ stored_words → IsAlike m y → Backs (more ++ asked_with count) (released y giving.node carry giving.after)
   gives count more y None is w a = Frees count more y refl is w a refl
@@ -80,7 +77,7 @@ module _ (m : Machine) (depth : ℕ) (giving : Giving) where
         by : (b : Bool) → (done + 1 == length m.registers.body) ≡ b → Backs (store ∷ (more ++ asked_with count)) (cond b (released (counted (to m (Body (carry_for count) done giving)) giving.write) giving.node (carry_for count) giving.after) (to m (Body (carry_for count) (done + 1) giving)))
         by true f =
             let all : suc done ≡ length m.registers.body = let g = is_eq (done + 1) (length m.registers.body) f in omega (arith, g) in
-            gives count (store ∷ more) (counted (to m (Body (carry_for count) done giving)) giving.write) (carry_for count) refl (wants ∙ ap (stores_to (place_stored p giving) m.registers.body) all ∙ sym (ap (λ b. let l = cond b [] m.registers.body in stores_to (place_stored p giving) l (length l)) e)) (counts_alike (Body (carry_for count) done giving) giving.write)
+            gives count (store ∷ more) (counted (to m (Body (carry_for count) done giving)) giving.write) (carry_for count) refl (wants ∙ ap (stores_to (place_stored p giving) m.registers.body) all ∙ sym (ap (λ b. let l = cond b [] m.registers.body in stores_to (place_stored p giving) l (length l)) e)) (search rules)
         by false f =
             let one : suc done ≡ done + 1 = omega arith in
             Stores count (done + 1) (store ∷ more) refl e (wants ∙ ap (stores_to (place_stored p giving) m.registers.body) one) refl

@@ -1,17 +1,17 @@
 -- What a READ shows, word by word.
-use Rattle.std.proofs.Common.{rules, ◌≡◌, ℕ, ◌+◌, ◌-◌, ◌≤◌, false, cond, Option, Some, None, List, [], ◌∷◌, ◌++◌, length, refl, sym, ap, subst, ◌∙◌, arith, suc, ◌<◌, inl, inr, ◌%◌}
+use Rattle.std.proofs.Common.{rules, ◌≡◌, ℕ, ◌+◌, ◌-◌, ◌≤◌, false, cond, Some, None, List, [], ◌∷◌, ◌++◌, length, refl, sym, ap, subst, ◌∙◌, arith, suc, ◌<◌, inl, inr, ◌%◌}
 use Rattle.std.{proofs.{Math.Nat.{mod-eq_of_lt, add-mod_right}, lemmas.{Bool.{cases_lt}, Nat.{mod_below}}}, specs.Prelude.{nat_lt, ◌⊎◌}}
 use Rattle.sh_logic.proofs.Tests.{is_lt, not_lt}
 use Rattle.sh_base.{proofs.LayoutLemmas.{node_size_is, node_word_apart, node_word_low}, specs.{Layout.{lock_of, node_word}, Setting.{node_size, IsNode, IsSetting}}}
 use Rattle.sh_base.specs.declared.{config.ConfigParts.{ConfigParts}, event.Event.TheVariants.{Load}}
 use Rattle.sh_image.specs.{Inner.{Inner, SpellsInner}, declared.{inner.Image.TheVariants.{Leaf as LeafImage, Inner as InnerImage}, read.Seen.TheVariants.{Leaf as LeafSeen, Inner as InnerSeen}}}
 use Rattle.sh_image.specs.{Leaf.{Leaf, Spells}, Seen.{SeenBy}, declared.read.Seen.{Seen}}
-use Rattle.sh_read.{proofs.JudgingLemmas.{judged_by}, specs.{Judging.{seen_of}, Reads.{Reads, accepted, answer_to, image_in, progress_of, read_fed, reads_left, reads_start, reads_with, wanted}}}
+use Rattle.sh_read.{proofs.JudgingLemmas.{judged_by}, specs.{Judging.{seen_of}, Reads.{Reads, accepted, image_in, progress_of, read_fed, reads_start, reads_with, wanted}}}
 use Rattle.sh_read.specs.declared.state.Progress.{Progress, TheVariants.{More, Accepted, Again, Odd}}
 use Rattle.sh_client.specs.{Machine.{Machine}, Wants.{load_of, count_of, want_in, want_of}, declared.state.{Phase.{Phase, TheVariants.{Read, ReadLocked}}, Want.{Want}}}
 use Rattle.sh_course.proofs.Decided.{named_node, Names, chosen}
 use Rattle.sh_course.{proofs.Showing.{StartsApart, RunsOn, Shows, Runs, WalksOn}, specs.Turns.{Taken, Word, turn_found, machine_behind, reached, turns_taken, AreFound, Found, MayFind}}
-use Rattle.sh_course.specs.{Found.{holds, holds_by, loads_from, loads_of, HasReadLocked, HasRun, SparesNodes, AllGotNone, AllSpent, FoundSpent, GotNone, IsSpent}, Stores.{AllCount, IsCount}}
+use Rattle.sh_course.specs.{Found.{holds, loads_from, loads_of, HasReadLocked, HasRun, SparesNodes, AllGotNone, AllSpent, FoundSpent, GotNone, IsSpent}, Stores.{AllCount, IsCount}}
 use Rattle.sh_alloc.specs.{Walks.{server_at, walk_wants_in, walk_at, walk_fed_in, walk_next, walk_start, with_phase}, declared.state.Phase.TheVariants.{Loading, Found as FoundChunk, Spent}}
 use Rattle.sh_alloc.specs.declared.state.{NodeRange.{NodeRange}, Phase.{Phase as WalkPhase}, Walk.{Walk}}
 use Rattle.sh_client.specs.declared.state.Want.TheVariants as want
@@ -34,12 +34,6 @@ Comes p turns reads Accepted = Ran p turns reads
 Comes p turns reads (Again rear front) = RunsOn p turns reads
 Comes p turns reads Odd = Unit {0}
 
-load_spares : (p : ConfigParts) (o : Option ℕ) → SparesNodes p (load_of o)
-load_spares p o = search rules
-
-load_keeps : (p : ConfigParts) (lock word : ℕ) (before : Option ℕ) (o : Option ℕ) → holds_by p lock (load_of o) (Word word) before ≡ before
-load_keeps p lock word before o = search rules
-
 pub run_begins : (p : ConfigParts) (turns : List Taken) (node : ℕ) → RunsOn p turns (reads_start node)
 run_begins p turns node = record { before = turns; whole = refl; left = omega (arith, node_size_is p) }
 
@@ -52,29 +46,23 @@ module _ (p : ConfigParts) (turns : List Taken) where
     now = turn_found (load_of (wanted p r)) (Word word) ∷ turns
 
     pub loading_spares : SparesNodes p (load_of (wanted p r))
-    loading_spares = load_spares p (wanted p r)
+    loading_spares = search rules
 
     pub loading_holds : (lock : ℕ) → holds p lock now ≡ holds p lock turns
-    loading_holds lock = load_keeps p lock word (holds p lock turns) (wanted p r)
+    loading_holds lock = search rules
 
     module _ (on : RunsOn p turns r) where
       pub load_is : load_of (wanted p r) ≡ want.Event (Load (node_word p r.node + (node_size p - length (word ∷ r.loaded))))
       load_is = search rules
 
-      longer : now ≡ loads_of p r.node (word ∷ r.loaded) ++ on.before
-      longer = search (rules, load_is)
-
       full : nat_lt (length (word ∷ r.loaded)) (node_size p) ≡ false → length (word ∷ r.loaded) ≡ node_size p
       full e = let above = not_lt (length (word ∷ r.loaded)) (node_size p) e in omega (arith, above, on.left)
 
       pub ran : nat_lt (length (word ∷ r.loaded)) (node_size p) ≡ false → Ran p now next
-      ran e = record { before = on.before; whole = longer; all = full e; image = ap (λ b. cond b None (image_in (seen_of p (word ∷ r.loaded)))) e }
-
-      judged : (s : Seen) → nat_lt (length (word ∷ r.loaded)) (node_size p) ≡ false → Comes p now (reads_left s next) (answer_to s)
-      judged s e = search (rules, ran, run_begins)
+      ran e = record { before = on.before; whole = search (rules, load_is); all = full e; image = ap (λ b. cond b None (image_in (seen_of p (word ∷ r.loaded)))) e }
 
       pub read_on : Comes p now (read_fed p r word) (progress_of p r word)
-      read_on = search (rules, longer, judged)
+      read_on = search (rules, load_is, ran, run_begins)
 
 -- a READ's last turn is on no counter
 run_apart : (p : ConfigParts) (node o : ℕ) (words : List ℕ) (before : List Taken) → 1 ≤ length words → StartsApart p (loads_from p node o words ++ before)
@@ -182,11 +170,8 @@ module _ (k : Machine) (t : List Taken) (node : ℕ) (ws : List ℕ) (before : L
       one : (n : ℕ) → n + 1 ≡ suc n
       one n = omega arith
 
-  no_counter : (w : ℕ) (phase : WalkPhase) → w < p.servers → count_of (walk_wants_in p w phase) ≡ last_load → ⊥
-  no_counter w phase below e = search (rules, at_load, node_word_low)
-
   pub at_read : (s : NodeRange) (phase : Phase) → Names p k.registers.call k.registers.reads phase → Shows s t k phase → want_in k phase ≡ last_load → HasTail k node ws phase
-  at_read s phase named shows e = search (rules, tail, named_node, no_counter, mod_below, at_load, node_word_low)
+  at_read s phase named shows e = search (rules, tail, named_node, mod_below, at_load, node_word_low)
 
 -- ---- what a walk over the counters shows, word by word
 -- where all servers were found spent
@@ -209,11 +194,8 @@ WalkShows p seat since w phase = WalksOn p seat since w
 count_is : (p : ConfigParts) (w : Walk) → 1 ≤ p.servers → (phase : WalkPhase) → Runs phase → IsCount p (count_of (walk_wants_in p (server_at p w) phase))
 count_is p w h1 phase h2 = search rules
 
-spares : (p : ConfigParts) (w : Want) → IsCount p w → SparesNodes p w
-spares p w h = search rules
-
 pub count_spares : (p : ConfigParts) (w : Walk) → 1 ≤ p.servers → (phase : WalkPhase) → Runs phase → SparesNodes p (count_of (walk_wants_in p (server_at p w) phase))
-count_spares p w some phase h = spares p _ (count_is p w some phase h)
+count_spares p w some phase h = search rules
 
 pub walk_begins : (p : ConfigParts) (seat : ℕ) → WalksOn p seat [] (walk_start p seat)
 walk_begins p seat = record { runs = tt; first = refl; passed = λ k below. absurd (omega (arith, below)); got_none = tt; counted = tt; most = inl refl; only = λ server h. absurd h }
@@ -233,9 +215,6 @@ module _ (p : ConfigParts) (seat : ℕ) (since : List Taken) (w : Walk) (first :
             subst (λ s. FoundSpent p s since) at (found (server - w.first) (omega arith))
       ]
 
-same_server : (p : ConfigParts) (a b : ℕ) (w : Want) (x : Found) → IsSpent p a w x → IsSpent p b w x → a ≡ b
-same_server p a b w x h1 h2 = search rules
-
 mod_is : (n s : ℕ) → n < s + s → ((n % s ≡ n) × (n < s)) ⊎ (n % s + s ≡ n)
 mod_is n s below = elim (cases_lt n s) [
   | inl less ↦ inl (mod-eq_of_lt less, less)
@@ -245,12 +224,9 @@ mod_is n s below = elim (cases_lt n s) [
       inr (omega (arith, at, from))
 ]
 
-one_place : (f a b s : ℕ) → f < s → a < b → b < s → (f + b) % s ≡ (f + a) % s → ⊥
-one_place f a b s h1 h2 h3 h4 = search (rules, mod_is)
-
 -- the server that a walk is at wasn't found spent
 pub walk_left : (p : ConfigParts) (seat : ℕ) (since : List Taken) (w : Walk) → 1 ≤ p.servers → WalksOn p seat since w → FoundSpent p (server_at p w) since → ⊥
-walk_left p seat since w h1 h2 h3 = search (rules, one_place)
+walk_left p seat since w h1 h2 h3 = search (rules, mod_is)
 
 module _ (p : ConfigParts) (seat word : ℕ) (since : List Taken) (w : Walk) (on : WalksOn p seat since w) (some : 1 ≤ p.servers) where
   module _ (t : Taken) (here : IsSpent p (server_at p w) t.want t.found) (got : GotNone p t.want t.found) (count : IsCount p t.want) where
@@ -258,7 +234,7 @@ module _ (p : ConfigParts) (seat word : ℕ) (since : List Taken) (w : Walk) (on
     upto k h1 = search rules
 
     only_these : (server : ℕ) → FoundSpent p server (t ∷ since) → (k : ℕ) × (k < w.passed + 1) × (server ≡ (w.first + k) % p.servers)
-    only_these server h1 = search (rules, same_server)
+    only_these server h1 = search rules
 
     walk_goes : let v = walk_next p w in WalkShows p seat (t ∷ since) v v.phase
     walk_goes = chosen (λ (v : Walk). WalkShows p seat (t ∷ since) v v.phase) (nat_lt (w.passed + 1) p.servers) (walk_at w.first (w.passed + 1) Loading) (with_phase w Spent)
@@ -268,8 +244,5 @@ module _ (p : ConfigParts) (seat word : ℕ) (since : List Taken) (w : Walk) (on
   abbrev turn : WalkPhase → Taken
   turn phase = turn_found (count_of (walk_wants_in p (server_at p w) phase)) (Word word)
 
-  walk_in : (phase : WalkPhase) → Runs phase → (let v = walk_fed_in p w word phase in WalkShows p seat (turn phase ∷ since) v v.phase)
-  walk_in phase h1 = search (rules, chosen, count_is, walk_goes)
-
   pub walk_on : let v = walk_fed_in p w word w.phase in WalkShows p seat (turn w.phase ∷ since) v v.phase
-  walk_on = walk_in w.phase on.runs
+  walk_on = search (rules, chosen, count_is, walk_goes)

@@ -5,16 +5,16 @@ use Rattle.sh_alloc.specs.{Walks.{walk_fed, walk_wants, server_at, walk_wants_in
 use Rattle.sh_alloc.specs.declared.state.{NodeRange.{NodeRange}, Walk.{Walk}}
 use Rattle.sh_image.specs.{Inner.{Inner}, Leaf.{Leaf}, Node.{seen_as}, Seen.{SeenBy}, declared.read.Seen.{Seen}}
 use Rattle.sh_image.specs.declared.{inner.Image.{Image, TheVariants.{Leaf as OfLeaf, Inner as OfInner}}, read.Seen.TheVariants.{Leaf as LeafSeen, Inner as InnerSeen, Torn, TornEntry, Odd as OddSeen}}
-use Rattle.sh_read.{proofs.JudgingLemmas.{judged_by, seen_once}, specs.{Judging.{seen_of}, Reads.{accepted, progress_of, wanted, read_fed, reads_with, Reads}}}
+use Rattle.sh_read.{proofs.JudgingLemmas.{judged_by, seen_once}, specs.{Judging.{seen_of}, Reads.{accepted, progress_of, wanted, reads_with, Reads}}}
 use Rattle.sh_read.specs.declared.state.Progress.{Progress, TheVariants.{Accepted, Again}}
-use Rattle.sh_decide.specs.{Aims.{aimed_key, is_node}, Deciding.{decision_of, decided_by, decided_here}, Ways.{way_of, is_below, is_right, leads_right, way_by, way_here}}
+use Rattle.sh_decide.specs.{Aims.{aimed_key, is_node}, Deciding.{decision_of, decided_by}, Ways.{way_of, is_right, leads_right, way_by, way_here}}
 use Rattle.sh_decide.specs.declared.state.{Aim.{Aim, TheVariants.{Posts}}, Decision.{Decision}, Posting.{Posting}, Way.{Way}}
 use Rattle.sh_client.{proofs.InLineLemmas.{count_is, load_is, Elsewhere}, specs.{Wants.{want_in, want_of, load_of}, declared.state.Phase.{Phase, TheVariants.{Look, Read, ReadLocked, Seek}}}}
-use Rattle.sh_client.specs.{CachedTurns.{read_aim}, Machine.{Machine, up}, Ranges.{gathered}, declared.state.{Edge.{Edge}, Need.{Need, TheVariants.{ToSplit, ToGrow}}, Tally.{Tally}, Want.{Want}}}
-use Rattle.sh_client.specs.{Feeds.{arrived, did, fed_in, held_by, hold_by, loaded, read_by, turned_in, went, fed_by}, InLine.{stand_in, HasTurn}, Splitting.{needing, sought_by, walked, with_fresh}}
+use Rattle.sh_client.specs.{CachedTurns.{read_aim}, Machine.{Machine, up}, declared.state.{Need.{Need, TheVariants.{ToSplit, ToGrow}}, Tally.{Tally}, Want.{Want}}}
+use Rattle.sh_client.specs.{Feeds.{did, fed_in, loaded, turned_in, went, fed_by}, InLine.{stand_in, HasTurn}}
 use Rattle.sh_base.{proofs.LayoutLemmas.{node_word_low, node_size_is}, specs.{Layout.{lock_of}, Setting.{node_size, IsNode, IsSetting}, declared.config.ConfigParts.{ConfigParts}}}
 use Rattle.sh_course.proofs.Decided.{chosen, gives, Gives, named_node, AllNamed, Names}
-use Rattle.sh_course.{proofs.Locks.{HoldsOwn}, specs.{Counts.{ends_write_in, handed_by, rewritten_by, splits_by, CountsReads, EndsRight, EndsTorn, IsTorn, RisesExactly}, Stores.{AllCount, IsCount}}}
+use Rattle.sh_course.{proofs.Locks.{HoldsOwn}, specs.{Counts.{ends_write_in, handed_by, rewritten_by, splits_by, CountsReads, EndsRight, EndsTorn, RisesExactly}, Stores.{AllCount, IsCount}}}
 use Rattle.sh_course.proofs.Reading.{count_spares, walk_left, at_read, head_is, HasTail, has_run, holds_still, ran, walk_on, WalkEnds, WalkShows}
 use Rattle.sh_course.{proofs.Showing.{HasStored, StartsApart, Goes, RunsOn, Shows, Counts, IsPosting}, specs.Turns.{machine_behind, Found, MayFind, Turn, Word, turn_found, Taken}}
 use Rattle.sh_course.specs.{Found.{AllGotNone, AllSpent, FoundSpent, GotNone, IsSpent, holds, loads_from, HasRun}, Skips.{IsWornAt, SkipsWorn as EndsWorn, SkipsSpent as EndsSpent}}
@@ -58,15 +58,6 @@ Same m x = x.registers.tally ≡ m.registers.tally
 abbrev Adds : Machine → Count → Machine → Type 0
 Adds m c x = x.registers.tally ≡ counting c m.registers.tally
 
-fresh_goes_on : (m : Machine) (fresh : ℕ) (need : Need) → Same m (with_fresh m fresh need)
-fresh_goes_on m fresh need = search rules
-
-takes : (m : Machine) (need : Need) (fresh : Option ℕ) → Same m (needing m need fresh)
-takes m need fresh = search (rules, fresh_goes_on)
-
-rows_go_on : (m : Machine) (aim : Aim) (edge : Option Edge) → Same m (gathered m aim edge)
-rows_go_on m aim edge = search rules
-
 abbrev pub spent_counts : Need → Count
 spent_counts (ToSplit (Posts post) depth) = SkipsSpent
 spent_counts (ToGrow post root) = SkipsSpent
@@ -76,16 +67,13 @@ abbrev pub walk_counts : Need → ChunkWant → Count
 walk_counts need chunk.AllSpent = spent_counts need
 walk_counts need w = Nothing
 
-seeks : (m : Machine) (need : Need) (w : ChunkWant) → Adds m (walk_counts need w) (sought_by m need w)
-seeks m need w = search (rules, fresh_goes_on)
-
 abbrev pub way_counts : Way → Count
 way_counts (way.Right node) = Hops
 way_counts (way.LockRight node) = Hops
 way_counts w = Nothing
 
 goes : (m : Machine) (aim : Aim) (image : Image) (w : Way) → Adds m (way_counts w) (went m aim image w)
-goes m aim image w = search (rules, takes, rows_go_on)
+goes m aim image w = search rules
 
 abbrev pub choice_counts : Decision → Count
 choice_counts (decision.Right node) = Hops
@@ -93,7 +81,7 @@ choice_counts decision.Skip = SkipsWorn
 choice_counts d = Nothing
 
 does : (m : Machine) (aim : Aim) (depth : ℕ) (image : Image) (d : Decision) → Adds m (choice_counts d) (did m aim depth image d)
-does m aim depth image d = search (rules, takes)
+does m aim depth image d = search rules
 
 -- by the image, without a lock and under it
 abbrev pub read_counts : Machine → Aim → Bool → Option Image → Count
@@ -104,22 +92,10 @@ abbrev pub hold_counts : Machine → Aim → Option Image → Count
 hold_counts m aim (Some image) = choice_counts (decision_of m.setting m.registers.call aim image)
 hold_counts m aim None = Nothing
 
-arrives : (m : Machine) (aim : Aim) (top : Bool) (o : Option Image) → Adds m (read_counts m aim top o) (arrived m aim top o)
-arrives m aim top o = search (rules, goes)
-
-decides : (m : Machine) (aim : Aim) (depth : ℕ) (o : Option Image) → Adds m (hold_counts m aim o) (held_by m aim depth o)
-decides m aim depth o = search (rules, does)
-
 abbrev pub answer_counts : Progress → (found : Count) → Count
 answer_counts Accepted found = found
 answer_counts (Again rear front) found = Tears
 answer_counts answer found = Nothing
-
-reads_on : (m : Machine) (aim : Aim) (top : Bool) (answer : Progress) → Adds m (answer_counts answer (read_counts m aim top (accepted m.setting m.registers.reads))) (read_by m aim top answer)
-reads_on m aim top answer = search (rules, arrives)
-
-holds_on : (m : Machine) (aim : Aim) (depth : ℕ) (answer : Progress) → Adds m (answer_counts answer (hold_counts m aim (accepted m.setting m.registers.reads))) (hold_by m aim depth answer)
-holds_on m aim depth answer = search (rules, decides)
 
 -- by what the client is at
 abbrev pub turn_counts : Machine → (word : ℕ) → Phase → Count
@@ -132,9 +108,6 @@ turn_counts m word phase = Nothing
 abbrev pub CountsAt : Machine → Phase → Machine → Type 0
 CountsAt m phase x = (x.registers.tally.handed ≡ handed_by (want_in m phase) m.registers.tally.handed) × (x.registers.tally.splits ≡ splits_by (ends_write_in m phase) m.registers.tally.splits) × (x.registers.tally.rewritten ≡ rewritten_by (ends_write_in m phase) m.registers.tally.rewritten)
 
-hands_none : (w : Want) (n : ℕ) → Elsewhere w → handed_by w n ≡ n
-hands_none w n h = search rules
-
 -- another counter of the tally
 abbrev pub CountsSo : Machine → Count → Machine → Type 0
 CountsSo m c x = (x.registers.tally.again ≡ (counting c m.registers.tally).again) × (x.registers.tally.rights ≡ (counting c m.registers.tally).rights) × (x.registers.tally.skipped_worn ≡ (counting c m.registers.tally).skipped_worn) × (x.registers.tally.skipped_spent ≡ (counting c m.registers.tally).skipped_spent) × (x.registers.tally.from_cache ≡ m.registers.tally.from_cache)
@@ -143,16 +116,13 @@ abbrev Tells : Machine → Count → Phase → Machine → Type 0
 Tells m c phase x = CountsAt m phase x × CountsSo m c x
 
 told : (m x : Machine) (c : Count) (w : Want) → Elsewhere w → Adds m c x → ((x.registers.tally.handed ≡ handed_by w m.registers.tally.handed) × (x.registers.tally.splits ≡ m.registers.tally.splits) × (x.registers.tally.rewritten ≡ m.registers.tally.rewritten)) × CountsSo m c x
-told m x c w h e = search (rules, hands_none)
+told m x c w h e = search rules
 
 fed_counts : (m : Machine) (word : ℕ) (phase : Phase) → Tells m (turn_counts m word phase) phase (fed_in m word phase)
-fed_counts m word (Read aim top) = told m (fed_in m word (Read aim top)) (turn_counts m word (Read aim top)) _ (load_is (wanted m.setting m.registers.reads)) (reads_on (loaded m word) aim top (progress_of m.setting m.registers.reads word))
-fed_counts m word (ReadLocked aim depth) = told m (fed_in m word (ReadLocked aim depth)) (turn_counts m word (ReadLocked aim depth)) _ (load_is (wanted m.setting m.registers.reads)) (holds_on (loaded m word) aim depth (progress_of m.setting m.registers.reads word))
-fed_counts m word (Seek need) = told m (fed_in m word (Seek need)) (turn_counts m word (Seek need)) _ (count_is (walk_wants m.setting m.registers.walk)) (seeks (walked m word) need (walk_wants m.setting (walk_fed m.setting m.registers.walk word)))
+fed_counts m word (Read aim top) = told m (fed_in m word (Read aim top)) (turn_counts m word (Read aim top)) _ (load_is (wanted m.setting m.registers.reads)) (search (rules, goes))
+fed_counts m word (ReadLocked aim depth) = told m (fed_in m word (ReadLocked aim depth)) (turn_counts m word (ReadLocked aim depth)) _ (load_is (wanted m.setting m.registers.reads)) (search (rules, does))
+fed_counts m word (Seek need) = told m (fed_in m word (Seek need)) (turn_counts m word (Seek need)) _ (count_is (walk_wants m.setting m.registers.walk)) (search rules)
 fed_counts m word phase = search rules
-
-turned_counts : (m : Machine) (depth : Option ℕ) (phase : Phase) → IsLook phase → Tells m Nothing phase (turned_in m depth phase)
-turned_counts m depth phase may = search rules
 
 pub fed_tells : (m : Machine) (word : ℕ) → CountsSo m (turn_counts m word m.phase) (fed_in m word m.phase)
 fed_tells m word = (fed_counts m word m.phase).1
@@ -161,7 +131,7 @@ pub turned_tells : (m : Machine) (depth : Option ℕ) (phase : Phase) → Counts
 turned_tells m depth phase = search rules
 
 pub counts : (m : Machine) (x : Found) → MayFind (want_of m) x → CountsAt m m.phase (machine_behind m x)
-counts m x h1 = search (rules, fed_counts, turned_counts, turn_looks)
+counts m x h1 = search (rules, fed_counts, turn_looks)
 
 pub counts_no_start : (m : Machine) (x : Found) → (machine_behind m x).registers.tally.from_cache ≡ m.registers.tally.from_cache
 counts_no_start m x = search (rules, fed_tells, turned_tells)
@@ -189,23 +159,8 @@ pub exactly : {Cause : Type 0} (before after : ℕ) (b : Bool) → after ≡ rai
 exactly before after b e to from = search rules
 
 -- ---- what an image leads to
-right_or : (a b : Bool) (next : ℕ) → is_hop (way_counts (cond a (cond b (way.LockRight next) (way.Right next)) way.Root)) ≡ a
-right_or a b next = search rules
-
-down_or : (a b : Bool) (child : ℕ) → is_hop (way_counts (cond a (cond b (way.Lock child) (way.Read child)) way.Root)) ≡ false
-down_or a b child = search rules
-
-choice_or : (a : Bool) (next : ℕ) → is_hop (choice_counts (cond a (decision.Right next) decision.Restart)) ≡ a
-choice_or a next = search rules
-
 way_else : (w : Way) → (is_torn (way_counts w) ≡ false) × (is_worn (way_counts w) ≡ false)
 way_else w = search rules
-
-choice_torn : (d : Decision) → is_torn (choice_counts d) ≡ false
-choice_torn d = search rules
-
-skip_is : (d : Decision) → is_worn (choice_counts d) ≡ true → d ≡ decision.Skip
-skip_is d h1 = search rules
 
 module _ (p : ConfigParts) (call : Call) (aim : Aim) (image : Image) where
   abbrev goes_right : Bool
@@ -214,21 +169,11 @@ module _ (p : ConfigParts) (call : Call) (aim : Aim) (image : Image) where
   here_way : (node : ℕ) → is_hop (way_counts (way_here call aim node image)) ≡ false
   here_way node = search rules
 
-  here_choice : is_hop (choice_counts (decided_here p call aim image)) ≡ false
-  here_choice = search rules
-
   by_way : (node child : ℕ) (a b c : Bool) → (let h = cond a HopRestart (cond b (HopRight (next_of image)) (cond c Here (Down child))) in is_hop (way_counts (way_by p call aim node image h)) ≡ (is_right h && is_node p (next_of image)))
-  by_way node child a b c = search (rules, right_or, down_or, here_way)
+  by_way node child a b c = search (rules, here_way)
 
   by_choice : (child : ℕ) (a b c : Bool) → (let h = cond a HopRestart (cond b (HopRight (next_of image)) (cond c Here (Down child))) in is_hop (choice_counts (decided_by p call aim image h)) ≡ (is_right h && is_node p (next_of image)))
-  by_choice child a b c = search (rules, choice_or, here_choice)
-
-  -- under a root that is a level too low there is no hop
-  grows_none : (aim : Aim) → is_below aim image ≡ true → leads_right call aim image ≡ false
-  grows_none aim h1 = search rules
-
-  way_right : (top : Bool) (node : ℕ) → is_hop (way_counts (way_of p call aim top node image)) ≡ goes_right
-  way_right top node = search (rules, chosen, grows_none, by_way)
+  by_choice child a b c = search rules
 
   choice_right : is_hop (choice_counts (decision_of p call aim image)) ≡ goes_right
   choice_right = by_choice (child_of (image_pairs image) (aimed_key call aim)) _ _ _
@@ -242,9 +187,6 @@ record IsSkipped (p : ConfigParts) (aim : Aim) (a : Inner) : Type 0 where
 module _ (p : ConfigParts) (call : Call) where
   skip_worn : (aim : Aim) (a : Inner) → Gives p call aim (OfInner a) decision.Skip → IsSkipped p aim a
   skip_worn aim a h = search rules
-
-  skip_inner : (aim : Aim) (a : Leaf) → Gives p call aim (OfLeaf a) decision.Skip → ⊥
-  skip_inner aim a h = search rules
 
   skips : (post : Posting) (a : Inner) → IsWornAt p post a → decision_of p call (Posts post) (OfInner a) ≡ decision.Skip
   skips post a h1 = search rules
@@ -261,9 +203,6 @@ module _ (p : ConfigParts) (r : Reads) (word : ℕ) (g : Option Image → Count)
   abbrev all : List ℕ
   all = word ∷ r.loaded
 
-  counts_seen : (b : Bool) → nat_lt (length all) (node_size p) ≡ b → answer_counts (progress_of p r word) (g (accepted p (read_fed p r word))) ≡ cond b Nothing (seen_counts g (seen_of p all))
-  counts_seen b h1 = search rules
-
 -- ---- a turn that ends a run of a node's words is the last one of a READ of that node
 pub record RunAt (n : Machine) (turns before : List Taken) (x : Found) (node : ℕ) (words : List ℕ) : Type 0 where
   pub word : ℕ
@@ -273,25 +212,13 @@ pub record RunAt (n : Machine) (turns before : List Taken) (x : Found) (node : �
   pub rest : turns ≡ loads_from n.setting node 1 tail_words ++ before
   pub reads : HasTail n node tail_words n.phase
 
-tail_is : (n : Machine) (node : ℕ) (ws : List ℕ) (phase : Phase) → HasTail n node ws phase → n.registers.reads.loaded ≡ ws
-tail_is n node ws phase h = search rules
-
 abbrev NoRead : Phase → Type 0
 NoRead (Read aim top) = ⊥
 NoRead (ReadLocked aim depth) = ⊥
 NoRead phase = Unit {0}
 
-no_tail : (n : Machine) (node : ℕ) (ws : List ℕ) (phase : Phase) → NoRead phase → HasTail n node ws phase → ⊥
-no_tail n node ws phase h k = search rules
-
 abbrev Quiet : Count → Tally → Type 0
 Quiet c t = ((counting c t).again ≡ t.again) × ((counting c t).rights ≡ t.rights) × ((counting c t).skipped_worn ≡ t.skipped_worn)
-
-walk_quiet : (need : Need) (w : ChunkWant) (t : Tally) → Quiet (walk_counts need w) t
-walk_quiet need w t = search rules
-
-turn_quiet : (m : Machine) (word : ℕ) (phase : Phase) → NoRead phase → Quiet (turn_counts m word phase) m.registers.tally
-turn_quiet m word phase h = search (rules, walk_quiet)
 
 -- what is told of a turn's counters
 pub record CountsTurn (p : ConfigParts) (call : Call) (now : List Taken) (n x : Machine) : Type 0 where
@@ -341,7 +268,7 @@ module _ (s : NodeRange) (n : Machine) (turns : List Taken) (lawful : IsSetting 
     run_counts k ws before seen run by =
         let r = run_at (Word word) k ws before run in
         let first : r.word ≡ word = let e = r.found_is in cc in
-        let is : ws ≡ words = r.words_are ∙ ap (λ w. w ∷ r.tail_words) first ∙ ap (λ (l : List ℕ). word ∷ l) (sym (tail_is n k r.tail_words n.phase r.reads)) in
+        let is : ws ≡ words = r.words_are ∙ ap (λ w. w ∷ r.tail_words) first ∙ ap (λ (l : List ℕ). word ∷ l) (sym (search rules)) in
         let all : length words ≡ node_size p = ap length (sym is) ∙ run.all in
         let one : seen ≡ seen_of p words = seen_once p words some seen (seen_of p words) (subst (λ (l : List ℕ). SeenBy p l seen) is by) (judged_by p words some all) in
         ap (λ b. cond b Nothing (seen_counts g (seen_of p words))) (not_less_test (length words) (node_size p) (omega (arith, all))) ∙ ap (seen_counts g) (sym one)
@@ -359,18 +286,12 @@ module _ (s : NodeRange) (n : Machine) (turns : List Taken) (lawful : IsSetting 
     by_seen : {C : Type 0} (q : Count → Bool) → q Nothing ≡ false → ((e : short ≡ false) (seen : Seen) → seen_of p words ≡ seen → q (seen_counts g seen) ≡ true → C) → q count ≡ true → C
     by_seen h1 h2 h3 = search rules
 
-    image_counts : (image : Image) → seen_counts g (seen_as image) ≡ g (Some image)
-    image_counts image = search rules
-
     module _ (torn : (image : Image) → is_torn (g (Some image)) ≡ false) (right : (image : Image) → is_hop (g (Some image)) ≡ goes_right p n.registers.call aim image) where
       torn_at : (e : short ≡ false) (seen : Seen) → seen_of p words ≡ seen → is_torn (seen_counts g seen) ≡ true → EndsTorn p now
       torn_at e (LeafSeen a) is h = absurd (let f = torn (OfLeaf a) in cc)
       torn_at e (InnerSeen a) is h = absurd (let f = torn (OfInner a) in cc)
       torn_at e OddSeen is h = absurd (cc)
       torn_at e seen is h = record { node = n.registers.reads.node; words = words; before = (run e).0; seen = seen; run = (run e).1; seen_is = judged e seen is; torn = search rules }
-
-      tears : (seen : Seen) → IsTorn seen → is_torn (seen_counts g seen) ≡ true
-      tears seen h = search rules
 
       goes_at : (e : short ≡ false) (image : Image) → seen_of p words ≡ seen_as image → is_hop (g (Some image)) ≡ true → EndsRight p n.registers.call now n.phase
       goes_at e image is h =
@@ -385,7 +306,7 @@ module _ (s : NodeRange) (n : Machine) (turns : List Taken) (lawful : IsSetting 
       hops : EndsRight p n.registers.call now n.phase → is_hop count ≡ true
       hops h =
           let aimed : h.aim ≡ aim = let a = h.aim_is in cc in
-          ap is_hop (run_counts h.node h.words h.before (seen_as h.image) h.run h.seen_is ∙ image_counts h.image) ∙ right h.image ∙ true_and _ _ (subst (λ (a : Aim). leads_right n.registers.call a h.image ≡ true) aimed h.right) h.next
+          ap is_hop (run_counts h.node h.words h.before (seen_as h.image) h.run h.seen_is ∙ (search rules)) ∙ right h.image ∙ true_and _ _ (subst (λ (a : Aim). leads_right n.registers.call a h.image ≡ true) aimed h.right) h.next
 
       module _ (inner : (a : Leaf) → is_worn (g (Some (OfLeaf a))) ≡ false) (locked : (a : Inner) → is_worn (g (Some (OfInner a))) ≡ true → IsSkipped p aim a × (depth : ℕ) × (holds p (lock_of p n.registers.reads.node) turns ≡ Some depth)) (worn : (lock depth : ℕ) → holds p lock turns ≡ Some depth → (a : Inner) → IsSkipped p aim a → is_worn (g (Some (OfInner a))) ≡ true) where
         worn_at : (e : short ≡ false) (seen : Seen) → seen_of p words ≡ seen → is_worn (seen_counts g seen) ≡ true → EndsWorn p now (read_aim n.phase)
@@ -408,7 +329,7 @@ module _ (s : NodeRange) (n : Machine) (turns : List Taken) (lawful : IsSetting 
             let r = raises count n.registers.tally in
             record {
               reads = record {
-                again = exactly _ _ (is_torn count) (so.0 ∙ r.0) (by_seen is_torn refl torn_at) (λ h. ap is_torn (run_counts h.node h.words h.before h.seen h.run h.seen_is) ∙ tears h.seen h.torn);
+                again = exactly _ _ (is_torn count) (so.0 ∙ r.0) (by_seen is_torn refl torn_at) (λ h. ap is_torn (run_counts h.node h.words h.before h.seen h.run h.seen_is) ∙ (search rules));
                 rights = exactly _ _ (is_hop count) (so.1 ∙ r.1) (by_seen is_hop refl right_at) hops;
               };
               worn = exactly _ _ (is_worn count) (so.2 ∙ r.2) (by_seen is_worn refl worn_at) skips_at;
@@ -418,22 +339,22 @@ module _ (s : NodeRange) (n : Machine) (turns : List Taken) (lawful : IsSetting 
   fed_rises word (Read aim top) at names show =
       let g = read_counts (loaded n word) aim top in
       rises word aim (ap read_aim at) show.1 (named_node p _ names) (ap (want_in n) at) g
-      (λ image. (way_else _).0) (λ image. way_right p n.registers.call aim image top _) (λ a. (way_else _).1)
+      (λ image. (way_else _).0) (λ image. search (rules, chosen, by_way)) (λ a. (way_else _).1)
       (λ a h. absurd (let w = (way_else (way_of p n.registers.call aim top (loaded n word).registers.reads.node (OfInner a))).1 in cc))
       (λ lock depth h a k. absurd (subst (λ (x : Phase). HasTurn lock (stand_in p n.registers x)) at (own lock depth h)))
-      (fed_by n word) (subst (λ (c : Count). CountsSo n c (fed_by n word)) (ap (turn_counts n word) at ∙ counts_seen p n.registers.reads word g _ refl) (fed_tells n word))
+      (fed_by n word) (subst (λ (c : Count). CountsSo n c (fed_by n word)) (ap (turn_counts n word) at ∙ (search rules)) (fed_tells n word))
   fed_rises word (ReadLocked aim depth) at names show =
       let g = hold_counts (loaded n word) aim in
       rises word aim (ap read_aim at) show.1 (named_node p _ names.0) (ap (want_in n) at) g
-      (λ image. choice_torn _) (λ image. choice_right p n.registers.call aim image)
+      (λ image. search rules) (λ image. choice_right p n.registers.call aim image)
       (λ a. no_skip a (decision_of p n.registers.call aim (OfLeaf a)) refl)
-      (λ a h. (skip_worn p n.registers.call aim a (subst (Gives p n.registers.call aim (OfInner a)) (skip_is _ h) (gives p n.registers.call aim (OfInner a))), depth, show.2))
+      (λ a h. (skip_worn p n.registers.call aim a (subst (Gives p n.registers.call aim (OfInner a)) (search rules) (gives p n.registers.call aim (OfInner a))), depth, show.2))
       (λ lock d h a k. ap (λ (d : Decision). is_worn (choice_counts d)) (ap (λ (aim : Aim). decision_of p n.registers.call aim (OfInner a)) k.aim_is ∙ skips p n.registers.call k.post a k.worn))
-      (fed_by n word) (subst (λ (c : Count). CountsSo n c (fed_by n word)) (ap (turn_counts n word) at ∙ counts_seen p n.registers.reads word g _ refl) (fed_tells n word))
+      (fed_by n word) (subst (λ (c : Count). CountsSo n c (fed_by n word)) (ap (turn_counts n word) at ∙ (search rules)) (fed_tells n word))
     where
       no_skip : (a : Leaf) (d : Decision) → decision_of p n.registers.call aim (OfLeaf a) ≡ d → is_worn (choice_counts d) ≡ false
-      no_skip a d h1 = search (rules, skip_inner, gives)
-  fed_rises word phase at names show = apart (Word word) (fed_by n word) (λ node words before r. no_tail n node r.tail_words n.phase (subst NoRead (sym at) (search rules)) r.reads) _ (fed_tells n word) (turn_quiet n word n.phase (subst NoRead (sym at) (search rules)))
+      no_skip a d h1 = search (rules, gives)
+  fed_rises word phase at names show = apart (Word word) (fed_by n word) (λ node words before r. search rules) _ (fed_tells n word) (search rules)
 
   pub turn_rises : (x : Found) → CountsTurn p n.registers.call (behind x) n (machine_behind n x)
   turn_rises (Word word) = fed_rises word n.phase refl named shows
@@ -444,27 +365,11 @@ abbrev is_spent : Count → Bool
 is_spent SkipsSpent = true
 is_spent c = false
 
-spent_raises : (c : Count) (t : Tally) → (counting c t).skipped_spent ≡ raised (is_spent c) t.skipped_spent
-spent_raises c t = search rules
-
 way_spent : (w : Way) → is_spent (way_counts w) ≡ false
 way_spent w = search rules
 
-choice_spent : (d : Decision) → is_spent (choice_counts d) ≡ false
-choice_spent d = search rules
-
-read_spent : (m : Machine) (aim : Aim) (top : Bool) (answer : Progress) (o : Option Image) → is_spent (answer_counts answer (read_counts m aim top o)) ≡ false
-read_spent m aim top answer o = search (rules, way_spent)
-
 hold_spent : (m : Machine) (aim : Aim) (answer : Progress) (o : Option Image) → is_spent (answer_counts answer (hold_counts m aim o)) ≡ false
-hold_spent m aim answer o = search (rules, choice_spent)
-
--- where it is counted the walk has ended, for a post
-spent_for : (need : Need) (w : ChunkWant) → is_spent (walk_counts need w) ≡ true → IsPosting need
-spent_for need w h = search rules
-
-spent_is : (need : Need) → IsPosting need → is_spent (spent_counts need) ≡ true
-spent_is need is = search rules
+hold_spent m aim answer o = search rules
 
 no_look : (m : Machine) (phase : Phase) → IsLook phase → IsCount m.setting (want_in m phase) → ⊥
 no_look m phase look c = search rules
@@ -500,18 +405,15 @@ module _ (s : NodeRange) (turns : List Taken) (m : Machine) (lawful : IsSetting 
       record { before = k.before; since = t ∷ k.since; whole = ap (λ (l : List Taken). t ∷ l) k.whole; counted = ends.counted; spent = ends.spent; got_none = ends.got_none; none = k.none; stored = λ all. stored all.1 }
 
   cause : (phase : Phase) → Shows s turns m phase → is_spent (turn_counts m word phase) ≡ true → EndsSpent m.setting (turns_now phase) m.registers.spare
-  cause phase h1 h2 = search (rules, read_spent, hold_spent, posts, spent_for)
+  cause phase h1 h2 = search (rules, way_spent, hold_spent, posts)
 
   -- ---- and where it stands, it is counted
   last_counts : (t : Taken) (since before : List Taken) → t ∷ turns ≡ since ++ before → AllSpent cfg since → AllCount cfg since → AllGotNone cfg since → IsCount cfg t.want × GotNone cfg t.want t.found
   last_counts t [] before e spent counted got = absurd (spent 0 one_server)
   last_counts t (x ∷ since) before e spent counted got = subst (λ (t : Taken). IsCount cfg t.want × GotNone cfg t.want t.found) (sym (head_is e).0) (counted.0, got.0)
 
-  load_apart : RunsOn cfg turns m.registers.reads → IsCount cfg (load_of (wanted cfg m.registers.reads)) → ⊥
-  load_apart on c = search (rules, node_word_low)
-
   walk_counts_so : (need : Need) → IsPosting need → (k : Counts cfg m.seat turns m.registers.spare m.registers.walk) → (h : EndsSpent cfg (turns_now (Seek need)) m.registers.spare) → GotNone cfg (want_in m (Seek need)) (Word word) → (let v = walk_fed cfg m.registers.walk word in (phase : WalkPhase) → WalkShows cfg m.seat (turn_found (want_in m (Seek need)) (Word word) ∷ k.since) v phase → is_spent (walk_counts need (walk_wants_in cfg (server_at cfg v) phase)) ≡ true)
-  walk_counts_so need is k h got Spent walks = spent_is need is
+  walk_counts_so need is k h got Spent walks = search rules
   walk_counts_so need is k h got (FoundChunk c) walks = absurd (walks.got (got, let on = k.walks in on.got_none))
   walk_counts_so need is k h got phase walks =
       let v = walk_fed cfg m.registers.walk word in
@@ -519,10 +421,10 @@ module _ (s : NodeRange) (turns : List Taken) (m : Machine) (lawful : IsSetting 
       absurd (walk_left cfg m.seat (t ∷ k.since) v one_server walks (counted_found cfg (server_at cfg v) h.since h.before (t ∷ k.since) k.before (sym h.whole ∙ ap (λ (l : List Taken). t ∷ l) k.whole) h.counted k.apart (h.spent (server_at cfg v) (mod_below (v.first + v.passed) cfg.servers one_server))))
 
   must_count : (phase : Phase) → Shows s turns m phase → EndsSpent cfg (turns_now phase) m.registers.spare → IsCount cfg (want_in m phase) × GotNone cfg (want_in m phase) (Word word) → is_spent (turn_counts m word phase) ≡ true
-  must_count phase h1 h2 h3 = search (rules, load_apart, count_spares, walk_counts_so, walk_on)
+  must_count phase h1 h2 h3 = search (rules, node_word_low, count_spares, walk_counts_so, walk_on)
 
 -- a turn of a course
 pub spent_counted : (s : NodeRange) (turns : List Taken) (m : Machine) (x : Found) → IsSetting m.setting → MayFind (want_of m) x → Shows s turns m m.phase → RisesExactly m.registers.tally.skipped_spent (machine_behind m x).registers.tally.skipped_spent (EndsSpent m.setting (turn_found (want_of m) x ∷ turns) m.registers.spare)
-spent_counted s turns m (Word word) lawful may shows = exactly _ _ (is_spent (turn_counts m word m.phase)) ((fed_tells m word).3 ∙ spent_raises (turn_counts m word m.phase) m.registers.tally) (cause s turns m lawful word m.phase shows)
+spent_counted s turns m (Word word) lawful may shows = exactly _ _ (is_spent (turn_counts m word m.phase)) ((fed_tells m word).3 ∙ (search rules)) (cause s turns m lawful word m.phase shows)
     (λ h. must_count s turns m lawful word m.phase shows h (last_counts s turns m lawful word (turn_found (want_of m) (Word word)) h.since h.before h.whole h.spent h.counted h.got_none))
 spent_counted s turns m (Turn depth) lawful may shows = inr ((turned_tells m depth m.phase).3, λ h. no_look m m.phase (turn_looks m depth m.phase may) (last_counts s turns m lawful 0 (turn_found (want_of m) (Turn depth)) h.since h.before h.whole h.spent h.counted h.got_none).0)

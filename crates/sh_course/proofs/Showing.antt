@@ -1,12 +1,12 @@
 -- What the course of a call has shown, by what its client is at.
-use Rattle.std.proofs.Common.{◌≡◌, ◌⊎◌, ℕ, ◌+◌, ◌%◌, ◌<◌, false, List, ◌++◌, length, Some, rules, Option, [], ◌∷◌, ap, inr}
+use Rattle.std.proofs.Common.{◌≡◌, ◌⊎◌, ℕ, ◌+◌, ◌%◌, ◌<◌, false, List, ◌++◌, length, Some, rules, [], ◌∷◌, ap, inr}
 use Rattle.sh_base.specs.{Layout.{lock_of}, Setting.{node_size}, declared.config.ConfigParts.{ConfigParts}}
 use Rattle.sh_map.specs.declared.{book.Row.{Row}, call.{Call.{Call}, Reply.{Reply}}}
 use Rattle.sh_alloc.specs.declared.state.{NodeRange.{NodeRange}, Phase.{Phase as WalkPhase, TheVariants.{Loading, Adding}}, Walk.{Walk}}
-use Rattle.sh_image.specs.{Leaf.{Leaf, Spells}, declared.inner.Image.{Image, TheVariants.{Leaf as LeafImage}}}
+use Rattle.sh_image.specs.{Leaf.{Leaf, Spells}, declared.inner.Image.{TheVariants.{Leaf as LeafImage}}}
 use Rattle.sh_read.specs.Reads.{Reads, accepted}
-use Rattle.sh_decide.specs.{Aims.{call_key, end_of}, Leaves.{reply_with}, declared.state.Aim.{Aim, TheVariants.{Own, Gathers, Posts}}}
-use Rattle.sh_client.specs.{Bodies.{answer_in}, declared.state.{Need.{Need}, Phase.{Phase}, Then.{Then}, Write.{Write, TheVariants.{Nothing}}}}
+use Rattle.sh_decide.specs.{Aims.{call_key, end_of}, declared.state.Aim.{Aim, TheVariants.{Own, Gathers, Posts}}}
+use Rattle.sh_client.specs.{declared.state.{Need.{Need}, Phase.{Phase}, Then.{Then}, Write.{Write, TheVariants.{Nothing}}}}
 use Rattle.sh_client.specs.{Giving.{writes_nothing}, declared.state.{Filling.{Filling, TheVariants.{RightHalf, NewRoot}}, Need.TheVariants.{ToSplit, ToGrow}, Then.TheVariants.{Ends, Starts, Takes}}}
 use Rattle.sh_client.specs.{Machine.{Machine, Registers}, declared.state.Phase.TheVariants.{Idle, Root, Read, Draw, Look, Grab, ReadLocked, Seek, Fill, Waiting, Body, Unlock, Leave, Swap, Ended}}
 use Rattle.sh_course.specs.{Answers.{Caused, HasOneKey}, Causes.{IsFull, FoundFull, FoundWorn}, Stores.{AllCount, IsCount}, Turns.{Taken}}
@@ -158,15 +158,6 @@ leaves_more p low turns t (a ∷ leaves) h =
 
 pub no_cause : (p : ConfigParts) (call : Call) (start : NodeRange) (turns : List Taken) (rows : List Row) (r : Reply) → IsPlain call r → Caused p call start turns rows r
 no_cause p call start turns rows r h = search rules
-
-pub plain_key : (call : Call) (r : Reply) → IsPlain call r → HasOneKey call
-plain_key call r h = search rules
-
-with_reply : (call : Call) (o : Option (List ℕ)) → HasOneKey call → IsPlain call (reply_with o)
-with_reply call o key = search rules
-
-pub answered : (call : Call) (image : Image) → HasOneKey call → IsPlain call (answer_in call image)
-answered call image h = search (rules, with_reply)
 
 -- behind a write
 pub stored_then : (p : ConfigParts) (call : Call) (start : NodeRange) (turns : List Taken) (now : NodeRange) (rows : List Row) (r : Reply) (after : Then) → HasStored p turns → StoresThen call r after → ThenShows p call start turns now rows r after

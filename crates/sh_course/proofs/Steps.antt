@@ -1,6 +1,6 @@
 -- What a turn adds to what is shown.
 use Rattle.std.proofs.Common.{rules, ◌≡◌, ◌⊎◌, ℕ, ◌+◌, ◌-◌, ◌<◌, ◌≤◌, Bool, true, false, Some, List, [], ◌∷◌, ◌++◌, length, inl, inr, refl, ap, ◌∙◌, arith, Option, None, sym, subst}
-use Rattle.std.{proofs.lemmas.Bool.Decides.{nat_tests}, specs.Prelude.{◌==◌, cond}}
+use Rattle.std.{proofs.lemmas.Bool.Decides.{nat_tests}, specs.Prelude.{◌==◌}}
 use Rattle.sh_base.{proofs.LayoutLemmas.{node_word_low}, specs.{Layout.{first_node, lock_of, lock_word, node_word}, Setting.{last_version, IsNode, first_node_word, node_size, IsSetting}}}
 use Rattle.sh_base.{proofs.PlanLemmas.{lock_below}, specs.declared.{config.ConfigParts.{ConfigParts}, event.Event.TheVariants.{Store}}}
 use Rattle.sh_map.specs.declared.{book.Row.{Row}, call.Call.{Call}}
@@ -8,22 +8,20 @@ use Rattle.sh_alloc.specs.{Spares.{lowest, without_lowest}, Walks.{server_at, wa
 use Rattle.sh_alloc.specs.declared.state.NodeRange.{NodeRange}
 use Rattle.sh_image.specs.{Leaf.{Leaf, Spells}, declared.inner.Image.{Image, TheVariants.{Leaf as LeafImage}}}
 use Rattle.sh_edit.specs.Ranging.{end_in, last_key, upto_of, taken as taken_of}
-use Rattle.sh_descend.specs.{Descent.{hop_of}, declared.Hop.{Hop, TheVariants.{Here}}}
 use Rattle.sh_read.specs.{Reads.{accepted, progress_of}, declared.state.Progress.{Progress}}
-use Rattle.sh_decide.specs.{Aims.{call_key, end_of, is_node}, Deciding.{decision_of}, Ways.{rows_in, way_by, way_of}, declared.state.{Aim.TheVariants.{Gathers, Own, Posts}, Decision.{Decision}}}
-use Rattle.sh_decide.specs.declared.state.{Aim.{Aim}, Posting.{Posting}, Way.{Way}}
+use Rattle.sh_decide.specs.{Aims.{call_key, end_of, is_node}, Deciding.{decision_of}, Ways.{way_of}, declared.state.{Aim.TheVariants.{Gathers, Own, Posts}, Decision.{Decision}}}
+use Rattle.sh_decide.specs.declared.state.{Aim.{Aim}, Way.{Way}}
 use Rattle.sh_client.specs.{Cached.{settling, learning}, declared.state.Phase.TheVariants.{Seek, Idle, Root, Read, Draw, Look, Grab, ReadLocked, Fill, Waiting, Body, Unlock, Leave, Swap, Ended}}
 use Rattle.sh_client.specs.{Feeds.{did, held_by, hold_by, arrived, fed_in, from_root, loaded, read_by, turned_in, went}, Ranges.{gathered, gathering, is_whole, passing, range_ended, rows_taken}}
-use Rattle.sh_client.specs.{Giving.{carried, counted, queue_left, released, writes_nothing}, declared.state.{Filling.{Filling}, Need.TheVariants.{ToSplit, ToGrow}}}
-use Rattle.sh_client.specs.{Machine.{Machine, sparing, to, reading}, Splitting.{all_spent, chunk_taken, halved_by, needing, sought_by, walking, with_fresh, fill_done, root_grown, walked}}
-use Rattle.sh_client.specs.{Wants.{want_in}, declared.state.{Giving.{Giving}, Need.{Need}, Phase.{Phase}, Then.{Then}, Write.{Write}}}
+use Rattle.sh_client.specs.{Giving.{counted, queue_left, released}, declared.state.{Filling.{Filling}, Need.TheVariants.{ToSplit, ToGrow}}}
+use Rattle.sh_client.specs.{Machine.{Machine, sparing, to, reading}, Splitting.{chunk_taken, halved_by, needing, sought_by, walking, with_fresh, fill_done, root_grown, walked}}
+use Rattle.sh_client.specs.{Wants.{want_in}, declared.state.{Need.{Need}, Phase.{Phase}, Then.{Then}, Write.{Write}}}
 use Rattle.sh_course.{proofs.{Decided.{chosen, hop_here, gives, Gives, Named, named_node, read_node, Names}, Rising.{turn_looks}}, specs.Found.{holds, AllSpare, HasReadLocked, GotNone, SparesNodes}}
 use Rattle.sh_course.proofs.Reading.{ran_apart, walk_begins, WalkShows, count_spares, walk_on, has_run, run_begins, spelled, Ran, has_read, Comes, loading_holds, loading_spares, read_on}
-use Rattle.sh_course.proofs.Showing.{StartsApart, AimOf, Gathered, Goes, IsPosting, Counts, HasStored, IsPlain, SeeksLeaf, WalksOn, Shows, StoresThen, ThenOf, WriteShows}
-use Rattle.sh_course.proofs.Showing.{aim_more, answered, no_cause, plain_key, read_more, stored_more, stored_then, then_more}
+use Rattle.sh_course.proofs.Showing.{StartsApart, AimOf, Gathered, Goes, IsPosting, Counts, HasStored, IsPlain, SeeksLeaf, WalksOn, Shows, ThenOf}
+use Rattle.sh_course.proofs.Showing.{aim_more, no_cause, read_more, stored_more, stored_then, then_more}
 use Rattle.sh_course.specs.{Answers.{HasOneKey}, Causes.{IsFull}, Ranges.{place_behind, rows_of_leaves, HasLeaf}, Turns.{Taken, MayFind, Turn, Word, turn_found}}
 use Rattle.sh_logic.proofs.Tests.{same_test}
-use Rattle.sh_lock.specs.Locks.{release_of}
 use Rattle.sh_decide.specs.declared.state.Way.TheVariants as way
 use Rattle.sh_decide.specs.declared.state.Decision.TheVariants as decision
 use Rattle.sh_client.specs.declared.state.Want.TheVariants as want
@@ -35,14 +33,8 @@ WayCovers (Gathers place) image way.Found = ⊥
 WayCovers (Gathers place) (LeafImage a) way.Rows = (a.low ≤ place) × (place < a.high)
 WayCovers aim image w = Unit {0}
 
-by_covers : (p : ConfigParts) (call : Call) (place node : ℕ) (image : Image) (hop : Hop) → (hop ≡ Here → WayCovers (Gathers place) image (rows_in image)) → WayCovers (Gathers place) image (way_by p call (Gathers place) node image hop)
-by_covers p call place node image hop h = search rules
-
-here_covers : (place : ℕ) (image : Image) → hop_of image place 0 ≡ Here → WayCovers (Gathers place) image (rows_in image)
-here_covers place image h1 = search (rules, hop_here)
-
 pub way_covers : (p : ConfigParts) (call : Call) (aim : Aim) (top : Bool) (node : ℕ) (image : Image) → WayCovers aim image (way_of p call aim top node image)
-way_covers p call aim top node image = search (rules, by_covers, here_covers)
+way_covers p call aim top node image = search (rules, hop_here)
 
 -- ---- where it ends
 module _ (room high : ℕ) (rows : List Row) where
@@ -94,31 +86,21 @@ module _ (s : NodeRange) (t : List Taken) (m : Machine) (some : 1 ≤ m.setting.
   takes_rows aim image is covers h = search (rules, takes_leaf)
 
 -- ---- what is shown behind the READ under the lock, and behind the walk over the counters
-pub none_left : (r : NodeRange) → lowest r ≡ None → r.count ≡ 0
-none_left r h = grind (arith, nat_tests, h)
-
--- a post's node or a new root
-halves_post : (s : NodeRange) (t : List Taken) (m : Machine) (post : Posting) (depth fresh : ℕ) (o : Option Image) → IsPlain m.registers.call m.registers.reply × HasStored m.setting t → Goes s t (halved_by m (Posts post) depth fresh o)
-halves_post s t m post depth fresh o h = search rules
-
 post_fresh : (s : NodeRange) (t : List Taken) (m : Machine) (fresh : ℕ) (need : Need) → IsPosting need → IsPlain m.registers.call m.registers.reply × HasStored m.setting t → Goes s t (with_fresh m fresh need)
-post_fresh s t m fresh (ToSplit (Posts post) depth) is h = halves_post s t m post depth fresh (accepted m.setting m.registers.reads) h
+post_fresh s t m fresh (ToSplit (Posts post) depth) is h = search rules
 post_fresh s t m fresh need is h = search rules
 
 module _ (s : NodeRange) (t : List Taken) (m : Machine) (h : IsPlain m.registers.call m.registers.reply × HasStored m.setting t) (need : Need) (is : IsPosting need) where
   counts_on : Counts m.setting m.seat t m.registers.spare m.registers.walk → Goes s t (to m (Seek need))
   counts_on counts = search rules
 
-  all_found : Goes s t (all_spent m need)
-  all_found = search (rules, no_cause)
-
 module _ (s : NodeRange) (t : List Taken) (m : Machine) (h : IsPlain m.registers.call m.registers.reply × HasStored m.setting t) (need : Need) (is : IsPosting need) where
   pub post_needs : StartsApart m.setting t → (o : Option ℕ) → lowest m.registers.spare ≡ o → Goes s t (needing m need o)
   post_needs apart (Some fresh) is_low = post_fresh s t (sparing m (without_lowest m.registers.spare)) fresh need is h
-  post_needs apart None is_low = counts_on s t (walking m) h need is (record { before = t; since = []; whole = refl; none = none_left m.registers.spare is_low; apart = apart; walks = walk_begins m.setting m.seat })
+  post_needs apart None is_low = counts_on s t (walking m) h need is (record { before = t; since = []; whole = refl; none = grind (arith, nat_tests, is_low); apart = apart; walks = walk_begins m.setting m.seat })
 
   pub seeks_post : (before since : List Taken) → StartsApart m.setting before → t ≡ since ++ before → m.registers.spare.count ≡ 0 → (phase : WalkPhase) → WalkShows m.setting m.seat since m.registers.walk phase → Goes s t (sought_by m need (walk_wants_in m.setting (server_at m.setting m.registers.walk) phase))
-  seeks_post before since h1 h2 h3 phase h4 = search (rules, post_fresh, all_found, counts_on)
+  seeks_post before since h1 h2 h3 phase h4 = search (rules, post_fresh, no_cause, counts_on)
 
 -- a leaf
 module _ (s : NodeRange) (t : List Taken) (m : Machine) (depth : ℕ) (h : AllSpare m.setting t × (m.registers.spare ≡ s) × HasOneKey m.registers.call) where
@@ -141,7 +123,7 @@ module _ (s : NodeRange) (t : List Taken) (m : Machine) (depth : ℕ) (some : 1 
   leaf_needs : (a : Leaf) (o : Option ℕ) → lowest m.registers.spare ≡ o → AimOf s t m Own → accepted m.setting m.registers.reads ≡ Some (LeafImage a) → Gives m.setting m.registers.call Own (LeafImage a) decision.Split → Goes s t (needing m (ToSplit Own depth) o)
   leaf_needs a (Some fresh) is_low h is given = subst (λ (o : Option Image). Goes s t (halved_by (sparing m (without_lowest m.registers.spare)) Own depth fresh o)) (sym is) (refl, h.2)
   leaf_needs a None is_low h is given =
-      let count : s.count ≡ 0 = ap (λ (r : NodeRange). r.count) (sym h.1) ∙ none_left m.registers.spare is_low in
+      let count : s.count ≡ 0 = ap (λ (r : NodeRange). r.count) (sym h.1) ∙ (grind (arith, nat_tests, is_low)) in
       (h, record { node = m.registers.reads.node; depth = depth; words = m.registers.reads.loaded; before = ran.before; since = []; leaf = a; read = has_read m.setting t m.registers.reads ran depth node locked; spells = spelled m.setting t m.registers.reads ran a some is; full = given; image = is; none = count; walks = walk_begins m.setting m.seat })
 
   does : (aim : Aim) (image : Image) (d : Decision) → AimOf s t m aim → accepted m.setting m.registers.reads ≡ Some image → Gives m.setting m.registers.call aim image d → Goes s t (did m aim depth image d)
@@ -153,7 +135,7 @@ module _ (s : NodeRange) (t : List Taken) (m : Machine) (depth : ℕ) (some : 1 
       record { node = m.registers.reads.node; depth = depth; words = m.registers.reads.loaded; before = ran.before; since = []; leaf = a; read = has_read m.setting t m.registers.reads ran depth node locked; spells = spells; worn = given; last = omega (arith, low, high, most); spares = h.0 }
   does Own (LeafImage a) decision.Split h is given = leaf_needs a (lowest m.registers.spare) refl h is given
   does (Posts post) image decision.Split h is given = post_needs s t m h (ToSplit (Posts post) depth) tt (ran_apart m.setting t m.registers.reads ran) (lowest m.registers.spare) refl
-  does aim image d h is given = search (rules, no_cause, answered, plain_key)
+  does aim image d h is given = search (rules, no_cause)
 
 module _ (s : NodeRange) (t : List Taken) (m : Machine) (depth : ℕ) (some : 1 ≤ m.setting.value_words) (node : IsNode m.setting m.registers.reads.node) (locked : holds m.setting (lock_of m.setting m.registers.reads.node) t ≡ Some depth) where
   decides : (aim : Aim) (o : Option Image) → AimOf s t m aim → Ran m.setting t m.registers.reads → accepted m.setting m.registers.reads ≡ o → Goes s t (held_by m aim depth o)
@@ -172,7 +154,7 @@ module _ (s : NodeRange) (t : List Taken) (m : Machine) where
   goes : (aim : Aim) (image : Image) (w : Way) → 1 ≤ m.setting.value_words → Named m.setting m.registers.reads.node → Ran m.setting t m.registers.reads → accepted m.setting m.registers.reads ≡ Some image → WayCovers aim image w → AimOf s t m aim → Goes s t (went m aim image w)
   goes aim image way.Grow some named ran is covers h = grows aim (ran_apart m.setting t m.registers.reads ran) h
   goes aim image way.Rows some named ran is covers h = takes_rows s t m some named ran aim image is covers h
-  goes aim image w some named ran is covers h = search (rules, run_begins, no_cause, answered, plain_key)
+  goes aim image w some named ran is covers h = search (rules, run_begins, no_cause)
 
 module _ (s : NodeRange) (t : List Taken) (m : Machine) (some : 1 ≤ m.setting.value_words) (named : Named m.setting m.registers.reads.node) where
   arrives : (aim : Aim) (top : Bool) (o : Option Image) → Ran m.setting t m.registers.reads → accepted m.setting m.registers.reads ≡ o → AimOf s t m aim → Goes s t (arrived m aim top o)
@@ -188,10 +170,6 @@ counts s t m node carry after write h = search rules
 
 leaves : (s : NodeRange) (t : List Taken) (m : Machine) (carry : Option ℕ) (after : Then) → ThenOf s t m after → Goes s t (queue_left m carry after)
 leaves s t m carry after h = search rules
-
--- behind a right half
-fills_write : (s : NodeRange) (t : List Taken) (m : Machine) (after : Then) (write : Write) → writes_nothing write ≡ false → StoresThen m.registers.call m.registers.reply after → WriteShows m.setting m.registers.call s t m.registers.spare m.registers.rows m.registers.reply after write
-fills_write s t m after write e h = search rules
 
 module _ (s : NodeRange) (turns : List Taken) (m : Machine) (lawful : IsSetting m.setting) where
   abbrev p : ConfigParts
@@ -216,14 +194,8 @@ module _ (s : NodeRange) (turns : List Taken) (m : Machine) (lawful : IsSetting 
   abbrev now : (word : ℕ) → Phase → List Taken
   now word phase = turn_found (want_in m phase) (Word word) ∷ turns
 
-  writes : (word depth : ℕ) (giving : Giving) (carry : Option ℕ) → (write : Write) → giving.write ≡ write → WriteShows p m.registers.call s turns m.registers.spare m.registers.rows m.registers.reply giving.after write → Goes s (now word (Waiting depth giving)) (cond (writes_nothing write) (released m giving.node carry giving.after) (to m (Body carry 0 giving)))
-  writes word depth giving carry write h1 h2 = search (rules, counts, grown_then)
-
   fills : (fresh done : ℕ) (filling : Filling) (word : ℕ) → Shows s turns m (Fill fresh done filling) → Goes s (now word (Fill fresh done filling)) (fill_done m fresh filling) × Goes s (now word (Fill fresh done filling)) (to m (Fill fresh (done + 1) filling))
-  fills fresh done filling word h1 = search (rules, fills_write, stored_more)
-
-  seeks_on : (need : Need) (word : ℕ) → IsPosting need → (IsPlain m.registers.call m.registers.reply × HasStored p turns) × Counts p m.seat turns m.registers.spare m.registers.walk → Goes s (now word (Seek need)) (fed_in m word (Seek need))
-  seeks_on need word h1 h2 = search (rules, seeks_post, stored_more, walk_on)
+  fills fresh done filling word h1 = search (rules, stored_more)
 
   seeks : (need : Need) (word : ℕ) → Shows s turns m (Seek need) → Goes s (now word (Seek need)) (fed_in m word (Seek need))
   seeks (ToSplit Own depth) word h =
@@ -233,8 +205,8 @@ module _ (s : NodeRange) (turns : List Taken) (m : Machine) (lawful : IsSetting 
       let w = walk_fed p m.registers.walk word in
       seeks_leaf s (t ∷ turns) (walked m word) depth ((count_spares p m.registers.walk lawful.ranged.servers.0 m.registers.walk.phase on.runs, h.0.0), h.0.1, h.0.2) w.phase k.node k.depth k.words k.before (t ∷ k.since) k.leaf (read_more p turns t k.node k.depth k.words k.before k.since k.read) k.spells k.full k.image k.none (walk_on p m.seat word k.since m.registers.walk on lawful.ranged.servers.0)
   seeks (ToSplit (Gathers place) depth) word h = absurd h
-  seeks (ToSplit (Posts post) depth) word h = seeks_on (ToSplit (Posts post) depth) word tt h
-  seeks (ToGrow post root) word h = seeks_on (ToGrow post root) word tt h
+  seeks (ToSplit (Posts post) depth) word h = search (rules, seeks_post, stored_more, walk_on)
+  seeks (ToGrow post root) word h = search (rules, seeks_post, stored_more, walk_on)
 
   pub fed_shows : (word : ℕ) (phase : Phase) → m.phase ≡ phase → Names p m.registers.call m.registers.reads phase → MayFind (want_in m phase) (Word word) → Shows s turns m phase → Goes s (now word phase) (fed_in m word phase)
   fed_shows word Idle at named may h = absurd may
@@ -257,7 +229,7 @@ module _ (s : NodeRange) (turns : List Taken) (m : Machine) (lawful : IsSetting 
   fed_shows word (Fill fresh done filling) at named may h =
       let f = fills fresh done filling word h in
       chosen (Goes s (now word (Fill fresh done filling))) (done + 1 == node_size p) (fill_done m fresh filling) (to m (Fill fresh (done + 1) filling)) (λ e. f.0) (λ e. f.1)
-  fed_shows word (Waiting depth giving) at named may h = writes word depth giving (carried depth (release_of word depth p.bound)) giving.write refl h
+  fed_shows word (Waiting depth giving) at named may h = search (rules, counts, grown_then)
   fed_shows word (Body carry done giving) at named may h = chosen (Goes s (now word (Body carry done giving))) (done + 1 == length m.registers.body) (released (counted m giving.write) giving.node carry giving.after) (to m (Body carry (done + 1) giving))
       (λ e. counts s (now word (Body carry done giving)) m giving.node carry giving.after giving.write (stored_then p m.registers.call s (now word (Body carry done giving)) m.registers.spare m.registers.rows m.registers.reply giving.after (stores giving.node _ _ word) h))
       (λ e. h)

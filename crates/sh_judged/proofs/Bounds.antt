@@ -26,10 +26,6 @@ record IsPair (words key : ℕ) (value : List ℕ) : Type 0 where
 put_is : (words k key : ℕ) (v value : List ℕ) → IsKey k × IsWordy words v → change.Put k v ≡ change.Put key value → IsPair words key value
 put_is words k key v value fits same = let keys : k ≡ key = cc in let values : v ≡ value = cc in record { key_is = subst IsKey keys fits.0; value_is = subst (IsWordy words) values fits.1 }
 
--- the put of an entry that a call made
-made_put : (words : ℕ) (log : List Entry) (d : Done) (call : Call) (answer : Reply) (e : Entry) (key : ℕ) (value : List ℕ) → AnswersAt log d call answer → made call answer ≡ 1 → FitsCall words call → slice_get log d.point ≡ Some e → e.change ≡ change.Put key value → IsPair words key value
-made_put words log d call answer e key value a one fits here is = search (rules, put_is, some_is)
-
 -- the version of a worn reply is a word
 abbrev pub HasSmallVersion : Reply → Type 0
 HasSmallVersion (reply.Worn version) = version < 2 ^ 64
@@ -41,7 +37,7 @@ module _ (words : ℕ) (log : List Entry) (dones : List Done) (law : IsLawful lo
       let (k, d, inside, at, own) = closed i within in
       let a : Answers log d = subst (Answers log) at (law.answers k d inside) in
       let fits : FitsCall words d.call = subst (λ (x : Done). FitsCall words x.call) at (all_at (λ x. FitsCall words x.call) dones k d calls inside) in
-      made_put words log d d.call d.reply e key value a.row own.0 fits (ap (slice_get log) own.1 ∙ here) is
+      search (rules, put_is, some_is)
 
   value_fits : (p key : ℕ) (value : List ℕ) → get (map_at log p) key ≡ Some value → IsPair words key value
   value_fits p key value has =
@@ -51,9 +47,6 @@ module _ (words : ℕ) (log : List Entry) (dones : List Done) (law : IsLawful lo
 
   old_fits : (i seat : ℕ) (c : Change) (old : List ℕ) → slice_get log i ≡ Some (made_entry seat c (Some old)) → IsWordy words old
   old_fits i seat c old here = (value_fits i _ old (sym (IsLegal-at log i (made_entry seat c (Some old)) law.legal here).0)).value_is
-
-  answer_fits : (d : Done) (call : Call) (answer : Reply) → AnswersAt log d call answer → HasSmallVersion answer → FitsReply words call answer
-  answer_fits d call answer a v = search (rules, value_fits, old_fits)
 
   -- rising rows that have what some map of the log has
   rows_fit : (rows : List Row) → IsRising rows → ((i : ℕ) (value : List ℕ) → i < length rows → get (from_entries (map row_pair rows)) (row_key rows i) ≡ Some value → (p : ℕ) × (get (map_at log p) (row_key rows i) ≡ Some value)) → AllByRecursion (IsFitRow words) rows
@@ -88,7 +81,7 @@ module _ (words : ℕ) (log : List Entry) (dones : List Done) (law : IsLawful lo
 
   -- a call with what isn't said of it yet
   pub fit : (d : Done) → Answers log d → d.first ≤ d.point → length log < 2 ^ 64 → FitsCall words d.call → d.seat ≤ 63 → HasOwnRows d.call d.rows → HasSmallVersion d.reply → IsFit words d
-  fit d a first few call seat own version = search (rules, answer_fits, own_rows)
+  fit d a first few call seat own version = search (rules, value_fits, old_fits, own_rows)
 
 -- the sum of values of at most 8 words
 sum_within : (ws : List ℕ) → AllByRecursion (λ w. w < 2 ^ 64) ws → sum ws ≤ length ws * 18446744073709551615

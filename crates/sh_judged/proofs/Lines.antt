@@ -46,9 +46,6 @@ value_read words (w ∷ ws) some h =
     let count : (length (parts_at 58 (value_text (w ∷ ws))) == words) ≡ true = same_test _ _ (ap length parts ∙ length-map (w ∷ ws) decimal ∙ h.long) in
     ap (λ t. if t then words_spelled (parts_at 58 (value_text (w ∷ ws))) else None) count ∙ ap words_spelled parts ∙ spelled_words (w ∷ ws) h.each
 
-pub key_read : (key : ℕ) → IsKey key → key_spelled (decimal key) ≡ Some key
-key_read key h = search (rules, word_decimal)
-
 -- ---- calls and replies that can be told
 
 abbrev pub FitsCall : (words : ℕ) → Call → Type 0
@@ -87,13 +84,10 @@ pub record IsFit (words : ℕ) (d : Done) : Type 0 where
 
 module _ (words : ℕ) (some : 1 ≤ words) where
   call_read : (call : Call) → FitsCall words call → call_spelled words (op_text call) (decimal (a_of call)) (b_text call) ≡ Some call
-  call_read call h = search (rules, option_map, key_read, value_read, word_decimal)
-
-  rows_read : (low high upto : ℕ) → upto ≤ high → high < 2 ^ 64 → (t : Bool) → nat_lt upto high ≡ t → reply_spelled words (Range low high) (if t then codes "part" else codes "rows") (decimal upto) ≡ Some (reply.Rows upto)
-  rows_read low high upto h small t e = search (rules, word_decimal)
+  call_read call h = search (rules, option_map, value_read, word_decimal)
 
   answer_read : (call : Call) (answer : Reply) → FitsCall words call → FitsReply words call answer → reply_spelled words call (reply_text call answer) (reply_value answer) ≡ Some answer
-  answer_read call answer c h = search (rules, rows_read, option_map, value_read, word_decimal)
+  answer_read call answer c h = search (rules, option_map, value_read, word_decimal)
 
   ends_read : (answer : Reply) (least first point : ℕ) → first < 2 ^ 64 → point < 2 ^ 64 → ends_of answer least (point_text answer first point) ≡ Some (ends_for answer least first point)
   ends_read answer least first point f p = search (rules, option_map, word_decimal, lacks, decimal_lacks, part_before, part_alone)
@@ -111,10 +105,6 @@ module _ (words : ℕ) (some : 1 ≤ words) where
   pub row_read : (r : Row) → IsFitRow words r → row_spelled words (decimal r.key) (value_text r.value) ≡ Some r
   row_read r h = rw (word_decimal r.key h.key, value_read words r.value some h.value) refl
 
--- all fields of a call's line are plain
-op_plain : (call : Call) → IsPlain (op_text call)
-op_plain call = search rules
-
 a_plain : (words : ℕ) (call : Call) → FitsCall words call → IsPlain (decimal (a_of call))
 a_plain words (Get key) h = decimal_plain key (omega (arith, h.1))
 a_plain words (Put key value) h = decimal_plain key (omega (arith, h.0.1))
@@ -126,9 +116,6 @@ b_plain words (Get key) h = (refl, refl)
 b_plain words (Put key value) h = value_plain value h.1.each
 b_plain words (Del key) h = (refl, refl)
 b_plain words (Range low high) h = decimal_plain high (omega (arith, h.2))
-
-word_plain : (call : Call) (answer : Reply) → IsPlain (reply_text call answer)
-word_plain call answer = search rules
 
 told_plain : (words : ℕ) (call : Call) (answer : Reply) → FitsCall words call → FitsReply words call answer → IsPlain (reply_value answer)
 told_plain words (Range low high) (reply.Rows upto) c h = decimal_plain upto (omega (arith, h, c.2))
@@ -158,13 +145,13 @@ fields_plain words d h small = (
   (
     decimal_plain d.seat (omega (arith, h.seat)),
     (
-      op_plain d.call,
+      search rules,
       (
         a_plain words d.call h.call,
         (
           b_plain words d.call h.call,
           (
-            word_plain d.call d.reply,
+            search rules,
             (told_plain words d.call d.reply h.call h.answer, (point_plain d.reply d.first d.point h.first h.point, tt)),
           ),
         ),

@@ -5,13 +5,13 @@ use Rattle.sh_logic.proofs.Options.{some_is}
 use Rattle.sh_base.specs.{declared.config.{ConfigFault.{ConfigFault}, ConfigParts.{ConfigParts}}, Faults.{fault_of, first_outside}, Setting.{IsRanged}}
 use Rattle.sh_base.proofs.FaultLemmas.{fault_stays, ranged_from_none}
 use Rattle.sh_map.specs.{declared.book.{Done.{Done}, Row.{Row}}, Map.{Map}}
-use Rattle.sh_sheet.specs.{declared.item.{Item.{Item}, Mode.TheVariants.{Replay}}, declared.status.Status.TheVariants.{Ok}}
-use Rattle.sh_text.specs.Text.{calls_text, unfinished_line}
+use Rattle.sh_sheet.specs.{declared.{item.{Item.{Item}, Mode.TheVariants.{Replay}}, status.Status.TheVariants.{Ok}}, Sheet.{done_item, is_call}}
+use Rattle.sh_text.specs.Text.{calls_text, unfinished_line, end_lines}
 use Rattle.sh_text.specs.declared.points.Points.TheVariants as points
 use Rattle.sh_options.specs.{Order.{Asked, asked_if, given_in, is_sound, names_for, order_of}, Uses.{Text, Use, told_by}, declared.order.Given.{Given}}
 use Rattle.sh_world.{specs.{Running.{IsRunning}, States.{State, dones_of, fresh_from}}}
 use Rattle.sh_replay.specs.{Course.{have_ended, SeatEvent}, Headline.{AreItems, Headline}}
-use Rattle.sh_replay.specs.{Output.{calls_lines, count_ended, end_lines, event_lines, last_lines, lines_behind, text_of}, Served.{HasServed, done_item, item_of, row_of}}
+use Rattle.sh_replay.specs.{Output.{calls_lines, count_ended, event_lines, last_lines, lines_behind, text_of}, Served.{HasServed, item_of, row_of}}
 use Rattle.sh_replay.specs.declared.ending.Finish.{Finish, TheVariants.{Done as AllDone}}
 use Rattle.sh_replay.proofs.{ItemLemmas.{given_seats}, OutputLemmas.{done_items, done_lines}, TurnLemmas.{asked_seats}}
 use Rattle.sh_judge.specs.{declared.finding.Finding.TheVariants.{Lawful}, Finding.{IsFinding, log_rows}}
@@ -37,7 +37,11 @@ module _ (o : Asked) (s : State) (turns : ℕ) (items : List Item) (events : Lis
   count = sym (length-map (dones_of s.calls) done_item) ∙ ap length (done_items 1 s.calls ended) ∙ length-map s.calls item_of
 
   found : IsFinding o.parts.value_words (all_lines o.map (dones_of s.calls) (log_rows s.log)) (Lawful (length (dones_of s.calls)) (length s.log))
-  found = search (rules, lines_lawful, rows_are, count, world_tellable, all_asked, numbered, ended)
+  found =
+      let width = run.setting.ranged.value_words in
+      subst (λ (p : ConfigParts). IsFinding p.value_words (all_lines o.map (dones_of s.calls) (log_rows s.log)) (Lawful (length (dones_of s.calls)) (length s.log))) has.setting
+      (lines_lawful s.setting.value_words width.0 width.1 s.log (dones_of s.calls) has.lawful has.rows_are.closed (omega (arith, count, has.few_calls))
+      (world_tellable s run (all_asked s.setting s.calls is_call items run.given has.calls asks)) (numbered 1 s.calls ended) (omega (arith, ap length rows_are, has.few_rows)) o.map)
 
   pub output_lawful : o.make ≡ None → o.events ≡ false → IsFinding o.parts.value_words (text_of o events s.calls rows) (Lawful (length s.calls) (length s.log))
   unfolding lines_behind
@@ -78,11 +82,8 @@ fresh_seats : (p : ConfigParts) (seat count : ℕ) → length (fresh_from p seat
 fresh_seats p seat zero = refl
 fresh_seats p seat (suc count) = ap suc (fresh_seats p (seat + 1) count)
 
-some_product : (a b : ℕ) → 1 ≤ a → 1 ≤ b → 0 < a * b
-some_product a b x y = grind arith
-
 has_seats : (p : ConfigParts) (items : List Item) (s : State) (end : Finish) (events : List SeatEvent) (rows : List Row) → IsRanged p → HasServed p items s end events rows → 0 < length s.seats
-has_seats p items s end events rows r has = search (rules, asked_seats, given_seats, fresh_seats, some_product)
+has_seats p items s end events rows r has = search (rules, asked_seats, given_seats, fresh_seats)
 
 module _ (words : List Text) (old new : State) (left rest : Option (List ℕ)) (before now : ℕ) (held after : Option (List ℕ)) (fell fallen : ℕ) (h : Headline (order_of Replay words) old new left rest before now held after fell fallen Ok) where
   -- its world is laid

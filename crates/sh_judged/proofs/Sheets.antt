@@ -5,9 +5,9 @@ use Rattle.sh_logic.proofs.Lists.{all_join}
 use Rattle.sh_base.specs.{Setting.{all_seats}, declared.config.ConfigParts.{ConfigParts}}
 use Rattle.sh_map.specs.declared.call.Call.{Call, TheVariants.{Put}}
 use Rattle.sh_sheet.specs.Number.{number_of}
-use Rattle.sh_sheet.specs.Row.{by_seat, colon_parts, deed_of, has_bounds, has_key, has_mark, is_heading, is_here, item_in, joined, numbers_of, op_of, or_cause, tested, value_in}
+use Rattle.sh_sheet.specs.Row.{by_seat, colon_parts, deed_of, has_bounds, has_key, has_mark, is_heading, is_here, item_in, not_here, seat_in, joined, numbers_of, op_of, or_cause, tested, value_in}
 use Rattle.sh_sheet.specs.{Sheet.{Reading, Items, Refused, marks_in, row_then, rows_from, rows_in}, declared.{status.RowCause.{RowCause}, item.{Mode.{Mode}, Item.{Item}}}}
-use Rattle.sh_sheet.specs.declared.status.RowCause.TheVariants.{BadOp, TurnNotHere, BadNumber, BadSeat, BadKey, BadBounds, BadMark}
+use Rattle.sh_sheet.specs.declared.status.RowCause.TheVariants.{BadOp, BadNumber, BadSeat, BadKey, BadBounds, BadMark}
 use Rattle.sh_sheet.specs.declared.item.Item.TheVariants as item
 
 -- the words of a put's value
@@ -28,15 +28,12 @@ abbrev IfGiven : Result Item RowCause → Type 0
 IfGiven (Ok x) = AsksWords x
 IfGiven (Err why) = Unit {0}
 
-number_small : (text : List ℕ) → If (number_of text) (λ n. n < 2 ^ 64)
-number_small text = search rules
-
 joined_small : (n : Option ℕ) (ns : Option (List ℕ)) → If n (λ m. m < 2 ^ 64) → If ns (AllByRecursion (λ m. m < 2 ^ 64)) → If (joined n ns) (AllByRecursion (λ m. m < 2 ^ 64))
 joined_small n ns a b = search rules
 
 numbers_small : (parts : List (List ℕ)) → If (numbers_of parts) (AllByRecursion (λ n. n < 2 ^ 64))
 numbers_small [] = tt
-numbers_small (part ∷ parts) = joined_small (number_of part) (numbers_of parts) (number_small part) (numbers_small parts)
+numbers_small (part ∷ parts) = joined_small (number_of part) (numbers_of parts) (search rules) (numbers_small parts)
 
 module _ {X : Type 0} (P : X → Type 0) where
   one_of : (t : Bool) (x : X) (o : Option X) → P x → If o P → If (if t then Some x else o) P
@@ -44,9 +41,6 @@ module _ {X : Type 0} (P : X → Type 0) where
 
   made_of : {A : Type 0} (Q : A → Type 0) (f : A → X) (o : Option A) → If o Q → ((a : A) → Q a → P (f a)) → If (option_map f o) P
   made_of h0 f h2 h more = search rules
-
-  any_of : (o : Option X) → ((x : X) → P x) → If o P
-  any_of o all = search rules
 
 value_small : (t : Bool) (o : Option (List ℕ)) → If o (AllByRecursion (λ n. n < 2 ^ 64)) → If (if t then o else None) (AllByRecursion (λ n. n < 2 ^ 64))
 value_small t o h = search rules
@@ -63,7 +57,7 @@ op_words words text =
     (λ seat a b. made_of (λ d. AsksWords (by_seat seat d)) (AllByRecursion (λ n. n < 2 ^ 64)) _ (value_in words b) (value_small _ (numbers_of (colon_parts b)) (numbers_small (colon_parts b))) (λ value h. h))
     (λ seat a b. one_of (λ d. AsksWords (by_seat seat d)) (length b == 0) _ None tt tt)
     (λ seat a b. one_of (λ d. AsksWords (by_seat seat d)) (length b == 0) _ None tt tt)
-    (λ seat a b. made_of (λ d. AsksWords (by_seat seat d)) (λ n. Unit {0}) _ (number_of b) (any_of (λ n. Unit {0}) (number_of b) (λ n. tt)) (λ high h. tt))
+    (λ seat a b. made_of (λ d. AsksWords (by_seat seat d)) (λ n. Unit {0}) _ (number_of b) (search rules) (λ high h. tt))
     (λ seat a b. one_of (λ d. AsksWords (by_seat seat d)) (length b == 0) _ None tt tt)
     (λ seat a b. one_of (λ d. AsksWords (by_seat seat d)) (length b == 0) _ None tt tt)
     (λ seat a b. one_of (λ d. AsksWords (by_seat seat d)) (length b == 0) _ None tt tt)
@@ -74,11 +68,14 @@ given h0 h1 why next h more = search rules
 passed : (t : Bool) (why : RowCause) (next : Result Item RowCause) → IfGiven next → IfGiven (tested t why next)
 passed t why next h = search rules
 
+any_said : (o : Option ℕ) → If o (λ x. Unit {0})
+any_said o = search rules
+
 row_words : (p : ConfigParts) (mode : Mode) (marks : List ℕ) (row : List (List ℕ)) → IfGiven (item_in p mode marks row)
 row_words p mode marks (first ∷ second ∷ a ∷ b ∷ []) =
-    given (λ o. (seat a : ℕ) (b : List ℕ) → If (deed_of p.value_words o a b) (λ d. AsksWords (by_seat seat d))) (op_of first) BadOp _ (op_words p.value_words first) (λ o asks. passed (is_here mode o) TurnNotHere _
-    (given (λ x. Unit {0}) (number_of second) BadNumber _ (any_of (λ x. Unit {0}) (number_of second) (λ x. tt)) (λ seat h.
-    given (λ x. Unit {0}) (number_of a) BadNumber _ (any_of (λ x. Unit {0}) (number_of a) (λ x. tt)) (λ n h.
+    given (λ o. (seat a : ℕ) (b : List ℕ) → If (deed_of p.value_words o a b) (λ d. AsksWords (by_seat seat d))) (op_of first) BadOp _ (op_words p.value_words first) (λ o asks. passed (is_here mode o) (not_here mode) _
+    (given (λ x. Unit {0}) (seat_in mode second) BadNumber _ (any_said (seat_in mode second)) (λ seat h.
+    given (λ x. Unit {0}) (number_of a) BadNumber _ (search rules) (λ n h.
     given (λ d. AsksWords (by_seat seat d)) (deed_of p.value_words o n b) BadNumber _ (asks seat n b) (λ d h.
     passed (nat_lt seat (all_seats p)) BadSeat _ (passed (has_key d) BadKey _ (passed (has_bounds d) BadBounds _ (passed (has_mark marks d) BadMark _ h))))))))
 row_words p mode marks fields = tt

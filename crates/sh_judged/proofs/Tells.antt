@@ -76,10 +76,6 @@ record Follows (before : List Done) (d : Done) : Type 0 where
   numbers : AllByRecursion (λ x. x.n < d.n) before
   order : AllByRecursion (ReachesTo d.seat d.first) before
 
--- a call is as good as it is told
-told_row : (log : List Entry) (d : Done) (least : ℕ) (call : Call) (answer : Reply) → AnswersAt log d call answer → AnswersAt log (with_ends d (ends_for answer least d.first d.point)) call answer
-told_row log d least call answer a = search rules
-
 -- where it begins and is answered
 record AreEnds (least first point : ℕ) (e : Span) : Type 0 where
   begins : e.first ≤ e.point
@@ -118,7 +114,7 @@ module _ (log : List Entry) (few : length log < 2 ^ 63) where
 
     told_one : AreInOrder log (before ++ tell before d ∷ [])
     told_one = record {
-      answers = All-push (Answers log) before (tell before d) was.answers (record { within = omega (arith, ends.no_later, a.within); row = told_row log d (least_first before d.seat) d.call d.reply a.row });
+      answers = All-push (Answers log) before (tell before d) was.answers (record { within = omega (arith, ends.no_later, a.within); row = (search rules) });
       numbers = all_pairs_push (λ x y. x.n < y.n) before (tell before d) was.numbers (All-from_recursion (λ x. x.n < d.n) before follows.numbers);
       firsts = All-push (λ x. x.first ≤ x.point) before (tell before d) was.firsts ends.begins;
       order = all_pairs_push IsLater before (tell before d) was.order (All-from_recursion (λ x. IsLater x (tell before d)) before (later before follows.order reached));

@@ -59,25 +59,19 @@ asked_dones p n (g ∷ calls) h = asked_head p n g g.reply (dones_from (n + 1) c
 
 -- ---- their rows
 
-own_tail : (log : List Entry) (d : Done) (dones : List Done) (seat : ℕ) (t : Bool) → (d.seat == seat) ≡ t → AreAnswered log seat (dones_by seat (d ∷ dones)) → AreAnswered log seat (dones_by seat dones)
-own_tail log d dones seat t e h = search rules
-
 own_rows : (n : ℕ) (log : List Entry) (dones : List Done) → ((seat : ℕ) → seat < n → AreAnswered log seat (dones_by seat dones)) → AllByRecursion (λ d. d.seat < n) dones → AllByRecursion (λ d. HasOwnRows d.call d.rows) dones
 own_rows n log [] h small = tt
 own_rows n log (d ∷ dones) h small =
     let own = rw (same_test d.seat d.seat refl) at (h d.seat small.0) in
-    (own.0.rows, own_rows n log dones (λ seat within. own_tail log d dones seat (d.seat == seat) refl (h seat within)) small.1)
+    (own.0.rows, own_rows n log dones (λ seat within. search rules) small.1)
 
 -- ---- all of it
-
-small_version : (p : ConfigParts) (counter : ℕ → ℕ) (log : List Entry) (d : Done) (call : Call) (answer : Reply) → last_version p < 2 ^ 64 → HasCause p counter log d.first d.point d.rows call answer → AnswersAt log d call answer → HasSmallVersion answer
-small_version p counter log d call answer small cause a = search rules
 
 tellable : (p : ConfigParts) (counter : ℕ → ℕ) (log : List Entry) (dones : List Done) → last_version p < 2 ^ 64 → all_seats p ≤ 64 → AllByRecursion (IsAskedDone p) dones → AllByRecursion (λ d. HasOwnRows d.call d.rows) dones → HaveCauses p counter log dones → AllByRecursion (Answers log) dones
     → AllByRecursion (IsTellable p.value_words) dones
 tellable p counter log [] small few a b c h = tt
 tellable p counter log (d ∷ dones) small few a b c h = (
-  record { seat = omega (arith, a.0.seat, few); call = a.0.call; rows = b.0; version = small_version p counter log d d.call d.reply small c.0 h.0.row },
+  record { seat = omega (arith, a.0.seat, few); call = a.0.call; rows = b.0; version = (search rules) },
   tellable p counter log dones small few a.1 b.1 c.1 h.1,
 )
 

@@ -1,3 +1,4 @@
+use Rattle.std.proofs.Common.{rules}
 use Rattle.std.proofs.{Common.{sym, subst}, lemmas.Result.{err_from_is_err_and}}
 use Rattle.sh_bulk.{specs.Fault.{IsBulkFault}, proofs.HoldLemmas.{built_holds}}
 use Rattle.sh_bulk.proofs.building.build.Goals as goal

@@ -1,4 +1,4 @@
-use Rattle.std.proofs.Common.{◌≡◌, ◌*◌, ◌-◌, ◌++◌, length, replicate, ap, sym, ◌∙◌, arith}
+use Rattle.std.proofs.Common.{rules, ◌≡◌, ◌*◌, ◌-◌, ◌++◌, length, replicate, ap, sym, ◌∙◌, arith}
 use Rattle.std.proofs.lemmas.List.{length-take-le}
 use Rattle.sh_base.specs.Setting.{node_size, nodes}
 use Rattle.sh_bulk.{specs.{Shape.{need_of}, Words.{words_to}}, proofs.FillLemmas.{begun, filled_end, filled_more, filled_start, level_bounded}}

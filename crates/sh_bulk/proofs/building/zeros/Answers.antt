@@ -1,3 +1,4 @@
+use Rattle.std.proofs.Common.{rules}
 use Rattle.std.{proofs.{Common.{◌*◌, ◌∙◌, take, ap, arith}, lemmas.{List.{take-replicate}}}, specs.Prelude.{◌%◌}}
 use Rattle.sh_bulk.proofs.FillLemmas.{zeros_more}
 use Rattle.sh_bulk.proofs.building.zeros.Goals as goal

@@ -1,4 +1,4 @@
-use Rattle.std.proofs.Common.{◌∙◌, [], refl, inr, arith}
+use Rattle.std.proofs.Common.{rules, ◌∙◌, [], refl, inr, arith}
 use Rattle.csv.specs.Reading.{strip_bom}
 use Rattle.sh_base.specs.Parts.{parts_of}
 use Rattle.sh_sheet.specs.Records.{records_in}

@@ -1,4 +1,4 @@
-use Rattle.std.proofs.Common.{◌≡◌, suc, ◌+◌, ◌∙◌, ap, length, arith}
+use Rattle.std.proofs.Common.{rules, ◌≡◌, suc, ◌+◌, ◌∙◌, ap, length, arith}
 use Rattle.sh_base.specs.Setting.{node_size}
 use Rattle.sh_image.specs.Inner.{inner_words}
 use Rattle.sh_bulk.{specs.Nodes.{words_at}, proofs.{LevelLemmas.{pairs_many}, PieceLemmas.{piece_on}, ShapeLemmas.{inner_fill_small}}}

@@ -1,4 +1,4 @@
-use Rattle.std.proofs.Common.{◌≡◌, suc, ◌+◌, ◌∙◌, [], ap, sym, refl, arith}
+use Rattle.std.proofs.Common.{rules, ◌≡◌, suc, ◌+◌, ◌∙◌, [], ap, sym, refl, arith}
 use Rattle.sh_bulk.{specs.Nodes.{low_in, next_in, taken_by}, proofs.{LevelLemmas.{inner_next, inner_last, over}, RowLemmas.{high_last, high_more, next_last, next_more}}}
 use Rattle.sh_bulk.proofs.inner.head_of.Goals as goal
 

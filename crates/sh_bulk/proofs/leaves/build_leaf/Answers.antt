@@ -1,4 +1,4 @@
-use Rattle.std.proofs.Common.{◌-◌, ◌*◌, ◌∙◌, ap, length, drop, map, arith}
+use Rattle.std.proofs.Common.{rules, ◌-◌, ◌*◌, ◌∙◌, ap, length, drop, map, arith}
 use Rattle.std.proofs.lemmas.List.{length-take}
 use Rattle.sh_map.specs.Map.{row_pair}
 use Rattle.sh_image.specs.Leaf.{empty_entry, leaf_words}
@@ -32,10 +32,4 @@ put_leaf-requires-clause-count c = omega (arith, length-take (c.min-to.result - 
 
 pub returns : goal.returns
 unfolding words_at
-returns c =
-    let p = c.args.cfg.now.parts in
-    let rows = c.args.rows.now in
-    let from = c.args.j * c.leaf_fill-fill.result in
-    let at = ap (λ f. c.args.j * f) c.leaf_fill-fill.ensures.fill in
-    let cut = rows_cut p rows c.args.j from c.min-to.result at (omega (arith, leaf_from p c.args.cfg.now.lawful (length rows) c.args.j c.requires.leaf, at)) (omega (arith, c.leaf_fill-fill.ensures.fill)) in
-    c.put_leaf.ensures ∙ (λ t. let f = c.fences_of-fences.ensures t in leaf_words (record { version = 0; low = f.low; high = f.high; next = f.next; entries = entries_from p.leaf (empty_entry p) (map row_pair (cut t)) }))
+returns c = search (rules, c.args.cfg.now.parts, c.args.rows.now, c.args.j, c.leaf_fill-fill.result, c.leaf_fill-fill.ensures.fill, rows_cut, c.min-to.result, leaf_from, c.args.cfg.now.lawful, c.requires.leaf, c.put_leaf.ensures, c.fences_of-fences.ensures)

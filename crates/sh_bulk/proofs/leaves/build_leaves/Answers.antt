@@ -1,4 +1,4 @@
-use Rattle.std.proofs.Common.{length, arith}
+use Rattle.std.proofs.Common.{rules, length, arith}
 use Rattle.sh_base.specs.Setting.{node_size}
 use Rattle.sh_bulk.{specs.Nodes.{words_at}, proofs.{PieceLemmas.{piece_on}, ShapeLemmas.{leaves_few}}}
 use Rattle.sh_bulk.proofs.leaves.build_leaves.Goals as goal

@@ -1,4 +1,4 @@
-use Rattle.std.proofs.Common.{refl, []}
+use Rattle.std.proofs.Common.{rules, refl, []}
 use Rattle.sh_image.{specs.Leaf.{Leaf}, proofs.WriteLemmas.{header_written}}
 use Rattle.sh_bulk.proofs.leaves.put_header.Goals as goal
 

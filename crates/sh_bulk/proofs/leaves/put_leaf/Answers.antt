@@ -1,3 +1,4 @@
+use Rattle.std.proofs.Common.{rules}
 use Rattle.std.{proofs.{Common.{◌-◌, ◌++◌, ◌∷◌, [], length, map, drop, replicate, take, ap, sym, ◌∙◌, arith}, lemmas.List.{append-nil, length-drop, length-map, length-take-le}}, specs.List.{flat_map}}
 use Rattle.sh_base.{specs.Layout.{entry_at}, proofs.LayoutLemmas.{node_size_is, rear_at_low, rear_at_small}}
 use Rattle.sh_map.specs.Map.{row_pair}

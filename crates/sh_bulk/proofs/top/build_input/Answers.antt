@@ -1,7 +1,8 @@
+use Rattle.std.proofs.Common.{rules}
 use Rattle.std.{proofs.Common.{List, subst, ap, Err, arith}, specs.Io.KnownBytes.{Appends}}
 use Rattle.sh_map.specs.declared.book.Row.{Row}
 use Rattle.sh_port.specs.Port.{AppendsFront}
-use Rattle.sh_bulk.{specs.{Order.{asked_of}, Top.{built_text}}, proofs.TopLemmas.{ended_badly, has_built}}
+use Rattle.sh_bulk.{specs.{Order.{asked_of}, Top.{built_text}}, proofs.TopLemmas.{has_built}}
 use Rattle.sh_bulk.proofs.top.build_input.Goals as goal
 
 pub returns-in-Ok-write_built : goal.returns-in-Ok-write_built
@@ -12,4 +13,4 @@ returns-in-Ok-write_built g c =
 pub returns : goal.returns
 returns g c =
     let built = has_built c.args.order.now.cfg.parts c.args.order.now.cfg.lawful c.in-Ok.ensures c.deref.ensures.value c.in-Ok-gather_rows.ensures.reads c.in-Ok-gather_rows.ensures.good c.in-Ok-gather_rows.ensures.values (omega (arith, c.if-len-gt-MOST_BULK_ROWS.false, c.len.ensures)) c.deref-2.ensures.value c.in-Ok-build_good.ensures.room in
-    rw c.unwritten.ensures (ended_badly (asked_of c.args.order.now) _ _ _ _ _ _ _ _ c.in-Ok-gather_rows.rows.items c.in-Err-write_built.error built (subst (λ (rs : List Row). AppendsFront (g.K.Sink.held c.args.sink.now) (g.K.Sink.held c.write_built.new.sink) (built_text (asked_of c.args.order.now) rs)) c.deref-3.ensures.value c.in-Err-write_built.ensures.err) (λ e. c.in-Err-write_built.ensures.none (ap Err e)) c.in-Err-write_built.ensures.cause)
+    rw c.unwritten.ensures (search rules)

@@ -1,4 +1,4 @@
-use Rattle.std.proofs.Common.{◌≡◌, ◌+◌, ◌*◌, ◌∙◌, ap, sym, length, take, drop, arith}
+use Rattle.std.proofs.Common.{rules, ◌≡◌, ◌+◌, ◌*◌, ◌∙◌, ap, sym, length, take, drop, arith}
 use Rattle.std.specs.Prelude.{◌/◌}
 use Rattle.sh_base.{specs.Setting.{node_size}, proofs.LayoutLemmas.{node_size_is}}
 use Rattle.sh_bulk.{specs.{Shape.{count_in}, Nodes.{words_at}, Words.{level_words, words_from}}, proofs.{LevelLemmas.{leaf_long, run_of}, PieceLemmas.{pieces_cut}}}
@@ -8,8 +8,7 @@ pub build_leaves-requires-clause-leaves : goal.build_leaves-requires-clause-leav
 build_leaves-requires-clause-leaves g c =
     let p = c.args.cfg.now.parts in
     let run = run_of p _ _ _ _ (omega (arith, node_size_is p)) c.requires.stretch in
-    let size = c.node_size-size.ensures in
-    omega (arith, run.within, ap (λ w. c.args.start / w) size, ap (λ w. length c.args.out.now / w) size)
+    search (rules, c.node_size-size.ensures, run.within, c.args.start, c.args.out.now)
 
 pub build_leaves-requires-clause-size : goal.build_leaves-requires-clause-size
 build_leaves-requires-clause-size g c =

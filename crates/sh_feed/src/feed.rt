@@ -76,9 +76,9 @@ impl Feed {
         Ok((Giver { pass }, seats))
     }
 
-    /// Gives a job. `Err` only where the queue was full at a moment of this call; the job comes back then. Conditions: the
-    /// giver is of this feed; an Ask has the number after the last, is in range, and no End was given before; and fewer
-    /// than 2^62 - 1 jobs were given.
+    /// Gives a job. `Err` where the queue is full: the job comes back, and nothing has changed; that comes only where 1,024
+    /// jobs were given. Conditions: the giver is of this feed; an Ask has the number after the last, is in range, and no
+    /// End was given before; and fewer than 2^62 - 1 jobs were given.
     pub fn give<R: Wait>(&self, rt: &R, giver: &mut Giver, job: Job) -> Result<(), Job>
         requires at { IsOpenAt self.now giver.old.feed }
         requires follows { MayFollow giver.old.setup 1 giver.old.gave job }
@@ -89,8 +89,8 @@ impl Feed {
         self.desk().give(rt, giver, job)
     }
 
-    /// Takes a job, the first in the queue. `None` only where the queue was empty at a moment of this call. An Ask is in
-    /// range, and the taker's numbers rise. Condition: the taker is of this feed.
+    /// Takes a job, the first in the queue. `None` where the queue is empty: nothing has changed. An Ask is in range, and the
+    /// taker's numbers rise. Condition: the taker is of this feed.
     pub fn take<R: Wait>(&self, rt: &R, taker: &mut Taker) -> Option<Job>
         requires at { IsOpenAt self.now taker.old.feed }
         ensures same { (taker.new.feed ≡ taker.old.feed) × (taker.new.number ≡ taker.old.number) × (taker.new.setup ≡ taker.old.setup) }

@@ -4,7 +4,8 @@ ghost use Rattle.sh_map.specs.declared.call.Call.{Call};
 ghost use Rattle.sh_local.specs.Calls.{total};
 ghost use Rattle.sh_feed.specs.{declared.{job.Job.{Job, TheVariants.{Ask}}, view.{Setup.{Setup}, View.{View}}}, Jobs.{all_asks, asks_where, AreNumbered, FeedKept, one, end_one}, Views.{all_taken}, Rule.{Kept, Given}};
 
-/// D24 between any two steps.
+/// What holds between any two steps: the jobs that all takers took and those in the queue are the jobs given, each once; each
+/// taker's numbers rise, and it took its jobs in the order in which they were given; and those in the queue are the last ones.
 pub fn kept_at_each_moment()
     ensures { (items : List Job) (views : List View) → Kept items views → (given : List Job) × FeedKept given (all_taken views) items × Given views given }
 {}
